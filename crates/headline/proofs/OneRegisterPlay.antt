@@ -47,7 +47,7 @@ whole : (device : Device) (width : ℕ) (h : List Bool) (xs : List (SeenGroup ×
 whole device width h [] p = tt
 whole device width h (x ∷ xs) p = (((write_reg h x.0.writes, p.0.tdi), has_mask x.1.tdo x.1.mask p.0.written.together), whole device width (write_reg h x.0.writes) xs p.1)
 
-length-bits_of : (n v : ℕ) → length (bits_of n v) ≡ n
+pub length-bits_of : (n v : ℕ) → length (bits_of n v) ≡ n
 length-bits_of zero v = refl
 length-bits_of (suc n) v = ap suc (length-bits_of n _)
 
