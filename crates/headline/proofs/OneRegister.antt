@@ -1,28 +1,28 @@
 -- The network of one register: each group is one scan, and its play is its direct meaning.
 use Rattle.std.proofs.Common.{◌≡◌, ◌↔◌, ℕ, zero, suc, ◌+◌, ◌<◌, ◌≤◌, Bool, true, false, List, [], ◌∷◌, ◌++◌, length, drop, Option, Some, None, refl, sym, ap, ◌∙◌, subst, arith, ⊎_elim, append_assoc, length-append}
-use Rattle.std.specs.Prelude.{cond, ◌==◌, Contains, slice_set, get_or, map, ◌&&◌}
-use Rattle.std.proofs.lemmas.List.Elements.{All-contains, Contains-append_left, Contains-append_right, Contains-append_cases}
+use Rattle.std.specs.Prelude.{All, cond, ◌==◌, Contains, slice_set, get_or, map, ◌&&◌}
+use Rattle.std.proofs.lemmas.List.Elements.{All-contains, All-head, All-tail, Contains-append_left, Contains-append_right, Contains-append_cases}
 use Rattle.std.proofs.lemmas.List.{append-nil, get_or_at, length-set, take_all}
 use Rattle.ij_bits.specs.BitLists.{bits_of, bits_eq, same_bit, bit}
 use Rattle.net_graph.specs.declared.device.Device.{Device}
 use Rattle.net_graph.specs.declared.step.WriteBit.{WriteBit}
 use Rattle.net_graph.specs.declared.step.ReadBit.{ReadBit}
 use Rattle.net_graph.specs.declared.net.Sig.TheVariants.{Absent, Bit}
-use Rattle.net_graph.specs.Signals.{Outputs, signal}
+use Rattle.net_graph.specs.Signals.{Outputs, signal, capture_signal}
 use Rattle.net_graph.specs.OneRegister.{IsOneRegister, own_bits}
 use Rattle.net_graph.specs.declared.net.Net.{Net}
 use Rattle.net_graph.specs.declared.net.Reg.{Reg}
 use Rattle.net_graph.specs.declared.net.Point.TheVariants.{Entry, Reg as FromReg}
 use Rattle.net_graph.specs.Chain.{position, chain, put_chain, captures}
 use Rattle.instruments.specs.Machine.{Event, whole_log}
-use Rattle.bench_file.specs.Instruments.{outputs, changes, capture_signal}
+use Rattle.bench_file.specs.Instruments.{outputs, changes}
 use Rattle.tap_machine.specs.declared.TapState.TheVariants.{RunTestIdle}
 use Rattle.tap_machine.specs.Play.{sdr_pins}
 use Rattle.net_bench.specs.Bench.{Chip, State, Selected, Network, Identity, Bypass, sound, select_of, selected, selects_identity}
 use Rattle.net_bench.specs.Playing.{Compare, compare_of, after_pins, compares, scan_compares}
 use Rattle.net_bench.proofs.Scans.{Ready, exchanged, captured, scan_exchanges_bits, scan_finds_bits}
 use Rattle.pdl_meaning.specs.Direct.{Direct, write_all, found}
-use Rattle.headline.specs.OneScan.{write_reg, AreHere, Expects}
+use Rattle.headline.specs.OneScan.{write_reg, IsHere, Expects}
 use Rattle.headline.specs.Headline.{read_compare}
 
 abbrev one_reg : Reg → ℕ → Reg
@@ -86,11 +86,11 @@ pub length-write_reg : (h : List Bool) (ws : List WriteBit) → length (write_re
 length-write_reg h [] = refl
 length-write_reg h (w ∷ ws) = length-write_reg (slice_set h w.bit.pos w.value) ws ∙ length-set h w.bit.pos w.value
 
-pub write_all_reg : (h : List Bool) (ws : List WriteBit) → AreHere ws → write_all (h ∷ []) ws ≡ write_reg h ws ∷ []
-write_all_reg h [] a = refl
-write_all_reg h (w ∷ ws) a =
-    ap (λ r. write_all (slice_set (h ∷ []) r (slice_set (get_or (h ∷ []) r []) w.bit.pos w.value)) ws) a.0
-    ∙ write_all_reg (slice_set h w.bit.pos w.value) ws a.1
+pub write_all_reg : (width : ℕ) (h : List Bool) (ws : List WriteBit) → All (λ w. IsHere width w.bit) ws → write_all (h ∷ []) ws ≡ write_reg h ws ∷ []
+write_all_reg width h [] a = refl
+write_all_reg width h (w ∷ ws) a =
+    ap (λ r. write_all (slice_set (h ∷ []) r (slice_set (get_or (h ∷ []) r []) w.bit.pos w.value)) ws) (All-head (λ w. IsHere width w.bit) w ws a).0
+    ∙ write_all_reg width (slice_set h w.bit.pos w.value) ws (All-tail (λ w. IsHere width w.bit) w ws a)
 
 module _ (base : Net) (reg : Reg) (width : ℕ) (device : Device) where
   abbrev pub chip : Chip (List Event)
@@ -195,20 +195,20 @@ stands (f ∷ fs) scan k (suc i) es b c l g e =
     Contains-append_right (compare_of (get_or es 0 None) scan k f) (scan_compares scan (suc k) (drop 1 es) fs) c rest
 
 -- what a mapped list contains
-mapped : {X Y : Type 0} (f : X → Y) (xs : List X) (c : Y) → Contains (map f xs) c → (x : X) × Contains xs x × (c ≡ f x)
+pub mapped : {X Y : Type 0} (f : X → Y) (xs : List X) (c : Y) → Contains (map f xs) c → (x : X) × Contains xs x × (c ≡ f x)
 mapped f [] c h = absurd (none_here c h)
 mapped f (x ∷ xs) c (zero, l, e) = (x, here_is x x xs refl, sym e)
 mapped f (x ∷ xs) c (suc i, l, e) =
     let (y, h, g) = mapped f xs c (i, omega (arith, l), e) in
     (y, Contains-append_right (x ∷ []) xs y h, g)
 
-is_mapped : {X Y : Type 0} (f : X → Y) (xs : List X) (x : X) (c : Y) → Contains xs x → c ≡ f x → Contains (map f xs) c
+pub is_mapped : {X Y : Type 0} (f : X → Y) (xs : List X) (x : X) (c : Y) → Contains xs x → c ≡ f x → Contains (map f xs) c
 is_mapped f [] x c h e = absurd (none_here x h)
 is_mapped f (y ∷ ys) x c (zero, l, g) e = here_is (f y) c (map f ys) (e ∙ ap f (sym g))
 is_mapped f (y ∷ ys) x c (suc i, l, g) e =
     Contains-append_right (f y ∷ []) (map f ys) c (is_mapped f ys x c (i, omega (arith, l), g) e)
 
-own_at : (n k p : ℕ) → p < n → get_or (own_bits 0 k n) p Absent ≡ Bit (record { reg = 0; pos = k + p }) false
+pub own_at : (n k p : ℕ) → p < n → get_or (own_bits 0 k n) p Absent ≡ Bit (record { reg = 0; pos = k + p }) false
 own_at zero k p l = absurd (omega (arith, l))
 own_at (suc n) k zero l = let z : k ≡ k + 0 = omega arith in ap (λ q. Bit (record { reg = 0; pos = q }) false) z
 own_at (suc n) k (suc p) l =

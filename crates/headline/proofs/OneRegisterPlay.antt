@@ -1,6 +1,6 @@
 -- The headline for the network of one register: one scan for each group.
 use Rattle.std.proofs.Common.{◌≡◌, ◌↔◌, ℕ, zero, suc, ◌+◌, ◌<◌, Bool, true, false, List, [], ◌∷◌, ◌++◌, length, Option, Some, None, refl, sym, ap, ◌∙◌, subst, arith, ⊎_elim}
-use Rattle.std.specs.Prelude.{map, take, replicate, unwrap_or, All, Contains}
+use Rattle.std.specs.Prelude.{get_or, map, take, replicate, unwrap_or, All, Contains}
 use Rattle.std.specs.Option.{is_some}
 use Rattle.std.proofs.lemmas.Bool.{true≢false}
 use Rattle.std.proofs.lemmas.List.Elements.{All-nil, All-cons, All-head, All-tail, Contains-append_left, Contains-append_right, Contains-append_cases}
@@ -13,6 +13,9 @@ use Rattle.net_graph.specs.OneRegister.{IsOneRegister}
 use Rattle.net_graph.specs.declared.net.Net.{Net}
 use Rattle.net_graph.specs.declared.net.Reg.{Reg}
 use Rattle.net_graph.specs.Resets.{reset_bits}
+use Rattle.net_graph.specs.Chain.{chain}
+use Rattle.net_graph.specs.Devices.{IsDevice}
+use Rattle.net_graph.specs.Nets.{IsNet, IsReg}
 use Rattle.instruments.specs.Machine.{Event, whole_log}
 use Rattle.bench_file.specs.Instruments.{changes}
 use Rattle.svf_writer.specs.SeenCommands.{SDR, SeenScan}
@@ -29,9 +32,10 @@ use Rattle.net_bench.proofs.Scans.{after_pins-append, compares-append}
 use Rattle.net_bench.proofs.Commands.{reset_at_power_up, leaves_reset, scan_loads, loaded}
 use Rattle.net_bench.proofs.Splitting.{play-append, compares_from-append, shifts_silent}
 use Rattle.pdl_meaning.specs.Direct.{Direct, do_group, do_all, direct, power_up as direct_power_up}
-use Rattle.headline.specs.Script.{AreWritten, all_commands, script_text, steps_of}
-use Rattle.headline.specs.OneScan.{write_reg, AreHere, DoesGroup, ArePlanned, done_of, start_bits, OneRegisterPlays}
-use Rattle.headline.specs.Headline.{Agrees, GroupAgrees, AgreesThroughout, step_compares, script_compares, PlaysAs, IsRight}
+use Rattle.headline.specs.Script.{AreWritten, IsZeroUnmasked, all_commands, script_text, steps_of}
+use Rattle.headline.specs.OneScan.{write_reg, IsHere, DoesGroup, ArePlanned, done_of, start_bits, OneRegisterPlays, OneRegisterIsRight}
+use Rattle.headline.specs.Headline.{Agrees, GroupAgrees, AgreesThroughout, after_first, path_length, group_compares, script_compares, PlaysAs}
+use Rattle.headline.proofs.OneRegisterSteps.{steps_valid}
 use Rattle.headline.proofs.OneRegister.{one_net, is_one_net, length-write_reg, write_all_reg, chip, Rests, scan_rests, scan_finds_held, same_compares}
 
 has_mask : (tdo mask : Option (List Bool)) → is_some tdo ≡ is_some mask → HasMask tdo mask
@@ -43,7 +47,7 @@ whole : (device : Device) (width : ℕ) (h : List Bool) (xs : List (SeenGroup ×
 whole device width h [] p = tt
 whole device width h (x ∷ xs) p = (((write_reg h x.0.writes, p.0.tdi), has_mask x.1.tdo x.1.mask p.0.written.together), whole device width (write_reg h x.0.writes) xs p.1)
 
-length-bits_of : (n v : ℕ) → length (bits_of n v) ≡ n
+pub length-bits_of : (n v : ℕ) → length (bits_of n v) ≡ n
 length-bits_of zero v = refl
 length-bits_of (suc n) v = ap suc (length-bits_of n _)
 
@@ -77,15 +81,16 @@ reads_within width h holds (r ∷ rs) e w a =
     let first = All-head At r rs a in
     All-cons (λ r. r.bit.pos < length (bits_at holds r.bit.reg)) r rs (read_within width h holds r e w first.0 first.1) (reads_within width h holds rs e w (All-tail At r rs a))
 
-writes_here : (ws : List WriteBit) (ns : List ℕ) → AreHere ws → All (Contains (0 ∷ [])) ns → All (Contains (0 ∷ [])) (map (λ w. w.bit.reg) ws ++ ns)
-writes_here [] ns a h = h
-writes_here (w ∷ ws) ns a h =
-    All-cons (Contains (0 ∷ [])) w.bit.reg (map (λ w. w.bit.reg) ws ++ ns) (here_is 0 w.bit.reg a.0) (writes_here ws ns a.1 h)
+writes_here : (width : ℕ) (ws : List WriteBit) (ns : List ℕ) → All (λ w. IsHere width w.bit) ws → All (Contains (0 ∷ [])) ns → All (Contains (0 ∷ [])) (map (λ w. w.bit.reg) ws ++ ns)
+writes_here width [] ns a h = h
+writes_here width (w ∷ ws) ns a h =
+    let At : WriteBit → Type 0 = λ w. IsHere width w.bit in
+    All-cons (Contains (0 ∷ [])) w.bit.reg (map (λ w. w.bit.reg) ws ++ ns) (here_is 0 w.bit.reg (All-head At w ws a).0) (writes_here width ws ns (All-tail At w ws a) h)
 
 written : (width : ℕ) (h : List Bool) (xs : List (SeenGroup × SeenScan)) → ArePlanned width h xs → AreWritten (map done_of xs)
 written width h [] p = tt
 written width h (x ∷ xs) p =
-    ((p.0.named, All-cons IsWrittenScan x.1 [] p.0.written (All-nil IsWrittenScan), p.0.compared), written width (write_reg h x.0.writes) xs p.1)
+    (record { named = p.0.named; scans = All-cons IsWrittenScan x.1 [] p.0.written (All-nil IsWrittenScan); compared = p.0.compared; unmasked = All-cons IsZeroUnmasked x.1 [] p.0.unmasked (All-nil IsZeroUnmasked) }, written width (write_reg h x.0.writes) xs p.1)
 
 no_bits : 0 < length {A = Bool} [] → ⊥
 no_bits h = omega arith
@@ -145,7 +150,7 @@ module _ (base : Net) (reg : Reg) (width : ℕ) (device : Device) (some : 0 < wi
 
   means_one : (h : List Bool) (g : SeenGroup) (scan : SeenScan) (d : Meaning) → DoesGroup width h g scan → Means h d → Means (write_reg h g.writes) (after d g)
   means_one h g scan d p m =
-      record { holds = ap (λ x. (after (record d { holds = x }) g).holds) m.holds ∙ write_all_reg h g.writes p.writes; insts = ap (λ x. changes whole_log (one_net base reg width) [] d.holds (after d g).holds x) m.insts }
+      record { holds = ap (λ x. (after (record d { holds = x }) g).holds) m.holds ∙ write_all_reg width h g.writes p.writes; insts = ap (λ x. changes whole_log (one_net base reg width) [] d.holds (after d g).holds x) m.insts }
 
   agrees : (h : List Bool) (s : Bench) (d : Meaning) → Holding h s → Means h d → Agrees (one_net base reg width) s d
   agrees h s d r m =
@@ -156,15 +161,20 @@ module _ (base : Net) (reg : Reg) (width : ℕ) (device : Device) (some : 0 < wi
       subst (λ f. Agrees (one_net base reg width) (after_pins bench (pins f scans []) s) d) (sym (rests_idle h s r)) (agrees h s d r m)
   seen_before h scan scans s d r m (suc k) l = absurd (past_one k l)
 
+  as_long_as : (h : List Bool) (g : SeenGroup) (scan : SeenScan) (scans : ℕ) (s : Bench) → Holding h s → DoesGroup width h g scan → (k : ℕ) → k < 1 → get_or (scan.len ∷ []) k 0 ≡ path_length bench (after_first bench scans s (scan ∷ []) k)
+  as_long_as h g scan scans s r p zero l =
+      p.long ∙ sym (ap (λ x. length (chain (0 ∷ []) x)) r.holds ∙ ap length (append-nil h) ∙ r.hold_fits)
+  as_long_as h g scan scans s r p (suc k) l = absurd (past_one k l)
+
   group_agrees : (h : List Bool) (g : SeenGroup) (scan : SeenScan) (scans : ℕ) (s : Bench) (d : Meaning) → Holding h s → Means h d → DoesGroup width h g scan → GroupAgrees bench scans s d g (scan ∷ [])
   group_agrees h g scan scans s d r m p =
-      record { unseen = seen_before h scan scans s d r m; on_path = writes_here g.writes (map (λ r. r.bit.reg) g.reads) p.writes (reads_here width g.reads p.expects.here); within = reads_within width h d.holds g.reads m.holds r.hold_fits p.expects.here }
+      record { unseen = seen_before h scan scans s d r m; long = as_long_as h g scan scans s r p; on_path = writes_here width g.writes (map (λ r. r.bit.reg) g.reads) p.writes (reads_here width g.reads p.expects.here); within = reads_within width h d.holds g.reads m.holds r.hold_fits p.expects.here }
 
-  compare_one : (h : List Bool) (g : SeenGroup) (scan : SeenScan) (scans : ℕ) (s : Bench) (d : Meaning) → Holding h s → Means h d → DoesGroup width h g scan → (c : Compare) → Contains (compares_from bench scans (SDR scan ∷ []) s) c ↔ Contains (step_compares bench scans s d (done_of (g, scan))) c
+  compare_one : (h : List Bool) (g : SeenGroup) (scan : SeenScan) (scans : ℕ) (s : Bench) (d : Meaning) → Holding h s → Means h d → DoesGroup width h g scan → (c : Compare) → Contains (compares_from bench scans (SDR scan ∷ []) s) c ↔ Contains (group_compares bench scans s d g (scan ∷ [])) c
   compare_one h g scan scans s d r m p c =
       let n : suc scans ≡ scans + 1 = omega arith in
       let e = find_one h g scan scans s r p ∙ scan_finds_held base reg width device (suc scans) h (write_reg h g.writes) (played nothing_kept scan).expects s some (fits h g s r) r ∙ ap (λ k. scan_compares k 0 (played nothing_kept scan).expects h) n in
-      subst (λ xs. Contains xs c ↔ Contains (step_compares bench scans s d (done_of (g, scan))) c) (sym e) (same_compares base reg width (scans + 1) s h d g.reads (played nothing_kept scan).expects m.holds r.hold_fits p.expects c)
+      subst (λ xs. Contains xs c ↔ Contains (group_compares bench scans s d g (scan ∷ [])) c) (sym e) (same_compares base reg width (scans + 1) s h d g.reads (played nothing_kept scan).expects m.holds r.hold_fits p.expects c)
 
   throughout : (xs : List (SeenGroup × SeenScan)) (h : List Bool) (scans : ℕ) (s : Bench) (d : Meaning) → Holding h s → Means h d → ArePlanned width h xs → AgreesThroughout bench scans s d (map done_of xs)
   throughout [] h scans s d r m p = agrees h s d r m
@@ -242,12 +252,20 @@ module _ (base : Net) (reg : Reg) (width : ℕ) (device : Device) (some : 0 < wi
       let found = compares_from-append bench pre all 0 (power_up bench) w i ∙ ap (λ x. x ++ compares_from bench 1 all s) preface_silent in
       record { agrees = throughout xs (start_bits (one_net base reg width)) 1 s at_start r m p; last = subst (λ z. Agrees (one_net base reg width) z (direct whole_log (one_net base reg width) [] (steps_of (map done_of xs)))) (sym split) ends; compares = λ c. subst (λ z. Contains z c ↔ Contains (script_compares bench 1 s at_start (map done_of xs)) c) (sym found) (all_compares xs (start_bits (one_net base reg width)) 1 s at_start r m p c) }
 
+some_width : (width : ℕ) (net : Net) → IsNet net → IsOneRegister width net → 0 < width
+some_width width net w one =
+    let r : IsReg net one.reg = All-head (IsReg net) one.reg [] (subst (All (IsReg net)) one.regs w.regs) in
+    omega (arith, r.some_bits, one.wide)
+
+some_ir : (device : Device) → IsDevice device → 0 < device.ir
+some_ir device d = omega (arith, d.two_bits)
+
 pub one_register_law : OneRegisterPlays
-one_register_law width net device xs one some ir p =
+one_register_law width net device xs one some d p =
     let e = is_one_net width net one in
-    subst (λ n. PlaysAs n device [] (map done_of xs)) (sym e) (one_register_plays net one.reg width device some xs ir (subst (λ n. ArePlanned width (start_bits n) xs) e p))
+    subst (λ n. PlaysAs n device [] (map done_of xs)) (sym e) (one_register_plays net one.reg width device some xs (some_ir device d) (subst (λ n. ArePlanned width (start_bits n) xs) e p))
 
 -- so the written text is right
-pub one_register_is_right : (width : ℕ) (net : Net) (device : Device) (xs : List (SeenGroup × SeenScan)) → IsOneRegister width net → 0 < width → 0 < device.ir → ArePlanned width (start_bits net) xs → IsRight (λ machines. machines ≡ []) net device (steps_of (map done_of xs)) (script_text device (map done_of xs))
-one_register_is_right width net device xs one some ir p =
-    (map done_of xs, written width (start_bits net) xs p, refl, refl, λ machines e. subst (λ ms. PlaysAs net device ms (map done_of xs)) (sym e) (one_register_law width net device xs one some ir p))
+pub one_register_is_right : OneRegisterIsRight
+one_register_is_right width net device xs w one d p =
+    record { valid = record { well_formed = w; carried = d; on_data = steps_valid width net one (start_bits net) xs p }; script = map done_of xs; does = refl; written = written width (start_bits net) xs p; text = refl; plays = λ machines e. subst (λ ms. PlaysAs net device ms (map done_of xs)) (sym e) (one_register_law width net device xs one (some_width width net w one) d p) }

@@ -1,13 +1,19 @@
--- The written SVF, played clock by clock, does what the procedure means.
-use Rattle.std.specs.Prelude.{◌≡◌, ◌↔◌, ℕ, ◌+◌, ◌-◌, ◌<◌, Bool, List, [], ◌∷◌, ◌++◌, length, map, take, All, Contains, IsFalse}
+-- The written SVF, played clock by clock from power-up, does what the procedure means: data bits, instruments and
+-- their events as the procedure's direct meaning has them, and compares exactly at the reads
+-- (IEEE 1687-2014, PDL level 0, retargeted to Serial Vector Format, revision E).
+use Rattle.std.specs.Prelude.{◌≡◌, ◌↔◌, ℕ, ◌+◌, ◌-◌, ◌<◌, Bool, List, [], ◌∷◌, ◌++◌, length, get_or, map, take, All, Contains, IsFalse}
 use Rattle.net_graph.specs.declared.device.Device.{Device}
 use Rattle.net_graph.specs.declared.net.Net.{Net}
 use Rattle.net_graph.specs.declared.net.BitId.{BitId}
 use Rattle.net_graph.specs.declared.step.ReadBit.{ReadBit}
 use Rattle.net_graph.specs.SeenSteps.{SeenGroup, SeenStep, Apply, Run, Reset}
 use Rattle.net_graph.specs.Signals.{Holds, hold_at, bits_at}
-use Rattle.net_graph.specs.Chain.{position}
+use Rattle.net_graph.specs.Chain.{chain, position}
 use Rattle.net_graph.specs.Path.{is_select}
+use Rattle.net_graph.specs.Groups.{registers_of}
+use Rattle.net_graph.specs.Nets.{IsNet}
+use Rattle.net_graph.specs.Devices.{IsDevice}
+use Rattle.net_graph.specs.Steps.{IsStep}
 use Rattle.instruments.specs.Machine.{Machine, whole_log}
 use Rattle.net_bench.specs.Bench.{Chip, State, sound, power_up}
 use Rattle.tap_machine.specs.Play.{scans_in}
@@ -16,54 +22,92 @@ use Rattle.pdl_meaning.specs.Direct.{Direct, direct, do_step, power_up as direct
 use Rattle.headline.specs.Script.{Done, AreWritten, commands_of, script_commands, script_text, steps_of}
 use Rattle.svf_writer.specs.SeenCommands.{SeenScan, SDR}
 use Rattle.svf_writer.specs.Written.{preface_commands}
-use Rattle.net_graph.specs.Groups.{registers_of}
 
--- the bench holds the direct values, and each instrument has the same state and the same events
+-- the bench holds the direct value of each bit that selects nothing, and each instrument has the same state and the same events
 pub record Agrees {L : Type 0} (net : Net) (s : State L) (d : Direct L) : Type 0 where
   pub holds : (b : BitId) → IsFalse (is_select net b) → hold_at s.holds b ≡ hold_at d.holds b
   pub insts : s.insts ≡ d.insts
 
+-- the compare that a read with the value found stands for: in this scan, at the bit's place on the path
 abbrev pub read_compare : ℕ → List ℕ → Holds → ReadBit × Bool → Compare
 read_compare scan path holds r =
     record { scan = scan; bit = position path holds r.0.bit; expect = r.0.expect; found = r.1 }
 
 module _ {L : Type 0} (chip : Chip L) where
-  -- the compares that a step's reads stand for: at its last scan, by the path at the beginning of that scan
-  abbrev pub step_compares : ℕ → State L → Direct L → Done → List Compare
-  step_compares scans s d done =
-      elim done.step [ Apply g ↦ let n = length done.scans in let last = play_from chip scans (map SDR (take (n - 1) done.scans)) s in map (λ r. read_compare (scans + n) (chip.route last.holds) last.holds (found chip.log chip.net chip.machines d r)) g.reads | Run n ↦ [] | Reset ↦ [] ]
+  -- the bench after the first k scans of a group, of which the first is scan `scans + 1` of the play
+  abbrev pub after_first : ℕ → State L → List SeenScan → ℕ → State L
+  after_first scans s xs k = play_from chip scans (map SDR (take k xs)) s
 
+  -- the bench at the beginning of a group's last scan
+  abbrev pub before_last : ℕ → State L → List SeenScan → State L
+  before_last scans s xs = after_first scans s xs (length xs - 1)
+
+  -- how many bits the active path has
+  abbrev pub path_length : State L → ℕ
+  path_length s = length (chain (chip.route s.holds) s.holds)
+
+  -- the compares that the reads of a group stand for: in its last scan, by the path at the beginning of that scan
+  abbrev pub group_compares : ℕ → State L → Direct L → SeenGroup → List SeenScan → List Compare
+  group_compares scans s d g xs =
+      let last = before_last scans s xs in
+      map (λ r. read_compare (scans + length xs) (chip.route last.holds) last.holds (found chip.log chip.net chip.machines d r)) g.reads
+
+  abbrev pub step_compares : ℕ → State L → Direct L → SeenStep → List SeenScan → List Compare
+  step_compares scans s d (Apply g) xs = group_compares scans s d g xs
+  step_compares scans s d (Run n) xs = []
+  step_compares scans s d Reset xs = []
+
+  -- the compares of all steps, the scans being counted on
   abbrev pub script_compares : ℕ → State L → Direct L → List Done → List Compare
   script_compares scans s d [] = []
   script_compares scans s d (x ∷ xs) =
       let cs = commands_of chip.device x in
-      step_compares scans s d x ++ script_compares (scans + scans_in cs) (play_from chip scans cs s) (do_step chip.log chip.net chip.machines d x.step) xs
+      step_compares scans s d x.step x.scans ++ script_compares (scans + scans_in cs) (play_from chip scans cs s) (do_step chip.log chip.net chip.machines d x.step) xs
 
-  -- up to the beginning of a group's last scan nothing is seen of its scans, that scan's path has each register that the group names,
-  -- and a read bit is one of its register
+  -- up to the beginning of its last scan nothing is seen of a group's scans, each of which is as long as the path that it
+  -- goes through; the last one's path has each register that the group names, and a read bit is one of its register
   pub record GroupAgrees (scans : ℕ) (s : State L) (d : Direct L) (g : SeenGroup) (xs : List SeenScan) : Type 0 where
-    pub unseen : (k : ℕ) → k < length xs → Agrees chip.net (play_from chip scans (map SDR (take k xs)) s) d
-    pub on_path : All (Contains (chip.route (play_from chip scans (map SDR (take (length xs - 1) xs)) s).holds)) (registers_of g)
+    pub unseen : (k : ℕ) → k < length xs → Agrees chip.net (after_first scans s xs k) d
+    pub long : (k : ℕ) → k < length xs → get_or (map (λ x. x.len) xs) k 0 ≡ path_length (after_first scans s xs k)
+    pub on_path : All (Contains (chip.route (before_last scans s xs).holds)) (registers_of g)
     pub within : All (λ r. r.bit.pos < length (bits_at d.holds r.bit.reg)) g.reads
 
-  abbrev pub StepAgrees : ℕ → State L → Direct L → Done → Type 0
-  StepAgrees scans s d done =
-      elim done.step [ Apply g ↦ GroupAgrees scans s d g done.scans | Run n ↦ Unit {0} | Reset ↦ Unit {0} ]
+  abbrev pub StepAgrees : ℕ → State L → Direct L → SeenStep → List SeenScan → Type 0
+  StepAgrees scans s d (Apply g) xs = GroupAgrees scans s d g xs
+  StepAgrees scans s d (Run n) xs = Unit {0}
+  StepAgrees scans s d Reset xs = Unit {0}
 
   -- at the end of each step's commands the bench agrees with the direct meaning so far
   abbrev pub AgreesThroughout : ℕ → State L → Direct L → List Done → Type 0
   AgreesThroughout scans s d [] = Agrees chip.net s d
   AgreesThroughout scans s d (x ∷ xs) =
       let cs = commands_of chip.device x in
-      Agrees chip.net s d × StepAgrees scans s d x × AgreesThroughout (scans + scans_in cs) (play_from chip scans cs s) (do_step chip.log chip.net chip.machines d x.step) xs
+      Agrees chip.net s d × StepAgrees scans s d x.step x.scans × AgreesThroughout (scans + scans_in cs) (play_from chip scans cs s) (do_step chip.log chip.net chip.machines d x.step) xs
 
--- the play of a script, for one set of instruments
+  -- the bench after the preface
+  abbrev pub after_preface : State L
+  after_preface = play_from chip 0 (preface_commands chip.device) (power_up chip)
+
+-- the play of a script, for one list of machines, one for each instrument
 pub record PlaysAs (net : Net) (device : Device) (machines : List Machine) (ds : List Done) : Type 0 where
-  pub agrees : let chip = sound whole_log net device machines in let pre = preface_commands device in AgreesThroughout chip (scans_in pre) (play_from chip 0 pre (power_up chip)) (direct_power_up whole_log net machines) ds
+  -- after the preface and after each step
+  pub agrees : let chip = sound whole_log net device machines in AgreesThroughout chip (scans_in (preface_commands device)) (after_preface chip) (direct_power_up whole_log net machines) ds
+  -- at the end of the whole play
   pub last : let chip = sound whole_log net device machines in Agrees net (play_from chip 0 (script_commands device ds) (power_up chip)) (direct whole_log net machines (steps_of ds))
-  pub compares : let chip = sound whole_log net device machines in let pre = preface_commands device in (c : Compare) → Contains (compares_from chip 0 (script_commands device ds) (power_up chip)) c ↔ Contains (script_compares chip (scans_in pre) (play_from chip 0 pre (power_up chip)) (direct_power_up whole_log net machines) ds) c
+  -- what is compared is what is read, with the values that the direct meaning finds
+  pub compares : let chip = sound whole_log net device machines in (c : Compare) → Contains (compares_from chip 0 (script_commands device ds) (power_up chip)) c ↔ Contains (script_compares chip (scans_in (preface_commands device)) (after_preface chip) (direct_power_up whole_log net machines) ds) c
 
--- bytes that are the text of such a script, whatever instruments fit
-abbrev pub IsRight : (List Machine → Type 0) → Net → Device → List SeenStep → List ℕ → Type 0
-IsRight Fits net device steps bytes =
-    (ds : List Done) × AreWritten ds × (steps_of ds ≡ steps) × (bytes ≡ script_text device ds) × ((machines : List Machine) → Fits machines → PlaysAs net device machines ds)
+-- what is compiled: a well formed network, a device, and steps on the network's data bits
+pub record AreValid (net : Net) (device : Device) (steps : List SeenStep) : Type 0 where
+  pub well_formed : IsNet net
+  pub carried : IsDevice device
+  pub on_data : All (IsStep net) steps
+
+-- the bytes are the text of one script that does these steps, whatever machines fit the instruments
+pub record IsRight (Fits : List Machine → Type 0) (net : Net) (device : Device) (steps : List SeenStep) (bytes : List ℕ) : Type 0 where
+  pub valid : AreValid net device steps
+  pub script : List Done
+  pub does : steps_of script ≡ steps
+  pub written : AreWritten script
+  pub text : bytes ≡ script_text device script
+  pub plays : (machines : List Machine) → Fits machines → PlaysAs net device machines script

@@ -1,7 +1,12 @@
+pub mod Different
 pub mod Signals
 pub mod Path
 pub mod Chain
 pub mod Resets
+pub mod Named
+pub mod Nets
+pub mod Devices
 pub mod OneRegister
 pub mod SeenSteps
 pub mod Groups
+pub mod Steps

@@ -1,0 +1,58 @@
+-- The network of the register `net.R` is well formed.
+use Rattle.std.proofs.Common.{◌≡◌, ℕ, zero, suc, ◌+◌, ◌<◌, ◌≤◌, false, List, [], ◌∷◌, length, refl, sym, ap, ◌∙◌, arith}
+use Rattle.std.specs.Prelude.{map, replicate, codes, All, Contains}
+use Rattle.std.proofs.lemmas.List.Elements.{All-nil, All-cons}
+use Rattle.std.proofs.lemmas.List.{length-map, length-replicate}
+use Rattle.net_graph.specs.declared.net.BitId.{BitId}
+use Rattle.net_graph.specs.declared.net.Net.{Net}
+use Rattle.net_graph.specs.declared.net.Node.{Node}
+use Rattle.net_graph.specs.declared.net.Point.TheVariants.{Entry}
+use Rattle.net_graph.specs.declared.net.Sig.TheVariants.{Bit}
+use Rattle.net_graph.specs.declared.net.Spot.TheVariants.{Held}
+use Rattle.net_graph.specs.Named.{IsSignalOf, IsSpotOf}
+use Rattle.net_graph.specs.Nets.{IsReg, IsThing, IsMux, IsInst, IsNet, path_of}
+use Rattle.net_graph.specs.OneRegister.{bits_from, plain_register, plain_thing, plain_top, plain_instance, plain_net}
+
+pub length-bits_from : (r k n : ℕ) → length (bits_from r k n) ≡ n
+length-bits_from r k zero = refl
+length-bits_from r k (suc n) = ap suc (length-bits_from r (suc k) n)
+
+-- what holds of each bit below m
+bits_have : {Y : Type 0} (f : BitId → Y) (P : Y → Type 0) (r m : ℕ) → ((p : ℕ) → p < m → P (f (record { reg = r; pos = p }))) → (k n : ℕ) → k + n ≤ m → All P (map f (bits_from r k n))
+bits_have f P r m h k zero l = All-nil P
+bits_have f P r m h k (suc n) l =
+    All-cons P (f (record { reg = r; pos = k })) (map f (bits_from r (suc k) n)) (h k (omega (arith, l))) (bits_have f P r m h (suc k) n (omega (arith, l)))
+
+nothing_in : {X : Type 0} (c : X) → Contains [] c → ⊥
+nothing_in c h = omega (arith, h.1)
+
+first_of : {X : Type 0} (x c : X) → Contains (x ∷ []) c → c ≡ x
+first_of x c (zero, l, e) = sym e
+first_of x c (suc n, l, e) = absurd (omega (arith, l))
+
+some_path : (x : List ℕ) → [] ≡ x ∷ [] → ⊥
+some_path x e =
+    let n : 0 ≡ 1 = ap length e in
+    omega (arith, n)
+
+abbrev IsNear : Node → Type 0
+IsNear node = length node.path.items ≤ 64
+
+module _ (width : ℕ) (some : 1 ≤ width) (few : width ≤ 64) where
+  abbrev net : Net
+  net = plain_net width
+
+  reg_fits : IsReg net (plain_register 0 width Entry)
+  reg_fits =
+      record { some_bits = some; source = tt; captures = length-map (bits_from 0 0 width) (λ b. Bit b false) ∙ length-bits_from 0 0 width; signals = bits_have (λ b. Bit b false) (IsSignalOf net) 0 width (λ p l. l) 0 width (omega arith); resets = length-replicate width false; thing = omega arith }
+
+  thing_long : length (map Held (bits_from 0 0 width)) ≡ width
+  thing_long = length-map (bits_from 0 0 width) Held ∙ length-bits_from 0 0 width
+
+  thing_fits : IsThing net (plain_thing width)
+  thing_fits =
+      record { node = omega arith; wide = omega (arith, thing_long, some); few_bits = omega (arith, thing_long, few); spots = bits_have Held (IsSpotOf net) 0 width (λ p l. l) 0 width (omega arith); words = All-nil _; word_names = tt }
+
+  pub plain_net_is_net : IsNet net
+  plain_net_is_net =
+      record { regs = All-cons (IsReg net) (plain_register 0 width Entry) [] reg_fits (All-nil (IsReg net)); muxes = All-nil (IsMux net); insts = All-nil (IsInst net); output = omega arith; things = All-cons (IsThing net) (plain_thing width) [] thing_fits (All-nil (IsThing net)); top = omega arith; top_path = refl; node_paths = (λ c. some_path _ (first_of _ _ c), (nothing_in _, tt)); inst_nodes = tt; thing_names = (nothing_in _, tt); few_bits = omega (arith, few); few_muxes = omega arith; few_insts = omega arith; few_nodes = omega arith; few_levels = All-cons IsNear plain_top (plain_instance ∷ []) (omega arith) (All-cons IsNear plain_instance [] (omega arith) (All-nil IsNear)) }
