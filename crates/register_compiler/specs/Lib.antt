@@ -1,0 +1,3 @@
+pub mod Procedure
+pub mod Svf
+pub mod Planned

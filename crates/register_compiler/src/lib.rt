@@ -1,0 +1,2 @@
+//! Compiles the procedures of the first form to SVF.
+#![tactic(auto)]
