@@ -40,7 +40,7 @@ read_bits number line k (b ∷ bs) =
 -- the group of bits that an iApply writes and reads
 abbrev pub group_of : Queue → SeenGroup
 group_of queue =
-    record { writes = option_map_or (write_bits 0) [] queue.write; reads = option_map_or (λ r. read_bits r.number r.line 0 r.expect) [] queue.read }
+    record { writes = option_map_or (write_bits 0) queue.write []; reads = option_map_or (λ r. read_bits r.number r.line 0 r.expect) queue.read [] }
 
 -- an iApply with nothing queued has no group
 abbrev pub with_group : Queue → List Queue → List Queue
