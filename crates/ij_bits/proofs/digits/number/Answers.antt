@@ -1,4 +1,4 @@
-use Rattle.std.proofs.Common.{◌≡◌, ◌-◌, ◌+◌, ap, ◌∙◌, arith, take, drop}
+use Rattle.std.proofs.Common.{ap, ◌∙◌, arith}
 use Rattle.ij_bits.specs.BitLists.{number_of}
 use Rattle.ij_bits.proofs.Hex.{number_of_part-lt, bool_byte-le, part_is}
 use Rattle.ij_bits.proofs.digits.number.Goals as goal
