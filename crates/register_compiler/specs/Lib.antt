@@ -1,3 +1,4 @@
 pub mod Procedure
 pub mod Svf
 pub mod Planned
+pub mod Seen

@@ -1,2 +1,6 @@
 //! Compiles the procedures of the first form to SVF.
 #![tactic(auto)]
+
+mod device;
+mod scan;
+mod session;

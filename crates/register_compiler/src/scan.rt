@@ -1,0 +1,44 @@
+// The scan of one iApply.
+ghost use Rattle.std.specs.Prelude.{◌≡◌, IfOk, None, true, length, replicate, option_map};
+ghost use Rattle.svf_writer.specs.SeenCommands.{seen_scan};
+ghost use Rattle.register_compiler.specs.Svf.{scan_of};
+
+use ij_bits::{Bits, OutOfMemory};
+use std::alloc::Global;
+use svf_writer::command::Scan;
+
+/// The scan that shifts these bits in and compares each bit that came out with `expect`.
+pub(crate) fn make_scan(alloc: Global, tdi: &Bits, expect: Option<&Bits>) -> Result<Scan, OutOfMemory>
+    ensures { IfOk result (λ scan. seen_scan scan ≡ scan_of (length tdi.now.items) tdi.now.items None (option_map (λ bits. bits.now.items) expect.entry)) }
+{
+    let len = tdi.len();
+    let (tdo, mask) = match expect {
+        Some(expect) => (Some(copy(alloc, expect)?), Some(ones(alloc, len)?)),
+        None => (None, None),
+    };
+    let tdi = Some(copy(alloc, tdi)?);
+    Ok(Scan {
+        len,
+        tdi,
+        tdo,
+        mask,
+        smask: None,
+    })
+}
+
+fn copy(alloc: Global, bits: &Bits) -> Result<Bits, OutOfMemory>
+    ensures { IfOk result (λ copy. copy.items ≡ bits.now.items) }
+{
+    bits.slice(alloc, 0, bits.len())
+}
+
+fn ones(alloc: Global, count: u32) -> Result<Bits, OutOfMemory>
+    ensures { IfOk result (λ bits. bits.items ≡ replicate count true) }
+{
+    let mut bits = Bits::zeros(alloc, 0)?;
+    bits.reserve(count)?;
+    'ones: for _ in 0..count {
+        bits.push_reserved(true);
+    }
+    Ok(bits)
+}
