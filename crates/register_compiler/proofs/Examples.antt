@@ -1,5 +1,5 @@
 -- Worked examples of whole texts and of their plays, computed.
-use Rattle.std.specs.Prelude.{◌≡◌, ℕ, true, false, [], ◌∷◌, length, map, codes, refl}
+use Rattle.std.specs.Prelude.{◌≡◌, [], ◌∷◌, length, map, Some, None, codes, refl}
 use Rattle.std.specs.Fmt.{digits}
 use Rattle.ij_bits.specs.BitLists.{bits_of}
 use Rattle.svf_writer.specs.Written.{hex_text}
@@ -7,7 +7,7 @@ use Rattle.headline.specs.OneScan.{done_of}
 use Rattle.headline.specs.Script.{script_commands}
 use Rattle.headline.specs.Sizes.{clocks}
 use Rattle.first_form.specs.Texts.{SeenForm, Write, Read, Apply}
-use Rattle.register_compiler.specs.Procedure.{device_of}
+use Rattle.register_compiler.specs.Procedure.{device_of, queues_of, unapplied_line}
 use Rattle.register_compiler.specs.Svf.{svf_text}
 use Rattle.register_compiler.specs.Planned.{plan_of}
 
@@ -33,3 +33,23 @@ write5_clocks = refl
 read5_text : svf_text read5 ≡ codes "ENDIR IDLE;\nENDDR IDLE;\nSTATE RESET;\nSTATE IDLE;\nSIR 8 TDI (A0);\n! apply 1\nSDR 4 TDI (5);\n! apply 2\nSDR 4 TDI (5) TDO (5) MASK (F);\n"
 unfolding svf_text digits hex_text
 read5_text = refl
+
+-- the iRead is the first one, on line 5
+read5_queues : queues_of read5.lines ≡ record { write = Some (bits_of 4 5); read = None } ∷ record { write = None; read = Some (record { expect = bits_of 4 5; number = 1; line = 5 }) } ∷ []
+read5_queues = refl
+
+-- then iRead net.R 0b0101; iWrite net.R 0b1010; iApply
+abbrev both : SeenForm
+both =
+    record { width = 4; opcode = 160; lines = Write (bits_of 4 5) ∷ Apply ∷ Read (bits_of 4 5) ∷ Write (bits_of 4 10) ∷ Apply ∷ [] }
+
+both_text : svf_text both ≡ codes "ENDIR IDLE;\nENDDR IDLE;\nSTATE RESET;\nSTATE IDLE;\nSIR 8 TDI (A0);\n! apply 1\nSDR 4 TDI (5);\n! apply 2\nSDR 4 TDI (A) TDO (5) MASK (F);\n"
+unfolding svf_text digits hex_text
+both_text = refl
+
+-- no iApply follows the commands of lines 5 and 6
+first_unapplied : unapplied_line (Write (bits_of 4 5) ∷ Apply ∷ Read (bits_of 4 5) ∷ Write (bits_of 4 10) ∷ []) ≡ Some 5
+first_unapplied = refl
+
+all_applied : unapplied_line both.lines ≡ None
+all_applied = refl

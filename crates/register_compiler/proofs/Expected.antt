@@ -1,12 +1,12 @@
 -- What a scan with a mask of ones expects: the bits that an iRead reads.
-use Rattle.std.proofs.Common.{◌≡◌, ℕ, zero, suc, ◌+◌, ◌<◌, ◌≤◌, Bool, true, false, List, [], ◌∷◌, ◌++◌, length, Option, Some, None, refl, sym, ap, ◌∙◌, subst, arith}
-use Rattle.std.specs.Prelude.{map, replicate, get_or, All, Contains}
+use Rattle.std.proofs.Common.{◌≡◌, ℕ, zero, suc, ◌+◌, Bool, true, false, List, [], ◌∷◌, length, Option, Some, None, refl, sym, ap, ◌∙◌, subst, arith}
+use Rattle.std.specs.Prelude.{map, replicate, get_or, Contains}
 use Rattle.std.proofs.lemmas.Bool.{true≢false}
 use Rattle.std.proofs.lemmas.List.Elements.{All-nil, Contains-append_right}
 use Rattle.ij_bits.specs.BitLists.{bit}
 use Rattle.net_graph.specs.declared.step.ReadBit.{ReadBit}
 use Rattle.tap_machine.specs.Play.{masked}
-use Rattle.headline.specs.OneScan.{IsHere, Expects}
+use Rattle.headline.specs.OneScan.{Expects}
 use Rattle.register_compiler.specs.Procedure.{read_bits}
 use Rattle.register_compiler.proofs.Positions.{reads_here}
 

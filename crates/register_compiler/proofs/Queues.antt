@@ -16,7 +16,7 @@ pub record IsQueued (width : ℕ) (queue : Queue) : Type 0 where
   pub write : HasLength width queue.write
   pub read : HasLength width (expect_of queue.read)
 
-abbrev queue_with : Option (List Bool) → Option Reading → Queue
+abbrev pub queue_with : Option (List Bool) → Option Reading → Queue
 queue_with write read = record { write = write; read = read }
 
 module _ (width : ℕ) where

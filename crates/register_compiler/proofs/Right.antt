@@ -1,5 +1,5 @@
 -- The compiled text of the first form is right and short.
-use Rattle.std.proofs.Common.{◌≡◌, ℕ, zero, suc, ◌<◌, ◌≤◌, ◌^◌, Bool, true, false, List, [], ◌∷◌, length, refl, sym, ap, ◌∙◌, subst, arith}
+use Rattle.std.proofs.Common.{◌≡◌, ℕ, zero, suc, ◌<◌, ◌≤◌, Bool, false, List, [], ◌∷◌, length, refl, sym, ap, subst, arith}
 use Rattle.std.specs.Prelude.{map, replicate}
 use Rattle.std.proofs.lemmas.List.{length-replicate}
 use Rattle.ij_bits.specs.Terns.{all_count}
@@ -7,7 +7,6 @@ use Rattle.net_graph.specs.Devices.{IsDevice}
 use Rattle.net_graph.specs.Nets.{IsNet}
 use Rattle.net_graph.specs.OneRegister.{plain_net, plain_net_is_one}
 use Rattle.net_graph.specs.Resets.{reset_bits}
-use Rattle.net_graph.specs.SeenSteps.{SeenStep}
 use Rattle.net_graph.proofs.PlainNet.{plain_net_is_net}
 use Rattle.headline.specs.Script.{script_text, steps_of}
 use Rattle.headline.specs.OneScan.{ArePlanned, done_of, start_bits, NoMachines}
