@@ -1,4 +1,6 @@
 pub mod Scans
+pub mod Lines
+pub mod Whole
 pub mod Written
 pub mod Positions
 pub mod Expected

@@ -8,7 +8,11 @@ use std::alloc::Global;
 use svf_writer::command::Scan;
 
 /// The scan that shifts these bits in and compares each bit that came out with `expect`.
-pub(crate) fn make_scan(alloc: Global, tdi: &Bits, expect: Option<&Bits>) -> Result<Scan, OutOfMemory>
+pub(crate) fn make_scan(
+    alloc: Global,
+    tdi: &Bits,
+    expect: Option<&Bits>,
+) -> Result<Scan, OutOfMemory>
     ensures { IfOk result (λ scan. seen_scan scan ≡ scan_of (length tdi.now.items) tdi.now.items None (option_map (λ bits. bits.now.items) expect.entry)) }
 {
     let len = tdi.len();

@@ -1,5 +1,5 @@
 // A compile, line by line.
-ghost use Rattle.std.specs.Prelude.{◌++◌, ◌≡◌, ◌≤◌, ◌<◌, ◌+◌, ◌^◌, length, OnOk, OnErr};
+ghost use Rattle.std.specs.Prelude.{◌++◌, ◌≡◌, ◌≤◌, ◌<◌, ◌+◌, ◌^◌, length, OnOk, OnErr, unwrap_or, None};
 ghost use Rattle.std.specs.Option.{ForSome};
 ghost use Rattle.ij_io.specs.Bytes.{Adds, AddsPart};
 ghost use Rattle.ij_io.specs.Causes.{HasCause};
@@ -48,8 +48,38 @@ pub(crate) struct Session<'a> {
 }
 
 impl<'a> Session<'a> {
-    ghost use Rattle.register_compiler.specs.Svf.{apply_text, after_apply};
+    ghost use Rattle.register_compiler.specs.Svf.{apply_text, after_apply, line_svf, after_line};
+    ghost use Rattle.first_form.specs.Texts.{HasWidth};
+    ghost use Rattle.first_form.specs.SeenForms.{seen_line};
     ghost use Rattle.register_compiler.specs.Seen.{between};
+
+    /// The compile before the first line, with the register's reset value.
+    pub(crate) fn new(width: u32, reset: &'a Bits) -> Self
+        requires some_bits { 1 ≤ width }
+        requires few_bits { width ≤ 64 }
+        requires long { length reset.now.items ≡ width }
+        ensures start { between result ≡ record { applies = 0; held = reset.now.items; write = None; read = None } }
+        ensures width { result.width ≡ width }
+    {
+        Session {
+            width,
+            applies: 0,
+            held: reset,
+            write: None,
+            read: None,
+        }
+    }
+
+    /// What the register holds after the next iApply.
+    fn next_held(&self) -> &'a Bits
+        ensures bits { result.now.items ≡ unwrap_or (between self.now).write (between self.now).held }
+        ensures long { length result.now.items ≡ self.now.width }
+    {
+        match self.write {
+            Some(value) => value,
+            None => self.held,
+        }
+    }
 
     /// Writes the mark and the scan of an iApply.
     fn put_apply<K: Sink>(&mut self, alloc: Global, k: &mut K) -> Result<(), StoreFault>
@@ -60,13 +90,41 @@ impl<'a> Session<'a> {
         ensures next { OnOk result (between self.new ≡ after_apply (between self.old)) }
         ensures width { self.new.width ≡ self.old.width }
     {
-        let tdi = self.write.unwrap_or(self.held);
+        let tdi = self.next_held();
         let command = Command::Sdr(make_scan(alloc, tdi, self.read)?);
         put_marked(self.applies + 1, &command, k)?;
         self.applies += 1;
         self.held = tdi;
         self.write = None;
         self.read = None;
+        Ok(())
+    }
+
+    /// Takes in a line: an iWrite or an iRead stands in for an earlier one, and an iApply is written where something is queued.
+    pub(crate) fn put_line<K: Sink>(
+        &mut self,
+        alloc: Global,
+        line: &'a Line,
+        k: &mut K,
+    ) -> Result<(), StoreFault>
+        requires width { HasWidth self.old.width (seen_line line.now) }
+        requires count { self.old.applies + 1 < 2 ^ 32 }
+        ensures whole { OnOk result (Adds (K.taken k.old) (K.taken k.new) (line_svf self.old.width (between self.old) (seen_line line.now))) }
+        ensures part { OnErr result (AddsPart (K.taken k.old) (K.taken k.new) (line_svf self.old.width (between self.old) (seen_line line.now))) }
+        ensures cause { HasCause (K.faults k.old) (K.faults k.new) result StoreFault.Failed }
+        ensures next { OnOk result (between self.new ≡ after_line (between self.old) (seen_line line.now)) }
+        ensures width { self.new.width ≡ self.old.width }
+        ensures count { OnOk result (self.new.applies ≤ self.old.applies + 1) }
+    {
+        match line {
+            Line::Write(value) => self.write = Some(value),
+            Line::Read(expect) => self.read = Some(expect),
+            Line::Apply => {
+                if self.write.is_some() || self.read.is_some() {
+                    self.put_apply(alloc, k)?;
+                }
+            }
+        }
         Ok(())
     }
 }
