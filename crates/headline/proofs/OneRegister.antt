@@ -24,7 +24,7 @@ use Rattle.net_bench.specs.Playing.{Compare, compare_of, after_pins, compares, s
 use Rattle.net_bench.proofs.Scans.{Ready, exchanged, captured, scan_exchanges_bits, scan_finds_bits}
 use Rattle.pdl_meaning.specs.Direct.{Direct, write_all, found}
 use Rattle.headline.specs.OneScan.{write_reg, IsHere, Expects}
-use Rattle.headline.specs.Headline.{read_compare}
+use Rattle.headline.specs.Agreement.{read_compare}
 
 abbrev one_reg : Reg → ℕ → Reg
 one_reg reg width =

@@ -34,7 +34,8 @@ use Rattle.net_bench.proofs.Splitting.{play-append, compares_from-append, shifts
 use Rattle.pdl_meaning.specs.Direct.{Direct, do_group, do_all, direct, power_up as direct_power_up}
 use Rattle.headline.specs.Script.{AreWritten, IsZeroUnmasked, all_commands, script_text, steps_of}
 use Rattle.headline.specs.OneScan.{write_reg, IsHere, DoesGroup, ArePlanned, done_of, start_bits, OneRegisterPlays, OneRegisterIsRight}
-use Rattle.headline.specs.Headline.{Agrees, GroupAgrees, AgreesThroughout, after_first, path_length, group_compares, script_compares, PlaysAs}
+use Rattle.headline.specs.Agreement.{Agrees, GroupAgrees, AgreesThroughout, after_first, path_length, group_compares, script_compares}
+use Rattle.headline.specs.Headline.{PlaysAs}
 use Rattle.headline.proofs.OneRegisterSteps.{steps_valid}
 use Rattle.headline.proofs.OneRegister.{one_net, is_one_net, length-write_reg, write_all_reg, chip, Rests, scan_rests, scan_finds_held, same_compares}
 
