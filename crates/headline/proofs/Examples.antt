@@ -38,7 +38,7 @@ unfolding digits hex_text
 preface_length = refl
 
 flat_write_text : script_text dev (write5 ∷ []) ≡
-  line (codes "ENDIR IDLE;") ++ line (codes "ENDDR IDLE;") ++ line (codes "STATE RESET;") ++ line (codes "STATE IDLE;") ++ line (codes "SIR 8 TDI (A0);") ++ line (codes "! apply 1") ++ line (codes "SDR 4 TDI (5);")
+    line (codes "ENDIR IDLE;") ++ line (codes "ENDDR IDLE;") ++ line (codes "STATE RESET;") ++ line (codes "STATE IDLE;") ++ line (codes "SIR 8 TDI (A0);") ++ line (codes "! apply 1") ++ line (codes "SDR 4 TDI (5);")
 unfolding digits hex_text
 flat_write_text = refl
 

@@ -32,7 +32,7 @@ use Rattle.net_bench.proofs.Scans.{after_pins-append, compares-append}
 use Rattle.net_bench.proofs.Commands.{reset_at_power_up, leaves_reset, scan_loads, loaded}
 use Rattle.net_bench.proofs.Splitting.{play-append, compares_from-append, shifts_compare_nothing}
 use Rattle.pdl_meaning.specs.Direct.{Direct, do_group, do_all, direct, power_up as direct_power_up}
-use Rattle.headline.specs.Script.{AreWritten, IsZeroUnmasked, all_commands, script_text, steps_of}
+use Rattle.headline.specs.Script.{AreWritten, IsZeroUnmasked, all_commands, steps_of}
 use Rattle.headline.specs.OneScan.{write_reg, IsHere, DoesGroup, ArePlanned, done_of, start_bits, OneRegisterPlays, OneRegisterIsRight}
 use Rattle.headline.specs.Agreement.{Agrees, GroupAgrees, AgreesThroughout, after_first, path_length, group_compares, script_compares}
 use Rattle.headline.specs.Headline.{PlaysAs}
