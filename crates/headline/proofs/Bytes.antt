@@ -1,5 +1,5 @@
 -- The bytes of a script on one register.
-use Rattle.std.proofs.Common.{◌≡◌, ℕ, zero, suc, ◌+◌, ◌*◌, ◌/◌, ◌^◌, ◌<◌, ◌≤◌, Bool, true, false, List, [], ◌∷◌, ◌++◌, length, Option, Some, None, refl, sym, ap, ◌∙◌, subst, arith, length-append}
+use Rattle.std.proofs.Common.{ℕ, zero, suc, ◌+◌, ◌*◌, ◌/◌, ◌<◌, ◌≤◌, Bool, true, false, List, [], ◌∷◌, ◌++◌, length, Option, Some, None, arith, length-append}
 use Rattle.std.specs.Prelude.{map, codes, decimal, ◌==◌}
 use Rattle.std.proofs.lemmas.Fmt.{length-decimal-le}
 use Rattle.ij_bits.specs.BitLists.{bits_of}
@@ -7,7 +7,7 @@ use Rattle.ij_bits.specs.Hex.{hex_digit}
 use Rattle.net_graph.specs.declared.device.Device.{Device}
 use Rattle.net_graph.specs.SeenSteps.{SeenGroup}
 use Rattle.svf_writer.specs.Fits.{HasLength}
-use Rattle.svf_writer.specs.SeenCommands.{SDR, SeenScan}
+use Rattle.svf_writer.specs.SeenCommands.{SeenScan}
 use Rattle.svf_writer.specs.Written.{next_column, digit_piece, hex_lines, hex_text, part, scan_text, mark, preface}
 use Rattle.headline.specs.Script.{script_text, steps_text}
 use Rattle.headline.specs.OneScan.{ArePlanned, done_of, write_reg}

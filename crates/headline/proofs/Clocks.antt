@@ -1,11 +1,11 @@
 -- The clocks of a script on one register.
-use Rattle.std.proofs.Common.{◌≡◌, ℕ, zero, suc, ◌+◌, ◌*◌, ◌≤◌, Bool, true, false, List, [], ◌∷◌, ◌++◌, length, Option, Some, None, refl, sym, ap, ◌∙◌, subst, arith, length-append}
+use Rattle.std.proofs.Common.{◌≡◌, ℕ, suc, ◌+◌, ◌*◌, ◌≤◌, Bool, true, false, List, [], ◌∷◌, length, Option, Some, None, refl, ap, ◌∙◌, subst, arith, length-append}
 use Rattle.std.specs.Prelude.{map, unwrap_or}
 use Rattle.net_graph.specs.declared.device.Device.{Device}
 use Rattle.net_graph.specs.SeenSteps.{SeenGroup}
 use Rattle.svf_writer.specs.Fits.{HasLength}
 use Rattle.ij_bits.specs.BitLists.{bits_of}
-use Rattle.svf_writer.specs.SeenCommands.{SDR, SeenScan}
+use Rattle.svf_writer.specs.SeenCommands.{SeenScan}
 use Rattle.tap_machine.specs.declared.Stable.TheVariants.{Idle as InIdle}
 use Rattle.tap_machine.specs.Play.{Kept, Played, quiet, shifts, sdr_pins, sir_pins, pins_with, played, kept_now, nothing_kept}
 use Rattle.headline.specs.Script.{all_commands, script_commands}

@@ -1,5 +1,5 @@
--- Worked examples of whole texts, computed.
-use Rattle.std.specs.Prelude.{◌≡◌, ℕ, Bool, true, false, [], ◌∷◌, ◌++◌, length, Some, None, codes, refl}
+-- Worked examples of whole texts, computed: a write, and a write that is read back.
+use Rattle.std.specs.Prelude.{◌≡◌, ℕ, Bool, true, false, map, List, [], ◌∷◌, ◌++◌, length, Some, None, codes, refl}
 use Rattle.std.specs.Fmt.{digits}
 use Rattle.ij_bits.specs.BitLists.{bits_of}
 use Rattle.net_graph.specs.declared.device.Device.{Device}
@@ -8,13 +8,13 @@ use Rattle.net_graph.specs.declared.step.ReadBit.{ReadBit}
 use Rattle.net_graph.specs.SeenSteps.{Apply}
 use Rattle.ij_bits.specs.Room.{full}
 use Rattle.net_graph.specs.OneRegister.{plain_net}
-use Rattle.instruments.specs.Machine.{whole_log}
-use Rattle.svf_writer.specs.Written.{hex_text, line, preface, preface_commands}
-use Rattle.net_bench.specs.Bench.{sound, power_up, clock}
-use Rattle.net_bench.specs.Playing.{play_from, compares_from}
-use Rattle.pdl_meaning.specs.Direct.{power_up as direct_power_up}
+use Rattle.instruments.specs.Machine.{Event, whole_log}
+use Rattle.svf_writer.specs.Written.{hex_text, line, preface}
+use Rattle.net_bench.specs.Bench.{Chip, sound, clock}
 use Rattle.headline.specs.Script.{Done, script_text, script_commands}
-use Rattle.headline.specs.Headline.{script_compares}
+use Rattle.headline.specs.Agreement.{script_compares}
+use Rattle.headline.specs.Headline.{after_preface, at_start, compared}
+use Rattle.headline.specs.Sizes.{clocks}
 
 abbrev dev : Device
 dev = record { ir = 8; idcode = None; link = full []; instr = full []; opcode = 0xA0 }
@@ -37,23 +37,35 @@ preface_length : length (preface dev) ≡ 65
 unfolding digits hex_text
 preface_length = refl
 
-row1_text : script_text dev (write5 ∷ []) ≡ line (codes "ENDIR IDLE;") ++ line (codes "ENDDR IDLE;") ++ line (codes "STATE RESET;") ++ line (codes "STATE IDLE;") ++ line (codes "SIR 8 TDI (A0);") ++ line (codes "! apply 1") ++ line (codes "SDR 4 TDI (5);")
+flat_write_text : script_text dev (write5 ∷ []) ≡
+    line (codes "ENDIR IDLE;") ++ line (codes "ENDDR IDLE;") ++ line (codes "STATE RESET;") ++ line (codes "STATE IDLE;") ++ line (codes "SIR 8 TDI (A0);") ++ line (codes "! apply 1") ++ line (codes "SDR 4 TDI (5);")
 unfolding digits hex_text
-row1_text = refl
+flat_write_text = refl
 
-row1_length : length (script_text dev (write5 ∷ [])) ≡ 90
+flat_write_length : length (script_text dev (write5 ∷ [])) ≡ 90
 unfolding digits hex_text
-row1_length = refl
+flat_write_length = refl
 
-row2_length : length (script_text dev (write5 ∷ read5 ∷ [])) ≡ 132
+write_then_read_length : length (script_text dev (write5 ∷ read5 ∷ [])) ≡ 132
 unfolding digits hex_text
-row2_length = refl
+write_then_read_length = refl
 
 wide_hex : hex_text (bits_of 19 0xB3) ≡ codes "000B3"
 unfolding hex_text
 wide_hex = refl
 
+abbrev chip : Chip (List Event)
+chip = sound whole_log (plain_net 4) dev []
+
 -- the compares of the play are those of the direct meaning, here in the same order
-row2_compares : compares_from (sound whole_log (plain_net 4) dev []) 0 (script_commands dev (write5 ∷ read5 ∷ [])) (power_up (sound whole_log (plain_net 4) dev [])) ≡ script_compares (sound whole_log (plain_net 4) dev []) 1 (play_from (sound whole_log (plain_net 4) dev []) 0 (preface_commands dev) (power_up (sound whole_log (plain_net 4) dev []))) (direct_power_up whole_log (plain_net 4) []) (write5 ∷ read5 ∷ [])
+write_then_read_compares : compared chip (write5 ∷ read5 ∷ []) ≡ script_compares chip 1 (after_preface chip) (at_start chip) (write5 ∷ read5 ∷ [])
 unfolding clock
-row2_compares = refl
+write_then_read_compares = refl
+
+-- the register reads back what was written
+write_then_read_found : map (λ c. c.found) (compared chip (write5 ∷ read5 ∷ [])) ≡ bits_of 4 5
+unfolding clock
+write_then_read_found = refl
+
+write_then_read_clocks : clocks (script_commands dev (write5 ∷ read5 ∷ [])) ≡ 38
+write_then_read_clocks = refl

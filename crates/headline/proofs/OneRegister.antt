@@ -18,12 +18,13 @@ use Rattle.instruments.specs.Machine.{Event, whole_log}
 use Rattle.bench_file.specs.Instruments.{outputs, changes}
 use Rattle.tap_machine.specs.declared.TapState.TheVariants.{RunTestIdle}
 use Rattle.tap_machine.specs.Play.{sdr_pins}
-use Rattle.net_bench.specs.Bench.{Chip, State, Selected, Network, Identity, Bypass, sound, select_of, selected, selects_identity}
+use Rattle.net_bench.specs.Bench.{Chip, State, sound, select_of}
+use Rattle.net_bench.specs.Instruction.{Selected, Network, Identity, Bypass, selected, selects_identity}
 use Rattle.net_bench.specs.Playing.{Compare, compare_of, after_pins, compares, scan_compares}
 use Rattle.net_bench.proofs.Scans.{Ready, exchanged, captured, scan_exchanges_bits, scan_finds_bits}
 use Rattle.pdl_meaning.specs.Direct.{Direct, write_all, found}
 use Rattle.headline.specs.OneScan.{write_reg, IsHere, Expects}
-use Rattle.headline.specs.Headline.{read_compare}
+use Rattle.headline.specs.Agreement.{read_compare}
 
 abbrev one_reg : Reg → ℕ → Reg
 one_reg reg width =

@@ -30,11 +30,12 @@ use Rattle.net_bench.specs.Bench.{Chip, State, power_up, is_reset}
 use Rattle.net_bench.specs.Playing.{Compare, after_pins, compares, play_from, compares_from, resting, scan_compares}
 use Rattle.net_bench.proofs.Scans.{after_pins-append, compares-append}
 use Rattle.net_bench.proofs.Commands.{reset_at_power_up, leaves_reset, scan_loads, loaded}
-use Rattle.net_bench.proofs.Splitting.{play-append, compares_from-append, shifts_silent}
+use Rattle.net_bench.proofs.Splitting.{play-append, compares_from-append, shifts_compare_nothing}
 use Rattle.pdl_meaning.specs.Direct.{Direct, do_group, do_all, direct, power_up as direct_power_up}
-use Rattle.headline.specs.Script.{AreWritten, IsZeroUnmasked, all_commands, script_text, steps_of}
+use Rattle.headline.specs.Script.{AreWritten, IsZeroUnmasked, all_commands, steps_of}
 use Rattle.headline.specs.OneScan.{write_reg, IsHere, DoesGroup, ArePlanned, done_of, start_bits, OneRegisterPlays, OneRegisterIsRight}
-use Rattle.headline.specs.Headline.{Agrees, GroupAgrees, AgreesThroughout, after_first, path_length, group_compares, script_compares, PlaysAs}
+use Rattle.headline.specs.Agreement.{Agrees, GroupAgrees, AgreesThroughout, after_first, path_length, group_compares, script_compares}
+use Rattle.headline.specs.Headline.{PlaysAs}
 use Rattle.headline.proofs.OneRegisterSteps.{steps_valid}
 use Rattle.headline.proofs.OneRegister.{one_net, is_one_net, length-write_reg, write_all_reg, chip, Rests, scan_rests, scan_finds_held, same_compares}
 
@@ -111,34 +112,34 @@ module _ (base : Net) (reg : Reg) (width : ℕ) (device : Device) (some : 0 < wi
   abbrev bench : Chip (List Event)
   bench = chip base reg width device
 
-  abbrev Holding : List Bool → Bench → Type 0
-  Holding h s = Rests base reg width device h s
+  abbrev RestsAt : List Bool → Bench → Type 0
+  RestsAt h s = Rests base reg width device h s
 
-  rests_idle : (h : List Bool) (s : Bench) → Holding h s → resting s ≡ InIdle
+  rests_idle : (h : List Bool) (s : Bench) → RestsAt h s → resting s ≡ InIdle
   rests_idle h s r = ap (λ t. elim (is_reset t) [ true ↦ InReset | false ↦ InIdle ]) r.idle
 
   played_is : (h : List Bool) (g : SeenGroup) (scan : SeenScan) → DoesGroup width h g scan → played nothing_kept scan ≡ record { tdi = write_reg h g.writes; expects = (played nothing_kept scan).expects }
   played_is h g scan p = λ i. record { tdi = unwrap_or (p.tdi i) []; expects = (played nothing_kept scan).expects }
 
-  play_one : (h : List Bool) (g : SeenGroup) (scan : SeenScan) (scans : ℕ) (s : Bench) → Holding h s → DoesGroup width h g scan → play_from bench scans (SDR scan ∷ []) s ≡ after_pins bench (sdr_pins (suc scans) (record { tdi = write_reg h g.writes; expects = (played nothing_kept scan).expects })) s
+  play_one : (h : List Bool) (g : SeenGroup) (scan : SeenScan) (scans : ℕ) (s : Bench) → RestsAt h s → DoesGroup width h g scan → play_from bench scans (SDR scan ∷ []) s ≡ after_pins bench (sdr_pins (suc scans) (record { tdi = write_reg h g.writes; expects = (played nothing_kept scan).expects })) s
   play_one h g scan scans s r p =
       ap (λ f. after_pins bench (pins f scans (SDR scan ∷ [])) s) (rests_idle h s r)
       ∙ ap (λ ps. after_pins bench ps s) (append-nil (sdr_pins (suc scans) (played nothing_kept scan)))
       ∙ ap (λ x. after_pins bench (sdr_pins (suc scans) x) s) (played_is h g scan p)
 
-  find_one : (h : List Bool) (g : SeenGroup) (scan : SeenScan) (scans : ℕ) (s : Bench) → Holding h s → DoesGroup width h g scan → compares_from bench scans (SDR scan ∷ []) s ≡ compares bench (sdr_pins (suc scans) (record { tdi = write_reg h g.writes; expects = (played nothing_kept scan).expects })) s
+  find_one : (h : List Bool) (g : SeenGroup) (scan : SeenScan) (scans : ℕ) (s : Bench) → RestsAt h s → DoesGroup width h g scan → compares_from bench scans (SDR scan ∷ []) s ≡ compares bench (sdr_pins (suc scans) (record { tdi = write_reg h g.writes; expects = (played nothing_kept scan).expects })) s
   find_one h g scan scans s r p =
       ap (λ f. compares bench (pins f scans (SDR scan ∷ [])) s) (rests_idle h s r)
       ∙ ap (λ ps. compares bench ps s) (append-nil (sdr_pins (suc scans) (played nothing_kept scan)))
       ∙ ap (λ x. compares bench (sdr_pins (suc scans) x) s) (played_is h g scan p)
 
-  fits : (h : List Bool) (g : SeenGroup) (s : Bench) → Holding h s → length (write_reg h g.writes) ≡ width
+  fits : (h : List Bool) (g : SeenGroup) (s : Bench) → RestsAt h s → length (write_reg h g.writes) ≡ width
   fits h g s r = length-write_reg h g.writes ∙ r.hold_fits
 
   -- after the scan of a group
-  rests_one : (h : List Bool) (g : SeenGroup) (scan : SeenScan) (scans : ℕ) (s : Bench) → Holding h s → DoesGroup width h g scan → Holding (write_reg h g.writes) (play_from bench scans (SDR scan ∷ []) s)
+  rests_one : (h : List Bool) (g : SeenGroup) (scan : SeenScan) (scans : ℕ) (s : Bench) → RestsAt h s → DoesGroup width h g scan → RestsAt (write_reg h g.writes) (play_from bench scans (SDR scan ∷ []) s)
   rests_one h g scan scans s r p =
-      subst (Holding (write_reg h g.writes)) (sym (play_one h g scan scans s r p)) (scan_rests base reg width device (suc scans) h (write_reg h g.writes) (played nothing_kept scan).expects s some (fits h g s r) r)
+      subst (RestsAt (write_reg h g.writes)) (sym (play_one h g scan scans s r p)) (scan_rests base reg width device (suc scans) h (write_reg h g.writes) (played nothing_kept scan).expects s some (fits h g s r) r)
 
   -- the direct meaning so far, in the same words
   pub record Means (h : List Bool) (d : Meaning) : Type 0 where
@@ -152,46 +153,46 @@ module _ (base : Net) (reg : Reg) (width : ℕ) (device : Device) (some : 0 < wi
   means_one h g scan d p m =
       record { holds = ap (λ x. (after (record d { holds = x }) g).holds) m.holds ∙ write_all_reg width h g.writes p.writes; insts = ap (λ x. changes whole_log (one_net base reg width) [] d.holds (after d g).holds x) m.insts }
 
-  agrees : (h : List Bool) (s : Bench) (d : Meaning) → Holding h s → Means h d → Agrees (one_net base reg width) s d
+  agrees : (h : List Bool) (s : Bench) (d : Meaning) → RestsAt h s → Means h d → Agrees (one_net base reg width) s d
   agrees h s d r m =
       record { holds = λ b _. ap (λ x. hold_at x b) (r.holds ∙ sym m.holds); insts = r.insts ∙ sym m.insts }
 
-  seen_before : (h : List Bool) (scan : SeenScan) (scans : ℕ) (s : Bench) (d : Meaning) → Holding h s → Means h d → (k : ℕ) → k < 1 → Agrees (one_net base reg width) (play_from bench scans (map SDR (take k (scan ∷ []))) s) d
+  seen_before : (h : List Bool) (scan : SeenScan) (scans : ℕ) (s : Bench) (d : Meaning) → RestsAt h s → Means h d → (k : ℕ) → k < 1 → Agrees (one_net base reg width) (play_from bench scans (map SDR (take k (scan ∷ []))) s) d
   seen_before h scan scans s d r m zero l =
       subst (λ f. Agrees (one_net base reg width) (after_pins bench (pins f scans []) s) d) (sym (rests_idle h s r)) (agrees h s d r m)
   seen_before h scan scans s d r m (suc k) l = absurd (past_one k l)
 
-  as_long_as : (h : List Bool) (g : SeenGroup) (scan : SeenScan) (scans : ℕ) (s : Bench) → Holding h s → DoesGroup width h g scan → (k : ℕ) → k < 1 → get_or (scan.len ∷ []) k 0 ≡ path_length bench (after_first bench scans s (scan ∷ []) k)
+  as_long_as : (h : List Bool) (g : SeenGroup) (scan : SeenScan) (scans : ℕ) (s : Bench) → RestsAt h s → DoesGroup width h g scan → (k : ℕ) → k < 1 → get_or (scan.len ∷ []) k 0 ≡ path_length bench (after_first bench scans s (scan ∷ []) k)
   as_long_as h g scan scans s r p zero l =
       p.long ∙ sym (ap (λ x. length (chain (0 ∷ []) x)) r.holds ∙ ap length (append-nil h) ∙ r.hold_fits)
   as_long_as h g scan scans s r p (suc k) l = absurd (past_one k l)
 
-  group_agrees : (h : List Bool) (g : SeenGroup) (scan : SeenScan) (scans : ℕ) (s : Bench) (d : Meaning) → Holding h s → Means h d → DoesGroup width h g scan → GroupAgrees bench scans s d g (scan ∷ [])
+  group_agrees : (h : List Bool) (g : SeenGroup) (scan : SeenScan) (scans : ℕ) (s : Bench) (d : Meaning) → RestsAt h s → Means h d → DoesGroup width h g scan → GroupAgrees bench scans s d g (scan ∷ [])
   group_agrees h g scan scans s d r m p =
       record { unseen = seen_before h scan scans s d r m; long = as_long_as h g scan scans s r p; on_path = writes_here width g.writes (map (λ r. r.bit.reg) g.reads) p.writes (reads_here width g.reads p.expects.here); within = reads_within width h d.holds g.reads m.holds r.hold_fits p.expects.here }
 
-  compare_one : (h : List Bool) (g : SeenGroup) (scan : SeenScan) (scans : ℕ) (s : Bench) (d : Meaning) → Holding h s → Means h d → DoesGroup width h g scan → (c : Compare) → Contains (compares_from bench scans (SDR scan ∷ []) s) c ↔ Contains (group_compares bench scans s d g (scan ∷ [])) c
+  compare_one : (h : List Bool) (g : SeenGroup) (scan : SeenScan) (scans : ℕ) (s : Bench) (d : Meaning) → RestsAt h s → Means h d → DoesGroup width h g scan → (c : Compare) → Contains (compares_from bench scans (SDR scan ∷ []) s) c ↔ Contains (group_compares bench scans s d g (scan ∷ [])) c
   compare_one h g scan scans s d r m p c =
       let n : suc scans ≡ scans + 1 = omega arith in
       let e = find_one h g scan scans s r p ∙ scan_finds_held base reg width device (suc scans) h (write_reg h g.writes) (played nothing_kept scan).expects s some (fits h g s r) r ∙ ap (λ k. scan_compares k 0 (played nothing_kept scan).expects h) n in
       subst (λ xs. Contains xs c ↔ Contains (group_compares bench scans s d g (scan ∷ [])) c) (sym e) (same_compares base reg width (scans + 1) s h d g.reads (played nothing_kept scan).expects m.holds r.hold_fits p.expects c)
 
-  throughout : (xs : List (SeenGroup × SeenScan)) (h : List Bool) (scans : ℕ) (s : Bench) (d : Meaning) → Holding h s → Means h d → ArePlanned width h xs → AgreesThroughout bench scans s d (map done_of xs)
+  throughout : (xs : List (SeenGroup × SeenScan)) (h : List Bool) (scans : ℕ) (s : Bench) (d : Meaning) → RestsAt h s → Means h d → ArePlanned width h xs → AgreesThroughout bench scans s d (map done_of xs)
   throughout [] h scans s d r m p = agrees h s d r m
   throughout (x ∷ xs) h scans s d r m p =
       (agrees h s d r m, group_agrees h x.0 x.1 scans s d r m p.0, throughout xs (write_reg h x.0.writes) (scans + 1) (play_from bench scans (SDR x.1 ∷ []) s) (after d x.0) (rests_one h x.0 x.1 scans s r p.0) (means_one h x.0 x.1 d p.0 m) p.1)
 
-  rest_idle : (h : List Bool) (g : SeenGroup) (scan : SeenScan) (scans : ℕ) (s : Bench) → Holding h s → DoesGroup width h g scan → resting (play_from bench scans (SDR scan ∷ []) s) ≡ InIdle
+  rest_idle : (h : List Bool) (g : SeenGroup) (scan : SeenScan) (scans : ℕ) (s : Bench) → RestsAt h s → DoesGroup width h g scan → resting (play_from bench scans (SDR scan ∷ []) s) ≡ InIdle
   rest_idle h g scan scans s r p = rests_idle (write_reg h g.writes) _ (rests_one h g scan scans s r p)
 
-  at_end : (xs : List (SeenGroup × SeenScan)) (h : List Bool) (scans : ℕ) (s : Bench) (d : Meaning) → Holding h s → Means h d → ArePlanned width h xs → Agrees (one_net base reg width) (play_from bench scans (all_commands device (map done_of xs)) s) (do_all whole_log (one_net base reg width) [] d (steps_of (map done_of xs)))
+  at_end : (xs : List (SeenGroup × SeenScan)) (h : List Bool) (scans : ℕ) (s : Bench) (d : Meaning) → RestsAt h s → Means h d → ArePlanned width h xs → Agrees (one_net base reg width) (play_from bench scans (all_commands device (map done_of xs)) s) (do_all whole_log (one_net base reg width) [] d (steps_of (map done_of xs)))
   at_end [] h scans s d r m p = agrees h s d r m
   at_end (x ∷ xs) h scans s d r m p =
       let later = at_end xs (write_reg h x.0.writes) (scans + 1) (play_from bench scans (SDR x.1 ∷ []) s) (after d x.0) (rests_one h x.0 x.1 scans s r p.0) (means_one h x.0 x.1 d p.0 m) p.1 in
       let e = play-append bench (SDR x.1 ∷ []) (all_commands device (map done_of xs)) scans s (whole device width (write_reg h x.0.writes) xs p.1) (rest_idle h x.0 x.1 scans s r p.0) in
       subst (λ z. Agrees (one_net base reg width) z (do_all whole_log (one_net base reg width) [] (after d x.0) (steps_of (map done_of xs)))) (sym e) later
 
-  all_compares : (xs : List (SeenGroup × SeenScan)) (h : List Bool) (scans : ℕ) (s : Bench) (d : Meaning) → Holding h s → Means h d → ArePlanned width h xs → (c : Compare) → Contains (compares_from bench scans (all_commands device (map done_of xs)) s) c ↔ Contains (script_compares bench scans s d (map done_of xs)) c
+  all_compares : (xs : List (SeenGroup × SeenScan)) (h : List Bool) (scans : ℕ) (s : Bench) (d : Meaning) → RestsAt h s → Means h d → ArePlanned width h xs → (c : Compare) → Contains (compares_from bench scans (all_commands device (map done_of xs)) s) c ↔ Contains (script_compares bench scans s d (map done_of xs)) c
   all_compares [] h scans s d r m p c = (λ x. x, λ x. x)
   all_compares (x ∷ xs) h scans s d r m p c =
       let later = all_compares xs (write_reg h x.0.writes) (scans + 1) (play_from bench scans (SDR x.1 ∷ []) s) (after d x.0) (rests_one h x.0 x.1 scans s r p.0) (means_one h x.0 x.1 d p.0 m) p.1 c in
@@ -220,19 +221,19 @@ module _ (base : Net) (reg : Reg) (width : ℕ) (device : Device) (some : 0 < wi
       ∙ ap (λ ps. after_pins bench ps idle) (append-nil (sir_pins 1 load_played))
       ∙ load_bits opcode (replicate device.ir None) idle (subst (λ k. 0 < k) (sym n) h) refl (n ∙ sym (length-replicate device.ir false))
 
-  preface_rests : 0 < device.ir → Holding (start_bits (one_net base reg width)) (play_from bench 0 (preface_commands device) (power_up bench))
+  preface_rests : 0 < device.ir → RestsAt (start_bits (one_net base reg width)) (play_from bench 0 (preface_commands device) (power_up bench))
   preface_rests h =
-      let new : Holding (start_bits (one_net base reg width)) (loaded bench idle opcode) = record { idle = refl; link = refl; holds = refl; stage = replicate width false; stages = refl; stage_fits = length-replicate width false; hold_fits = length-reset_bits reg.reset.value.items reg.reset.care.items (replicate width false) ∙ length-replicate width false; insts = refl } in
-      subst (Holding (start_bits (one_net base reg width))) (sym (preface_state h)) new
+      let new : RestsAt (start_bits (one_net base reg width)) (loaded bench idle opcode) = record { idle = refl; link = refl; holds = refl; stage = replicate width false; stages = refl; stage_fits = length-replicate width false; hold_fits = length-reset_bits reg.reset.value.items reg.reset.care.items (replicate width false) ∙ length-replicate width false; insts = refl } in
+      subst (RestsAt (start_bits (one_net base reg width))) (sym (preface_state h)) new
 
-  silent : (s : Bench) → compares bench ((shifts 1 0 opcode (replicate device.ir None) ++ (quiet true ∷ quiet false ∷ [])) ++ []) s ≡ []
-  silent s =
+  load_compares_nothing : (s : Bench) → compares bench ((shifts 1 0 opcode (replicate device.ir None) ++ (quiet true ∷ quiet false ∷ [])) ++ []) s ≡ []
+  load_compares_nothing s =
       ap (λ ps. compares bench ps s) (append-nil (shifts 1 0 opcode (replicate device.ir None) ++ (quiet true ∷ quiet false ∷ [])))
       ∙ compares-append bench (shifts 1 0 opcode (replicate device.ir None)) (quiet true ∷ quiet false ∷ []) s
-      ∙ ap (λ x. x ++ []) (shifts_silent bench opcode device.ir 1 0 s)
+      ∙ ap (λ x. x ++ []) (shifts_compare_nothing bench opcode device.ir 1 0 s)
 
-  preface_silent : compares_from bench 0 (preface_commands device) (power_up bench) ≡ []
-  preface_silent = silent _
+  preface_compares_nothing : compares_from bench 0 (preface_commands device) (power_up bench) ≡ []
+  preface_compares_nothing = load_compares_nothing _
 
   abbrev at_start : Meaning
   at_start = direct_power_up whole_log (one_net base reg width) []
@@ -243,13 +244,13 @@ module _ (base : Net) (reg : Reg) (width : ℕ) (device : Device) (some : 0 < wi
       let pre = preface_commands device in
       let all = all_commands device (map done_of xs) in
       let s = play_from bench 0 pre (power_up bench) in
-      let r : Holding (start_bits (one_net base reg width)) s = preface_rests h in
+      let r : RestsAt (start_bits (one_net base reg width)) s = preface_rests h in
       let m : Means (start_bits (one_net base reg width)) at_start = record { holds = refl; insts = refl } in
       let w = whole device width (start_bits (one_net base reg width)) xs p in
       let i : resting s ≡ InIdle = rests_idle (start_bits (one_net base reg width)) s r in
       let ends = at_end xs (start_bits (one_net base reg width)) 1 s at_start r m p in
       let split = play-append bench pre all 0 (power_up bench) w i in
-      let found = compares_from-append bench pre all 0 (power_up bench) w i ∙ ap (λ x. x ++ compares_from bench 1 all s) preface_silent in
+      let found = compares_from-append bench pre all 0 (power_up bench) w i ∙ ap (λ x. x ++ compares_from bench 1 all s) preface_compares_nothing in
       record { agrees = throughout xs (start_bits (one_net base reg width)) 1 s at_start r m p; last = subst (λ z. Agrees (one_net base reg width) z (direct whole_log (one_net base reg width) [] (steps_of (map done_of xs)))) (sym split) ends; compares = λ c. subst (λ z. Contains z c ↔ Contains (script_compares bench 1 s at_start (map done_of xs)) c) (sym found) (all_compares xs (start_bits (one_net base reg width)) 1 s at_start r m p c) }
 
 some_width : (width : ℕ) (net : Net) → IsNet net → IsOneRegister width net → 0 < width

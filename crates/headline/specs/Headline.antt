@@ -1,16 +1,10 @@
 -- The written SVF, played clock by clock from power-up, does what the procedure means: data bits, instruments and
--- their events as the procedure's direct meaning has them, and compares exactly at the reads
+-- their events are as the procedure's direct meaning has them, and the play compares exactly what the procedure reads
 -- (IEEE 1687-2014, PDL level 0, retargeted to Serial Vector Format, revision E).
-use Rattle.std.specs.Prelude.{◌≡◌, ◌↔◌, ℕ, ◌+◌, ◌-◌, ◌<◌, Bool, List, [], ◌∷◌, ◌++◌, length, get_or, map, take, All, Contains, IsFalse}
+use Rattle.std.specs.Prelude.{◌≡◌, ◌↔◌, ℕ, List, All, Contains}
 use Rattle.net_graph.specs.declared.device.Device.{Device}
 use Rattle.net_graph.specs.declared.net.Net.{Net}
-use Rattle.net_graph.specs.declared.net.BitId.{BitId}
-use Rattle.net_graph.specs.declared.step.ReadBit.{ReadBit}
-use Rattle.net_graph.specs.SeenSteps.{SeenGroup, SeenStep, Apply, Run, Reset}
-use Rattle.net_graph.specs.Signals.{Holds, hold_at, bits_at}
-use Rattle.net_graph.specs.Chain.{chain, position}
-use Rattle.net_graph.specs.Path.{is_select}
-use Rattle.net_graph.specs.Groups.{registers_of}
+use Rattle.net_graph.specs.SeenSteps.{SeenStep}
 use Rattle.net_graph.specs.Nets.{IsNet}
 use Rattle.net_graph.specs.Devices.{IsDevice}
 use Rattle.net_graph.specs.Steps.{IsStep}
@@ -18,84 +12,43 @@ use Rattle.instruments.specs.Machine.{Machine, whole_log}
 use Rattle.net_bench.specs.Bench.{Chip, State, sound, power_up}
 use Rattle.tap_machine.specs.Play.{scans_in}
 use Rattle.net_bench.specs.Playing.{Compare, play_from, compares_from}
-use Rattle.pdl_meaning.specs.Direct.{Direct, direct, do_step, power_up as direct_power_up, found}
-use Rattle.headline.specs.Script.{Done, AreWritten, commands_of, script_commands, script_text, steps_of}
-use Rattle.svf_writer.specs.SeenCommands.{SeenScan, SDR}
+use Rattle.pdl_meaning.specs.Direct.{Direct, direct, power_up as direct_power_up}
+use Rattle.headline.specs.Agreement.{Agrees, AgreesThroughout, script_compares}
+use Rattle.headline.specs.Script.{Done, AreWritten, script_commands, script_text, steps_of}
 use Rattle.svf_writer.specs.Written.{preface_commands}
 
--- the bench holds the direct value of each bit that selects nothing, and each instrument has the same state and the same events
-pub record Agrees {L : Type 0} (net : Net) (s : State L) (d : Direct L) : Type 0 where
-  pub holds : (b : BitId) → IsFalse (is_select net b) → hold_at s.holds b ≡ hold_at d.holds b
-  pub insts : s.insts ≡ d.insts
-
--- the compare that a read with the value found stands for: in this scan, at the bit's place on the path
-abbrev pub read_compare : ℕ → List ℕ → Holds → ReadBit × Bool → Compare
-read_compare scan path holds r =
-    record { scan = scan; bit = position path holds r.0.bit; expect = r.0.expect; found = r.1 }
-
 module _ {L : Type 0} (chip : Chip L) where
-  -- the bench after the first k scans of a group, of which the first is scan `scans + 1` of the play
-  abbrev pub after_first : ℕ → State L → List SeenScan → ℕ → State L
-  after_first scans s xs k = play_from chip scans (map SDR (take k xs)) s
-
-  -- the bench at the beginning of a group's last scan
-  abbrev pub before_last : ℕ → State L → List SeenScan → State L
-  before_last scans s xs = after_first scans s xs (length xs - 1)
-
-  -- how many bits the active path has
-  abbrev pub path_length : State L → ℕ
-  path_length s = length (chain (chip.route s.holds) s.holds)
-
-  -- the compares that the reads of a group stand for: in its last scan, by the path at the beginning of that scan
-  abbrev pub group_compares : ℕ → State L → Direct L → SeenGroup → List SeenScan → List Compare
-  group_compares scans s d g xs =
-      let last = before_last scans s xs in
-      map (λ r. read_compare (scans + length xs) (chip.route last.holds) last.holds (found chip.log chip.net chip.machines d r)) g.reads
-
-  abbrev pub step_compares : ℕ → State L → Direct L → SeenStep → List SeenScan → List Compare
-  step_compares scans s d (Apply g) xs = group_compares scans s d g xs
-  step_compares scans s d (Run n) xs = []
-  step_compares scans s d Reset xs = []
-
-  -- the compares of all steps, the scans being counted on
-  abbrev pub script_compares : ℕ → State L → Direct L → List Done → List Compare
-  script_compares scans s d [] = []
-  script_compares scans s d (x ∷ xs) =
-      let cs = commands_of chip.device x in
-      step_compares scans s d x.step x.scans ++ script_compares (scans + scans_in cs) (play_from chip scans cs s) (do_step chip.log chip.net chip.machines d x.step) xs
-
-  -- up to the beginning of its last scan nothing is seen of a group's scans, each of which is as long as the path that it
-  -- goes through; the last one's path has each register that the group names, and a read bit is one of its register
-  pub record GroupAgrees (scans : ℕ) (s : State L) (d : Direct L) (g : SeenGroup) (xs : List SeenScan) : Type 0 where
-    pub unseen : (k : ℕ) → k < length xs → Agrees chip.net (after_first scans s xs k) d
-    pub long : (k : ℕ) → k < length xs → get_or (map (λ x. x.len) xs) k 0 ≡ path_length (after_first scans s xs k)
-    pub on_path : All (Contains (chip.route (before_last scans s xs).holds)) (registers_of g)
-    pub within : All (λ r. r.bit.pos < length (bits_at d.holds r.bit.reg)) g.reads
-
-  abbrev pub StepAgrees : ℕ → State L → Direct L → SeenStep → List SeenScan → Type 0
-  StepAgrees scans s d (Apply g) xs = GroupAgrees scans s d g xs
-  StepAgrees scans s d (Run n) xs = Unit {0}
-  StepAgrees scans s d Reset xs = Unit {0}
-
-  -- at the end of each step's commands the bench agrees with the direct meaning so far
-  abbrev pub AgreesThroughout : ℕ → State L → Direct L → List Done → Type 0
-  AgreesThroughout scans s d [] = Agrees chip.net s d
-  AgreesThroughout scans s d (x ∷ xs) =
-      let cs = commands_of chip.device x in
-      Agrees chip.net s d × StepAgrees scans s d x.step x.scans × AgreesThroughout (scans + scans_in cs) (play_from chip scans cs s) (do_step chip.log chip.net chip.machines d x.step) xs
-
-  -- the bench after the preface
+  -- the bench after the preface, and how many scans that has
   abbrev pub after_preface : State L
   after_preface = play_from chip 0 (preface_commands chip.device) (power_up chip)
 
--- the play of a script, for one list of machines, one for each instrument
-pub record PlaysAs (net : Net) (device : Device) (machines : List Machine) (ds : List Done) : Type 0 where
-  -- after the preface and after each step
-  pub agrees : let chip = sound whole_log net device machines in AgreesThroughout chip (scans_in (preface_commands device)) (after_preface chip) (direct_power_up whole_log net machines) ds
-  -- at the end of the whole play
-  pub last : let chip = sound whole_log net device machines in Agrees net (play_from chip 0 (script_commands device ds) (power_up chip)) (direct whole_log net machines (steps_of ds))
-  -- what is compared is what is read, with the values that the direct meaning finds
-  pub compares : let chip = sound whole_log net device machines in (c : Compare) → Contains (compares_from chip 0 (script_commands device ds) (power_up chip)) c ↔ Contains (script_compares chip (scans_in (preface_commands device)) (after_preface chip) (direct_power_up whole_log net machines) ds) c
+  abbrev pub first_scans : ℕ
+  first_scans = scans_in (preface_commands chip.device)
+
+  -- the bench after the whole play from power-up, and what that compares
+  abbrev pub after_script : List Done → State L
+  after_script ds = play_from chip 0 (script_commands chip.device ds) (power_up chip)
+
+  abbrev pub compared : List Done → List Compare
+  compared ds = compares_from chip 0 (script_commands chip.device ds) (power_up chip)
+
+  -- the direct meaning of no step, and of all steps
+  abbrev pub at_start : Direct L
+  at_start = direct_power_up chip.log chip.net chip.machines
+
+  abbrev pub at_end : List Done → Direct L
+  at_end ds = direct chip.log chip.net chip.machines (steps_of ds)
+
+  -- bench and direct meaning agree after the preface, after each step and after the whole play;
+  -- what is compared is what the groups read, each in its group's last scan, with the value that the direct meaning finds
+  pub record Plays (ds : List Done) : Type 0 where
+    pub agrees : AgreesThroughout chip first_scans after_preface at_start ds
+    pub last : Agrees chip.net (after_script ds) (at_end ds)
+    pub compares : (c : Compare) → Contains (compared ds) c ↔ Contains (script_compares chip first_scans after_preface at_start ds) c
+
+-- the same on a sound network, with these machines for its instruments, whole lists of events being compared
+abbrev pub PlaysAs : Net → Device → List Machine → List Done → Type 0
+PlaysAs net device machines ds = Plays (sound whole_log net device machines) ds
 
 -- what is compiled: a well formed network, a device, and steps on the network's data bits
 pub record AreValid (net : Net) (device : Device) (steps : List SeenStep) : Type 0 where

@@ -69,9 +69,13 @@ NoMachines machines = machines ≡ []
 -- the written commands, played, do what the procedure means
 abbrev pub OneRegisterPlays : Type 0
 OneRegisterPlays =
-    (width : ℕ) (net : Net) (device : Device) (xs : List (SeenGroup × SeenScan)) → IsOneRegister width net → 0 < width → IsDevice device → ArePlanned width (start_bits net) xs → PlaysAs net device [] (map done_of xs)
+    (width : ℕ) (net : Net) (device : Device) (xs : List (SeenGroup × SeenScan)) →
+    IsOneRegister width net → 0 < width → IsDevice device → ArePlanned width (start_bits net) xs →
+    PlaysAs net device [] (map done_of xs)
 
 -- so their text is right
 abbrev pub OneRegisterIsRight : Type 0
 OneRegisterIsRight =
-    (width : ℕ) (net : Net) (device : Device) (xs : List (SeenGroup × SeenScan)) → IsNet net → IsOneRegister width net → IsDevice device → ArePlanned width (start_bits net) xs → IsRight NoMachines net device (steps_of (map done_of xs)) (script_text device (map done_of xs))
+    (width : ℕ) (net : Net) (device : Device) (xs : List (SeenGroup × SeenScan)) →
+    IsNet net → IsOneRegister width net → IsDevice device → ArePlanned width (start_bits net) xs →
+    IsRight NoMachines net device (steps_of (map done_of xs)) (script_text device (map done_of xs))

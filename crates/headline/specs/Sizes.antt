@@ -22,7 +22,8 @@ pub record IsShort (device : Device) (ds : List Done) : Type 0 where
 -- so is the script of at most 1000 groups on a register of at most 64 bits, whatever the register holds at first
 abbrev pub OneRegisterIsShort : Type 0
 OneRegisterIsShort =
-    (width : ℕ) (h : List Bool) (device : Device) (xs : List (SeenGroup × SeenScan)) → width ≤ 64 → length xs ≤ 1000 → IsDevice device → ArePlanned width h xs → IsShort device (map done_of xs)
+    (width : ℕ) (h : List Bool) (device : Device) (xs : List (SeenGroup × SeenScan)) →
+    width ≤ 64 → length xs ≤ 1000 → IsDevice device → ArePlanned width h xs → IsShort device (map done_of xs)
 
 -- a script that is written can be played
 abbrev pub WrittenScriptsFit : Type 0

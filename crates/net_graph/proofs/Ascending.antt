@@ -1,5 +1,5 @@
 -- Numbers that rise are different.
-use Rattle.std.proofs.Common.{◌≡◌, ℕ, zero, suc, ◌≤◌, List, [], ◌∷◌, arith}
+use Rattle.std.proofs.Common.{ℕ, zero, suc, ◌≤◌, List, [], ◌∷◌, arith}
 use Rattle.std.specs.Prelude.{Contains}
 use Rattle.net_graph.specs.Different.{AreDifferent}
 

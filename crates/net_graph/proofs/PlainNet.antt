@@ -1,6 +1,6 @@
 -- The network of the register `net.R` is well formed.
 use Rattle.std.proofs.Common.{◌≡◌, ℕ, zero, suc, ◌+◌, ◌<◌, ◌≤◌, false, List, [], ◌∷◌, length, refl, sym, ap, ◌∙◌, arith}
-use Rattle.std.specs.Prelude.{map, replicate, codes, All, Contains}
+use Rattle.std.specs.Prelude.{map, All, Contains}
 use Rattle.std.proofs.lemmas.List.Elements.{All-nil, All-cons}
 use Rattle.std.proofs.lemmas.List.{length-map, length-replicate}
 use Rattle.net_graph.specs.declared.net.BitId.{BitId}
@@ -10,7 +10,7 @@ use Rattle.net_graph.specs.declared.net.Point.TheVariants.{Entry}
 use Rattle.net_graph.specs.declared.net.Sig.TheVariants.{Bit}
 use Rattle.net_graph.specs.declared.net.Spot.TheVariants.{Held}
 use Rattle.net_graph.specs.Named.{IsSignalOf, IsSpotOf}
-use Rattle.net_graph.specs.Nets.{IsReg, IsThing, IsMux, IsInst, IsNet, path_of}
+use Rattle.net_graph.specs.Nets.{IsReg, IsThing, IsMux, IsInst, IsNet}
 use Rattle.net_graph.specs.OneRegister.{bits_from, plain_register, plain_thing, plain_top, plain_instance, plain_net}
 
 pub length-bits_from : (r k n : ℕ) → length (bits_from r k n) ≡ n

@@ -6,5 +6,6 @@ use Rattle.net_graph.specs.SeenSteps.{SeenGroup}
 abbrev pub registers_of : SeenGroup → List ℕ
 registers_of g = map (λ w. w.bit.reg) g.writes ++ map (λ r. r.bit.reg) g.reads
 
+-- a group that names no bit
 abbrev pub IsEmpty : SeenGroup → Type 0
 IsEmpty g = (g.writes ≡ []) × (g.reads ≡ [])

@@ -1,6 +1,6 @@
 -- Bit steps for a network: a group writes and reads data bits alone, each at most once, and reads only what is captured
 -- (IEEE 1687-2014, PDL level 0: iWrite, iRead, iApply, iRunLoop, iReset).
-use Rattle.std.specs.Prelude.{◌≢◌, ◌≤◌, List, map, All, IsFalse}
+use Rattle.std.specs.Prelude.{◌≤◌, map, All, IsFalse}
 use Rattle.net_graph.specs.declared.net.BitId.{BitId}
 use Rattle.net_graph.specs.declared.net.Net.{Net}
 use Rattle.net_graph.specs.declared.net.Sig.{Sig}
