@@ -1,11 +1,11 @@
 -- Hexadecimal digits of a number's bits are those of the number, and short texts have no line feed.
-use Rattle.std.proofs.Common.{◌≡◌, ℕ, zero, suc, ◌+◌, ◌-◌, ◌*◌, ◌/◌, ◌%◌, ◌==◌, ◌^◌, ◌<◌, ◌≤◌, Bool, true, false, List, [], ◌∷◌, ◌++◌, length, take, drop, arith, refl, ap, sym, ◌∙◌, subst}
+use Rattle.std.proofs.Common.{◌≡◌, ℕ, zero, suc, ◌+◌, ◌-◌, ◌*◌, ◌/◌, ◌%◌, ◌==◌, ◌^◌, ◌<◌, Bool, true, false, List, [], ◌∷◌, ◌++◌, length, take, drop, arith, refl, ap, sym, ◌∙◌, subst}
 use Rattle.std.proofs.Math.Nat.{pow-suc, div-one, zero-div}
 use Rattle.std.proofs.lemmas.Nat.{shr-shr, pow_pos}
 use Rattle.std.proofs.lemmas.Bool.Decides.{nat_tests}
 use Rattle.ij_bits.specs.BitLists.{bits_of, number_of}
 use Rattle.ij_bits.specs.Hex.{hex_code, hex_digit}
-use Rattle.svf_writer.specs.Written.{digit_piece, next_column, hex_lines}
+use Rattle.svf_writer.specs.Written.{hex_lines}
 
 half_again : (n d : ℕ) → n / 2 / 2 ^ d ≡ n / 2 ^ suc d
 half_again n d = let one : 1 + d ≡ suc d = omega arith in shr-shr n 1 d ∙ ap (λ k. n / 2 ^ k) one

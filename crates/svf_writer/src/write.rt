@@ -1,8 +1,8 @@
 // The text of commands.
-ghost use Rattle.std.specs.Prelude.{◌^◌, ◌<◌, ◌≤◌, length, option_map, IfSome, OnOk, OnErr};
+ghost use Rattle.std.specs.Prelude.{◌^◌, ◌<◌, ◌≤◌, option_map, OnOk, OnErr};
 ghost use Rattle.ij_io.specs.Bytes.{Adds, AddsPart};
 ghost use Rattle.ij_io.specs.Causes.{HasCause};
-ghost use Rattle.svf_writer.specs.Fits.{IsWrittenScan, IsWrittenCommand};
+ghost use Rattle.svf_writer.specs.Fits.{IsWrittenCommand};
 ghost use Rattle.svf_writer.specs.SeenCommands.{Run, seen_scan, seen_command};
 ghost use Rattle.svf_writer.specs.Written.{part, scan_text, text_of, texts_of, mark, preface, preface_commands};
 
@@ -16,7 +16,6 @@ use net_graph::device::Device;
 
 /// Writes a part of a scan, where it stands in the command.
 fn put_part<K: Sink>(word: &[u8], bits: &Option<Bits>, k: &mut K) -> Result<(), StoreFault>
-    requires { IfSome bits.now (λ b. length b.items ≤ 65536) }
     ensures whole { OnOk result (Adds (K.taken k.old) (K.taken k.new) (part word.now (option_map (λ b. b.items) bits.now))) }
     ensures part { OnErr result (AddsPart (K.taken k.old) (K.taken k.new) (part word.now (option_map (λ b. b.items) bits.now))) }
     ensures cause { HasCause (K.faults k.old) (K.faults k.new) result StoreFault.Failed }
@@ -31,7 +30,6 @@ fn put_part<K: Sink>(word: &[u8], bits: &Option<Bits>, k: &mut K) -> Result<(), 
 
 /// Writes a scan, the word of its kind in front.
 fn put_scan<K: Sink>(word: &[u8], scan: &Scan, k: &mut K) -> Result<(), StoreFault>
-    requires { IsWrittenScan (seen_scan scan.now) }
     ensures whole { OnOk result (Adds (K.taken k.old) (K.taken k.new) (scan_text word.now (seen_scan scan.now))) }
     ensures part { OnErr result (AddsPart (K.taken k.old) (K.taken k.new) (scan_text word.now (seen_scan scan.now))) }
     ensures cause { HasCause (K.faults k.old) (K.faults k.new) result StoreFault.Failed }

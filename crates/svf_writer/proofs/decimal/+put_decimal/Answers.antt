@@ -1,5 +1,3 @@
-use Rattle.std.proofs.Common.{◌≡◌, ◌%◌, ◌+◌, [], ◌∷◌, subst, List, decimal}
-use Rattle.ij_io.specs.Bytes.{Adds, AddsPart}
 use Rattle.ij_io.proofs.Adding.{at_refusal}
 use Rattle.svf_writer.proofs.Digits.{more_added, front_part_added, last_part_added, one_added, one_part_added}
 use Rattle.svf_writer.proofs.decimal.+put_decimal.Goals as goal

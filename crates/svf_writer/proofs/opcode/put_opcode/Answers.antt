@@ -1,4 +1,4 @@
-use Rattle.std.proofs.Common.{◌≡◌, ◌-◌, ◌+◌, ◌*◌, ◌/◌, ◌<◌, ℕ, suc, [], ◌∷◌, List, length, arith, ap, sym, ◌∙◌, subst}
+use Rattle.std.proofs.Common.{◌≡◌, ◌-◌, ◌+◌, ◌/◌, ◌<◌, ℕ, suc, [], ◌∷◌, List, length, arith, ap, sym, ◌∙◌, subst}
 use Rattle.ij_bits.specs.BitLists.{bits_of}
 use Rattle.ij_bits.specs.Hex.{hex_digit}
 use Rattle.ij_io.proofs.Adding.{at_refusal}

@@ -1,4 +1,4 @@
-use Rattle.std.proofs.Common.{◌≡◌, [], ◌∷◌, ◌++◌, decimal}
+use Rattle.std.proofs.Common.{[], ◌∷◌, ◌++◌, decimal}
 use Rattle.std.specs.Prelude.{codes}
 use Rattle.ij_io.proofs.Adding.{adds_front, adds_then_part, at_refusal}
 use Rattle.svf_writer.proofs.Texts.{adds_part_as, run_is}
