@@ -47,8 +47,11 @@ impl Write for Trickle {
 
 #[test]
 fn a_slow_stream_gets_each_byte_once(rt: HostRuntime) -> Result<(), Fail> {
-    let fulls = [Full::TakesNothing, Full::Fails, Full::FailsToFlush];
-    for full in fulls {
+    for (full, last) in [
+        (Full::TakesNothing, b"fghi".as_slice()),
+        (Full::Fails, b"fghi".as_slice()),
+        (Full::FailsToFlush, b"fgh".as_slice()),
+    ] {
         let mut stream = Trickle {
             taken: Vec::new(rt.alloc()),
             room: 8,
@@ -58,11 +61,6 @@ fn a_slow_stream_gets_each_byte_once(rt: HostRuntime) -> Result<(), Fail> {
         let mut sink = HostSink::new(&mut stream);
         assert_eq!(rt; sink.write(b"abcde"), Ok(()));
         assert_eq!(rt; sink.faults, 0);
-        let last = if matches!(full, Full::FailsToFlush) {
-            b"fgh".as_slice()
-        } else {
-            b"fghi".as_slice()
-        };
         assert_eq!(rt; sink.write(last), Err(StoreFault::Failed));
         assert_eq!(rt; sink.faults, 1);
         assert_eq!(rt; stream.taken.as_slice(), b"abcdefgh".as_slice());
