@@ -1,4 +1,4 @@
-use Rattle.std.proofs.Common.{◌≡◌, ◌≤◌, ◌+◌, ◌-◌, ℕ, Option, List, ◌++◌, take, drop, length, length-drop, arith, sym, ap, ◌∙◌, subst}
+use Rattle.std.proofs.Common.{◌≡◌, ◌+◌, ◌-◌, ℕ, Option, List, ◌++◌, take, drop, length, length-drop, arith, sym, ap, ◌∙◌, subst}
 use Rattle.std.proofs.Math.Seq.{take-add}
 use Rattle.std.proofs.lemmas.List.{take_rest}
 use Rattle.std.specs.Io.KnownBytes.{Appends}
@@ -18,12 +18,12 @@ pub loop-preserved : goal.loop-preserved
 loop-preserved g c =
     let piece = c.args.piece.now in
     elim c.match-write.branch [
-      in-Ok w ↦
-        let rest : take (length piece - c.loop.done) (drop c.loop.done piece) ≡ drop c.loop.done piece = take_rest piece c.loop.done in
-        rw w.done-is record {
-          within = omega (arith, w.in-Ok.ensures.bound, ap length rest, length-drop c.loop.done piece);
-          so_far = given_more piece c.loop.done w.in-Ok.n _ _ _ c.loop.invariant.so_far w.in-Ok.ensures.bytes;
-        }
-    | in-Err+else-ne w ↦
-        rw w.done-is record { within = c.loop.invariant.within; so_far = Appends-kept _ _ _ _ c.loop.invariant.so_far w.in-Err.ensures.bytes }
+      | in-Ok w ↦
+          let rest : take (length piece - c.loop.done) (drop c.loop.done piece) ≡ drop c.loop.done piece = take_rest piece c.loop.done in
+          rw w.done-is record {
+            within = omega (arith, w.in-Ok.ensures.bound, ap length rest, length-drop c.loop.done piece);
+            so_far = given_more piece c.loop.done w.in-Ok.n _ _ _ c.loop.invariant.so_far w.in-Ok.ensures.bytes;
+          }
+      | in-Err+else-ne w ↦
+          rw w.done-is record { within = c.loop.invariant.within; so_far = Appends-kept _ _ _ _ c.loop.invariant.so_far w.in-Err.ensures.bytes }
     ]
