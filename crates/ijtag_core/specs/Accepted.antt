@@ -1,0 +1,30 @@
+-- What a command's files are accepted as, and what they are refused for first.
+use Rattle.std.specs.Prelude.{◌≡◌, ℕ, List, [], ◌∷◌, length, Option, Some, None, find, nat_lt, codes}
+use Rattle.ij_io.specs.Files.{Files, bytes_of}
+use Rattle.first_form.specs.Texts.{SeenForm, AreTextsOf}
+use Rattle.register_compiler.specs.Procedure.{unapplied_line}
+use Rattle.ijtag_core.specs.Command.{Command, loads}
+use Rattle.ijtag_core.specs.Stops.{Refusal, Long, FirstForm, Unapplied}
+use Rattle.ijtag_core.specs.declared.limits.TheConstants.{SOURCE_LIMIT}
+
+-- the first of these files that is above the limit
+abbrev pub first_long : Files → List (List ℕ) → Option (List ℕ)
+first_long files names = find (λ name. nat_lt SOURCE_LIMIT (length (bytes_of files name))) names
+
+-- the texts of the files, the top module and the procedure are those of this form
+pub record AreOfForm (files : Files) (command : Command) (form : SeenForm) : Type 0 where
+  pub short : first_long files (loads command) ≡ None
+  pub texts : AreTextsOf form (bytes_of files command.icl) (bytes_of files command.pdl) (bytes_of files command.device)
+  pub top : command.top ≡ codes "chip"
+  pub procedure : command.procedure ≡ codes "p"
+
+-- and an iApply follows each command of the procedure
+pub record AreAccepted (files : Files) (command : Command) (form : SeenForm) : Type 0 where
+  pub of_form : AreOfForm files command form
+  pub applied : unapplied_line form.lines ≡ None
+
+-- the first refusal that the files meet: a long file, then a text that isn't of the form, then a command without iApply
+abbrev pub IsFirstRefusal : Files → Command → Refusal → Type 0
+IsFirstRefusal files command (Long name) = first_long files (loads command) ≡ Some name
+IsFirstRefusal files command FirstForm = (first_long files (loads command) ≡ None) × ((form : SeenForm) → ¬ AreOfForm files command form)
+IsFirstRefusal files command (Unapplied line) = (form : SeenForm) × AreOfForm files command form × (unapplied_line form.lines ≡ Some line)

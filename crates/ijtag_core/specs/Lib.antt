@@ -1,0 +1,6 @@
+pub mod Command
+pub mod Stops
+pub mod Accepted
+pub mod Outcome
+pub mod Codes
+pub mod Seen

@@ -1,0 +1,46 @@
+-- Why a run stops short, the text that it then prints on the error stream, and its status.
+use Rattle.std.specs.Prelude.{ℕ, List, [], ◌∷◌, ◌++◌, codes}
+use Rattle.std.specs.Fmt.{decimal}
+use Rattle.ij_io.specs.Bytes.{concat}
+use Rattle.ijtag_core.specs.declared.status.Status.{Status}
+use Rattle.ijtag_core.specs.declared.status.Status.TheVariants.{Usage as UsageStatus, Refused, ReadFault as ReadStatus, WriteFault as WriteStatus, OutOfMemory as MemoryStatus}
+
+-- what a text or a file is refused for
+pub data Refusal : Type 0 where
+  -- a source file is above the limit
+  Long : (name : List ℕ) → Refusal
+  -- the texts, the top module or the procedure aren't the first form
+  FirstForm : Refusal
+  -- no iApply follows the command on this line
+  Unapplied : (line : ℕ) → Refusal
+
+pub data Stop : Type 0 where
+  -- the words are no command
+  Usage : Stop
+  Refuses : (refusal : Refusal) → Stop
+  -- a load of this file failed, a store under this name failed
+  ReadFault : (name : List ℕ) → Stop
+  WriteFault : (name : List ℕ) → Stop
+  NoMemory : Stop
+
+abbrev pub status_of : Stop → Status
+status_of Usage = UsageStatus
+status_of (Refuses refusal) = Refused
+status_of (ReadFault name) = ReadStatus
+status_of (WriteFault name) = WriteStatus
+status_of NoMemory = MemoryStatus
+
+abbrev pub unapplied_text : ℕ → List ℕ
+unapplied_text line = concat (codes "refused pdl Unapplied " ∷ decimal line ∷ codes ":3\n" ∷ [])
+
+unfoldable pub refusal_text : Refusal → List ℕ
+refusal_text (Long name) = concat (codes "refused file Long " ∷ name ∷ codes "\n" ∷ [])
+refusal_text FirstForm = codes "refused core FirstForm\n"
+refusal_text (Unapplied line) = unapplied_text line
+
+unfoldable pub stop_text : Stop → List ℕ
+stop_text Usage = codes "usage: ijtag compile\n"
+stop_text (Refuses refusal) = refusal_text refusal
+stop_text (ReadFault name) = concat (codes "read fault " ∷ name ∷ codes "\n" ∷ [])
+stop_text (WriteFault name) = concat (codes "write fault " ∷ name ∷ codes "\n" ∷ [])
+stop_text NoMemory = codes "out of memory\n"

@@ -1,0 +1,31 @@
+// How a run ended.
+ghost use Rattle.std.specs.Prelude.{◌≡◌};
+ghost use Rattle.ijtag_core.specs.Codes.{code_of};
+
+/// How a run ended.
+#[derive(Clone, Copy, PartialEq, Eq, Debug)]
+pub enum Status {
+    /// All was written, and nothing differs.
+    Good,
+    /// All was written, and a compared bit differs.
+    Differs,
+    /// The words are no command.
+    Usage,
+    /// A file or a text was refused.
+    Refused,
+    /// A file could not be read.
+    ReadFault,
+    /// A file or a stream could not be written.
+    WriteFault,
+    /// There was no memory.
+    OutOfMemory,
+}
+
+impl Status {
+    /// The exit status of the process, 0 to 6 in the order of the variants.
+    pub fn code(self) -> u8
+        ensures { result ≡ code_of self }
+    {
+        self as u8
+    }
+}

@@ -1,0 +1,35 @@
+// The words that the program is called with.
+ghost use Rattle.std.specs.Prelude.{◌≡◌, map, option_map};
+ghost use Rattle.std.specs.String.{string_bytes};
+ghost use Rattle.ijtag_core.specs.Command.{command_of};
+ghost use Rattle.ijtag_core.specs.Seen.{seen_words};
+
+/// `compile ICL PDL DEVICE TOP PROC SVF`.
+#[derive(Clone, Copy)]
+pub(crate) struct CompileWords<'a> {
+    pub icl: &'a str,
+    pub pdl: &'a str,
+    pub device: &'a str,
+    pub top: &'a str,
+    pub procedure: &'a str,
+    pub svf: &'a str,
+}
+
+/// The command of the words, `None` where they are no command.
+pub(crate) fn read_words(words: &Vec<String>) -> Option<CompileWords<'_>>
+    ensures { option_map seen_words result ≡ command_of (map string_bytes words.now.items) }
+{
+    match words.as_slice() {
+        [command, icl, pdl, device, top, procedure, svf] if command.as_str() == "compile" => {
+            Some(CompileWords {
+                icl: icl.as_str(),
+                pdl: pdl.as_str(),
+                device: device.as_str(),
+                top: top.as_str(),
+                procedure: procedure.as_str(),
+                svf: svf.as_str(),
+            })
+        }
+        _ => None,
+    }
+}
