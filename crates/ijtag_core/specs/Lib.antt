@@ -4,3 +4,4 @@ pub mod Accepted
 pub mod Outcome
 pub mod Codes
 pub mod Seen
+pub mod Sources

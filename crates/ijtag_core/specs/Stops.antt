@@ -30,17 +30,21 @@ status_of (ReadFault name) = ReadStatus
 status_of (WriteFault name) = WriteStatus
 status_of NoMemory = MemoryStatus
 
+-- a text and a name on a line of their own
+abbrev pub named_line : List ℕ → List ℕ → List ℕ
+named_line text name = concat (text ∷ name ∷ codes "\n" ∷ [])
+
 abbrev pub unapplied_text : ℕ → List ℕ
 unapplied_text line = concat (codes "refused pdl Unapplied " ∷ decimal line ∷ codes ":3\n" ∷ [])
 
 unfoldable pub refusal_text : Refusal → List ℕ
-refusal_text (Long name) = concat (codes "refused file Long " ∷ name ∷ codes "\n" ∷ [])
+refusal_text (Long name) = named_line (codes "refused file Long ") name
 refusal_text FirstForm = codes "refused core FirstForm\n"
 refusal_text (Unapplied line) = unapplied_text line
 
 unfoldable pub stop_text : Stop → List ℕ
 stop_text Usage = codes "usage: ijtag compile\n"
 stop_text (Refuses refusal) = refusal_text refusal
-stop_text (ReadFault name) = concat (codes "read fault " ∷ name ∷ codes "\n" ∷ [])
-stop_text (WriteFault name) = concat (codes "write fault " ∷ name ∷ codes "\n" ∷ [])
+stop_text (ReadFault name) = named_line (codes "read fault ") name
+stop_text (WriteFault name) = named_line (codes "write fault ") name
 stop_text NoMemory = codes "out of memory\n"

@@ -2,6 +2,7 @@
 #![tactic(auto)]
 
 mod limits;
+mod sources;
 mod status;
 mod stop;
 mod words;

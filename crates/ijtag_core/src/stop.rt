@@ -2,7 +2,7 @@
 ghost use Rattle.std.specs.Prelude.{◌≡◌, ◌⊎◌, OnOk, OnErr};
 ghost use Rattle.ij_io.specs.Bytes.{Adds, AddsPart};
 ghost use Rattle.ij_io.specs.Causes.{HasCause};
-ghost use Rattle.ijtag_core.specs.Stops.{status_of, stop_text, refusal_text, unapplied_text};
+ghost use Rattle.ijtag_core.specs.Stops.{status_of, stop_text, refusal_text, named_line, unapplied_text};
 ghost use Rattle.ijtag_core.specs.Outcome.{IsTold};
 ghost use Rattle.ijtag_core.specs.Seen.{seen_stop, seen_refusal};
 
@@ -46,6 +46,15 @@ impl Stop<'_> {
     }
 }
 
+/// Prints a name behind a text, on a line of its own.
+fn put_named<K: Sink>(text: &[u8], name: &str, k: &mut K) -> Result<(), StoreFault>
+    ensures whole { OnOk result (Adds (K.taken k.old) (K.taken k.new) (named_line text.now name.now)) }
+    ensures part { OnErr result (AddsPart (K.taken k.old) (K.taken k.new) (named_line text.now name.now)) }
+    ensures cause { HasCause (K.faults k.old) (K.faults k.new) result StoreFault.Failed }
+{
+    put_pieces(k, &[text, name.as_bytes(), b"\n"])
+}
+
 fn put_unapplied<K: Sink>(line: u32, k: &mut K) -> Result<(), StoreFault>
     ensures whole { OnOk result (Adds (K.taken k.old) (K.taken k.new) (unapplied_text line)) }
     ensures part { OnErr result (AddsPart (K.taken k.old) (K.taken k.new) (unapplied_text line)) }
@@ -64,7 +73,7 @@ fn put_refusal<K: Sink>(refusal: &Refusal<'_>, k: &mut K) -> Result<(), StoreFau
     ensures cause { HasCause (K.faults k.old) (K.faults k.new) result StoreFault.Failed }
 {
     match refusal {
-        Refusal::Long(name) => put_pieces(k, &[b"refused file Long ", name.as_bytes(), b"\n"]),
+        Refusal::Long(name) => put_named(b"refused file Long ", name, k),
         Refusal::FirstForm => put_pieces(k, &[b"refused core FirstForm\n"]),
         Refusal::Unapplied(line) => put_unapplied(*line, k),
     }
@@ -80,8 +89,8 @@ fn put_stop<K: Sink>(stop: &Stop<'_>, k: &mut K) -> Result<(), StoreFault>
     match stop {
         Stop::Usage => put_pieces(k, &[b"usage: ijtag compile\n"]),
         Stop::Refused(refusal) => put_refusal(refusal, k),
-        Stop::ReadFault(name) => put_pieces(k, &[b"read fault ", name.as_bytes(), b"\n"]),
-        Stop::WriteFault(name) => put_pieces(k, &[b"write fault ", name.as_bytes(), b"\n"]),
+        Stop::ReadFault(name) => put_named(b"read fault ", name, k),
+        Stop::WriteFault(name) => put_named(b"write fault ", name, k),
         Stop::OutOfMemory => put_pieces(k, &[b"out of memory\n"]),
     }
 }

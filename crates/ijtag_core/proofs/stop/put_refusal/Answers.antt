@@ -1,7 +1,17 @@
+use Rattle.std.proofs.Common.{List, ℕ, subst, sym, ap, ◌∙◌}
+use Rattle.std.specs.Prelude.{OnOk, OnErr, codes, ◌++◌}
+use Rattle.ij_io.specs.Bytes.{Adds, AddsPart}
 use Rattle.ijtag_core.specs.Stops.{refusal_text}
+use Rattle.ijtag_core.specs.Seen.{seen_refusal}
+use Rattle.ijtag_core.specs.declared.stop.Refusal.{Refusal}
 use Rattle.ijtag_core.proofs.stop.put_refusal.Goals as goal
 
 pub returns-in-FirstForm-clause-whole : goal.returns-in-FirstForm-clause-whole
 unfolding refusal_text
 returns-in-FirstForm-clause-whole g c =
-    let h = c.in-FirstForm in let h2 = c.put_pieces-in-FirstForm in ?
+    subst (λ (r : Refusal). OnOk c.put_pieces.result (Adds (g.K.Sink.taken c.args.k.now) (g.K.Sink.taken c.put_pieces.new.k) (refusal_text (seen_refusal r)))) (sym c.in-FirstForm.is) c.put_pieces.ensures.whole
+
+pub returns-in-FirstForm-clause-part : goal.returns-in-FirstForm-clause-part
+unfolding refusal_text
+returns-in-FirstForm-clause-part g c =
+    subst (λ (r : Refusal). OnErr c.put_pieces.result (AddsPart (g.K.Sink.taken c.args.k.now) (g.K.Sink.taken c.put_pieces.new.k) (refusal_text (seen_refusal r)))) (sym c.in-FirstForm.is) c.put_pieces.ensures.part
