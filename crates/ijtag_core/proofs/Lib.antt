@@ -1,2 +1,3 @@
 pub mod Told
 pub mod SourceStops
+pub mod Begun

@@ -11,12 +11,16 @@ use Rattle.ijtag_core.specs.declared.limits.TheConstants.{SOURCE_LIMIT}
 abbrev pub first_long : Files → List (List ℕ) → Option (List ℕ)
 first_long files names = find (λ name. nat_lt SOURCE_LIMIT (length (bytes_of files name))) names
 
--- the texts of the files, the top module and the procedure are those of this form
-pub record AreOfForm (files : Files) (command : Command) (form : SeenForm) : Type 0 where
-  pub short : first_long files (loads command) ≡ None
-  pub texts : AreTextsOf form (bytes_of files command.icl) (bytes_of files command.pdl) (bytes_of files command.device)
+-- texts, the top module and the procedure are those of this form
+pub record AreOf (form : SeenForm) (icl pdl device : List ℕ) (command : Command) : Type 0 where
+  pub texts : AreTextsOf form icl pdl device
   pub top : command.top ≡ codes "chip"
   pub procedure : command.procedure ≡ codes "p"
+
+-- those of the command's files are, none of which is long
+pub record AreOfForm (files : Files) (command : Command) (form : SeenForm) : Type 0 where
+  pub short : first_long files (loads command) ≡ None
+  pub of : AreOf form (bytes_of files command.icl) (bytes_of files command.pdl) (bytes_of files command.device) command
 
 -- and an iApply follows each command of the procedure
 pub record AreAccepted (files : Files) (command : Command) (form : SeenForm) : Type 0 where

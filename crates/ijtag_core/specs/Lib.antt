@@ -5,3 +5,4 @@ pub mod Outcome
 pub mod Codes
 pub mod Seen
 pub mod Sources
+pub mod Texts

@@ -3,10 +3,7 @@ use Rattle.std.specs.Prelude.{◌≡◌, ◌⊎◌, ℕ, List, [], ◌∷◌, Op
 use Rattle.ij_io.specs.Bytes.{Adds, AddsPart}
 use Rattle.ij_io.specs.Causes.{Rose}
 use Rattle.ij_io.specs.Files.{Files, file_at}
-use Rattle.first_form.specs.Texts.{SeenForm}
-use Rattle.register_compiler.specs.Svf.{svf_text}
-use Rattle.ijtag_core.specs.Accepted.{AreAccepted}
-use Rattle.ijtag_core.specs.Command.{Command}
+use Rattle.std.specs.Option.{option_map}
 
 -- a count of one of these names rose
 abbrev pub SomeRose : (List ℕ → ℕ) → (List ℕ → ℕ) → List (List ℕ) → Type 0
@@ -21,7 +18,6 @@ IsTold old new before now text = Adds old new text ⊎ (AddsPart old new text ×
 abbrev pub OnlyChanges : List ℕ → Option Files → Option Files → Type 0
 OnlyChanges name old new = (other : List ℕ) → (other ≡ name → ⊥) → file_at new other ≡ file_at old other
 
--- the file is as before, or holds some first bytes of the SVF text of what was accepted
-abbrev pub IsPartOfSvf : Files → Command → Option (Option (List ℕ)) → Option (Option (List ℕ)) → Type 0
-IsPartOfSvf files command old new =
-    (new ≡ old) ⊎ ((form : SeenForm) × AreAccepted files command form × ((count : ℕ) × (new ≡ Some (Some (take count (svf_text form))))))
+-- the file is as before, or holds some first bytes of the text, where the files are told
+abbrev pub IsPart : Option Files → Option (Option (List ℕ)) → Option (Option (List ℕ)) → List ℕ → Type 0
+IsPart files old new text = (new ≡ old) ⊎ ((count : ℕ) × (new ≡ option_map (λ _. Some (take count text)) files))

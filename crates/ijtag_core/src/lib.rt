@@ -1,11 +1,13 @@
 //! The program as a function of its words, over any files and streams: `compile` a procedure to SVF.
 #![tactic(auto)]
 
+mod accept;
 mod limits;
 mod sources;
 mod status;
 mod stop;
 mod words;
+mod write;
 
 pub use limits::SOURCE_LIMIT;
 pub use status::Status;

@@ -1,0 +1,34 @@
+// What the loaded texts are accepted as.
+ghost use Rattle.std.specs.Prelude.{◌≡◌, None, IfOk, IfErr};
+ghost use Rattle.first_form.specs.SeenForms.{seen_form};
+ghost use Rattle.register_compiler.specs.Procedure.{unapplied_line};
+ghost use Rattle.ijtag_core.specs.Accepted.{AreOf};
+ghost use Rattle.ijtag_core.specs.Seen.{seen_words, seen_stop};
+ghost use Rattle.ijtag_core.specs.Texts.{IsTextStop};
+
+use crate::sources::Sources;
+use crate::stop::{Refusal, Stop};
+use crate::words::CompileWords;
+use first_form::{Form, FormFault, read_form};
+use register_compiler::find_unapplied;
+use std::alloc::Global;
+
+/// The design and the procedure of the texts, each command of which an iApply follows.
+pub(crate) fn accept<'a>(alloc: Global, words: &CompileWords<'a>, sources: &Sources) -> Result<Form, Stop<'a>>
+    ensures form { IfOk result (λ form. AreOf (seen_form form) sources.now.icl.items sources.now.pdl.items sources.now.device.items (seen_words words.now)) }
+    ensures applied { IfOk result (λ form. unapplied_line (seen_form form).lines ≡ None) }
+    ensures stop { IfErr result (λ stop. IsTextStop sources.now.icl.items sources.now.pdl.items sources.now.device.items (seen_words words.now) (seen_stop stop)) }
+{
+    let form = match read_form(alloc, &sources.icl, &sources.pdl, &sources.device) {
+        Ok(form) => form,
+        Err(FormFault::FirstForm) => return Err(Stop::Refused(Refusal::FirstForm)),
+        Err(FormFault::OutOfMemory) => return Err(Stop::OutOfMemory),
+    };
+    if words.top != "chip" || words.procedure != "p" {
+        return Err(Stop::Refused(Refusal::FirstForm));
+    }
+    match find_unapplied(&form) {
+        Some(line) => Err(Stop::Refused(Refusal::Unapplied(line))),
+        None => Ok(form),
+    }
+}
