@@ -1,3 +1,4 @@
 pub mod Told
 pub mod SourceStops
 pub mod Begun
+pub mod Compiling

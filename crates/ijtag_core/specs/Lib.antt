@@ -6,3 +6,4 @@ pub mod Codes
 pub mod Seen
 pub mod Sources
 pub mod Texts
+pub mod Compiled

@@ -2,6 +2,7 @@
 #![tactic(auto)]
 
 mod accept;
+mod compile;
 mod limits;
 mod sources;
 mod status;
