@@ -73,7 +73,7 @@ line_told width (Read v) (Read w) x y ha hb e =
     let told = value_told v w _ _ (ha ∙ sym hb) (append_cancel_left (codes "  iRead net.R 0b") _ _ (sym (value_line (codes "  iRead net.R 0b") v x) ∙ e ∙ value_line (codes "  iRead net.R 0b") w y)) in
     (ap Read told.0, append_cancel_left (codes "\n") x y told.1)
 
-line_no_end : (line : SeenLine) (x : List ℕ) → line_text line ++ x ≢ codes "}\n"
+pub line_no_end : (line : SeenLine) (x : List ℕ) → line_text line ++ x ≢ codes "}\n"
 line_no_end (Write value) x e = let letters : ◌≡◌ {A = ℕ} 32 125 = ap (λ (t : List ℕ). get_or t 0 0) e in absurd (omega arith)
 line_no_end (Read expect) x e = let letters : ◌≡◌ {A = ℕ} 32 125 = ap (λ (t : List ℕ). get_or t 0 0) e in absurd (omega arith)
 line_no_end Apply x e = let letters : ◌≡◌ {A = ℕ} 32 125 = ap (λ (t : List ℕ). get_or t 0 0) e in absurd (omega arith)

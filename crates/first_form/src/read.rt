@@ -3,7 +3,7 @@ ghost use Rattle.std.specs.Prelude.{◌/◌, ◌%◌, ◌∷◌, [], ◌≡◌, 
 ghost use Rattle.ij_bits.specs.Hex.{hex_code};
 ghost use Rattle.std.specs.Prelude.{List as Items};
 ghost use Rattle.std.specs.String.{string_bytes};
-ghost use Rattle.first_form.specs.Texts.{SeenLine, HasWidth, lines_text, icl_text, pdl_text, device_text, AreTextsOf, AreFirstForm};
+ghost use Rattle.first_form.specs.Texts.{SeenLine, SeenForm, HasWidth, lines_text, icl_text, pdl_text, device_text, AreTextsOf, AreFirstForm};
 ghost use Rattle.first_form.specs.SeenForms.{seen_lines, seen_form};
 
 use crate::text::Reader;
@@ -118,6 +118,7 @@ fn read_procedure(alloc: Global, width: u32, pdl: &[u8]) -> Result<List<Line>, F
 /// any width, opcode and lines.
 pub fn read_form(alloc: Global, icl: &[u8], pdl: &[u8], device: &[u8]) -> Result<Form, FormFault>
     ensures form { IfOk result (λ form. AreTextsOf (seen_form form) icl.now pdl.now device.now) }
+    ensures only { IfOk result (λ form. (other : SeenForm) → AreTextsOf other icl.now pdl.now device.now → other ≡ seen_form form) }
     ensures other { IsErrOf result FormFault.FirstForm → ¬ AreFirstForm icl.now pdl.now device.now }
 {
     let width = read_width(alloc, icl)?;

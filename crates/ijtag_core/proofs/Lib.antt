@@ -2,3 +2,4 @@ pub mod Told
 pub mod SourceStops
 pub mod Begun
 pub mod Compiling
+pub mod Complete

@@ -31,4 +31,4 @@ pub record AreAccepted (files : Files) (command : Command) (form : SeenForm) : T
 abbrev pub IsFirstRefusal : Files → Command → Refusal → Type 0
 IsFirstRefusal files command (Long name) = first_long files (loads command) ≡ Some name
 IsFirstRefusal files command FirstForm = (first_long files (loads command) ≡ None) × ((form : SeenForm) → ¬ AreOfForm files command form)
-IsFirstRefusal files command (Unapplied line) = (form : SeenForm) × AreOfForm files command form × (unapplied_line form.lines ≡ Some line)
+IsFirstRefusal files command (Unapplied line) = ((form : SeenForm) × AreOfForm files command form) × ((form : SeenForm) → AreOfForm files command form → unapplied_line form.lines ≡ Some line)

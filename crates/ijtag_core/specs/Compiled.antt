@@ -1,10 +1,10 @@
 -- What a compile does with a command's files, and why it stops short.
-use Rattle.std.specs.Prelude.{◌≡◌, ◌⊎◌, ℕ, List, Option, Some, take, IfSome, Contains}
+use Rattle.std.specs.Prelude.{◌≡◌, ◌⊎◌, ℕ, List, Option, Some, None, take, IfSome, Contains}
 use Rattle.net_graph.specs.OneRegister.{plain_net}
 use Rattle.headline.specs.Headline.{IsRight}
 use Rattle.headline.specs.OneScan.{NoMachines}
 use Rattle.ij_io.specs.Causes.{Rose}
-use Rattle.ij_io.specs.Files.{Files}
+use Rattle.ij_io.specs.Files.{Files, OthersStay}
 use Rattle.first_form.specs.Texts.{SeenForm}
 use Rattle.register_compiler.specs.Procedure.{device_of, steps_of_lines}
 use Rattle.register_compiler.specs.Svf.{svf_text}
@@ -51,3 +51,21 @@ IsEarly (Refuses refusal) = Unit {0}
 IsEarly (ReadFault name) = Unit {0}
 IsEarly (WriteFault name) = ⊥
 IsEarly NoMemory = ⊥
+
+-- only the words are at fault
+abbrev pub IsUsage : Stop → Type 0
+IsUsage Usage = Unit {0}
+IsUsage (Refuses refusal) = ⊥
+IsUsage (ReadFault name) = ⊥
+IsUsage (WriteFault name) = ⊥
+IsUsage NoMemory = ⊥
+
+-- why a run with these words stops short
+abbrev pub IsRunStop : Option Command → Option Files → Counts → Counts → Stop → Type 0
+IsRunStop None files load store stop = IsUsage stop
+IsRunStop (Some command) files load store stop = IsStop files command load store stop
+
+-- no file changes but the command's SVF file, and none at all without a command
+abbrev pub OnlySvfChanges : Option Command → Option Files → Option Files → Type 0
+OnlySvfChanges None old new = new ≡ old
+OnlySvfChanges (Some command) old new = OthersStay old new command.svf

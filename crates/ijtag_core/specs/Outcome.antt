@@ -4,6 +4,8 @@ use Rattle.ij_io.specs.Bytes.{Adds, AddsPart}
 use Rattle.ij_io.specs.Causes.{Rose}
 use Rattle.ij_io.specs.Files.{Files, file_at}
 use Rattle.std.specs.Option.{option_map}
+use Rattle.ijtag_core.specs.declared.status.Status.{Status}
+use Rattle.ijtag_core.specs.declared.status.Status.TheVariants.{Good, Differs, Usage, Refused, ReadFault, WriteFault, OutOfMemory}
 
 -- a count of one of these names rose
 abbrev pub SomeRose : (List ℕ → ℕ) → (List ℕ → ℕ) → List (List ℕ) → Type 0
@@ -21,3 +23,23 @@ OnlyChanges name old new = (other : List ℕ) → (other ≡ name → ⊥) → f
 -- the file is as before, or holds some first bytes of the text, where the files are told
 abbrev pub IsPart : Option Files → Option (Option (List ℕ)) → Option (Option (List ℕ)) → List ℕ → Type 0
 IsPart files old new text = (new ≡ old) ⊎ ((count : ℕ) × (new ≡ option_map (λ _. Some (take count text)) files))
+
+-- a status at which no file was begun
+abbrev pub IsEarlyStatus : Status → Type 0
+IsEarlyStatus Good = ⊥
+IsEarlyStatus Differs = ⊥
+IsEarlyStatus Usage = Unit {0}
+IsEarlyStatus Refused = Unit {0}
+IsEarlyStatus ReadFault = Unit {0}
+IsEarlyStatus WriteFault = ⊥
+IsEarlyStatus OutOfMemory = ⊥
+
+-- a status at which the SVF file may hold a part of its text
+abbrev pub IsPartStatus : Status → Type 0
+IsPartStatus Good = ⊥
+IsPartStatus Differs = ⊥
+IsPartStatus Usage = ⊥
+IsPartStatus Refused = ⊥
+IsPartStatus ReadFault = ⊥
+IsPartStatus WriteFault = Unit {0}
+IsPartStatus OutOfMemory = Unit {0}

@@ -4,11 +4,14 @@
 mod accept;
 mod compile;
 mod limits;
+mod run;
 mod sources;
 mod status;
 mod stop;
+mod top;
 mod words;
 mod write;
 
 pub use limits::SOURCE_LIMIT;
 pub use status::Status;
+pub use top::ijtag;
