@@ -14,7 +14,11 @@ use register_compiler::find_unapplied;
 use std::alloc::Global;
 
 /// The design and the procedure of the texts, each command of which an iApply follows.
-pub(crate) fn accept<'a>(alloc: Global, words: &CompileWords<'a>, sources: &Sources) -> Result<Form, Stop<'a>>
+pub(crate) fn accept<'a>(
+    alloc: Global,
+    words: &CompileWords<'a>,
+    sources: &Sources,
+) -> Result<Form, Stop<'a>>
     ensures form { IfOk result (λ form. AreOf (seen_form form) sources.now.icl.items sources.now.pdl.items sources.now.device.items (seen_words words.now)) }
     ensures applied { IfOk result (λ form. unapplied_line (seen_form form).lines ≡ None) }
     ensures stop { IfErr result (λ stop. IsTextStop sources.now.icl.items sources.now.pdl.items sources.now.device.items (seen_words words.now) (seen_stop stop)) }

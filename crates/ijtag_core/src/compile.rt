@@ -13,7 +13,11 @@ use ij_io::{Shelf, StoreFault};
 use std::alloc::Global;
 
 /// Loads the files of the command, accepts them, and only then writes the SVF file.
-pub(crate) fn compile<'a, S: Shelf>(alloc: Global, words: &CompileWords<'a>, shelf: &mut S) -> Result<(), Stop<'a>>
+pub(crate) fn compile<'a, S: Shelf>(
+    alloc: Global,
+    words: &CompileWords<'a>,
+    shelf: &mut S,
+) -> Result<(), Stop<'a>>
     ensures done { OnOk result (IfSome (S.files shelf.old) (λ f. IsCompiled f (seen_words words.now) (file_at (S.files shelf.new) words.now.svf.now))) }
     ensures stop { IfErr result (λ stop. IsStop (S.files shelf.old) (seen_words words.now) (record { before = S.load_faults shelf.old; now = S.load_faults shelf.new }) (record { before = S.store_faults shelf.old; now = S.store_faults shelf.new }) (seen_stop stop)) }
     ensures early { IfErr result (λ stop. IsEarly (seen_stop stop) → S.files shelf.new ≡ S.files shelf.old) }

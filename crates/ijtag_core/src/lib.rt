@@ -4,14 +4,18 @@
 mod accept;
 mod compile;
 mod limits;
+mod memory;
 mod run;
 mod sources;
 mod status;
 mod stop;
+#[cfg(test)]
+mod tests;
 mod top;
 mod words;
 mod write;
 
 pub use limits::SOURCE_LIMIT;
+pub use memory::ijtag_in_memory;
 pub use status::Status;
 pub use top::ijtag;

@@ -13,7 +13,11 @@ use ij_io::Shelf;
 use std::alloc::Global;
 
 /// Does what the words say.
-pub(crate) fn run<'a, S: Shelf>(alloc: Global, words: &'a Vec<String>, shelf: &mut S) -> Result<(), Stop<'a>>
+pub(crate) fn run<'a, S: Shelf>(
+    alloc: Global,
+    words: &'a Vec<String>,
+    shelf: &mut S,
+) -> Result<(), Stop<'a>>
     ensures done { OnOk result (IfSome (command_of (map string_bytes words.now.items)) (λ command. IfSome (S.files shelf.old) (λ f. IsCompiled f command (file_at (S.files shelf.new) command.svf)))) }
     ensures command { OnOk result (IsSome (command_of (map string_bytes words.now.items))) }
     ensures stop { IfErr result (λ stop. IsRunStop (command_of (map string_bytes words.now.items)) (S.files shelf.old) (record { before = S.load_faults shelf.old; now = S.load_faults shelf.new }) (record { before = S.store_faults shelf.old; now = S.store_faults shelf.new }) (seen_stop stop)) }

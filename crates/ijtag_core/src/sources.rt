@@ -39,7 +39,11 @@ fn load<'a, S: Shelf>(alloc: Global, name: &'a str, shelf: &mut S) -> Result<Vec
 }
 
 /// Loads the files of a command in their order.
-pub(crate) fn load_sources<'a, S: Shelf>(alloc: Global, words: &CompileWords<'a>, shelf: &mut S) -> Result<Sources, Stop<'a>>
+pub(crate) fn load_sources<'a, S: Shelf>(
+    alloc: Global,
+    words: &CompileWords<'a>,
+    shelf: &mut S,
+) -> Result<Sources, Stop<'a>>
     ensures icl { IfOk result (λ sources. IfSome (S.files shelf.old) (λ f. sources.icl.items ≡ bytes_of f words.now.icl.now)) }
     ensures pdl { IfOk result (λ sources. IfSome (S.files shelf.old) (λ f. sources.pdl.items ≡ bytes_of f words.now.pdl.now)) }
     ensures device { IfOk result (λ sources. IfSome (S.files shelf.old) (λ f. sources.device.items ≡ bytes_of f words.now.device.now)) }

@@ -18,7 +18,13 @@ use ij_io::{Shelf, Sink};
 use std::alloc::Global;
 
 /// Runs the program with these words over files and streams, and says how it ended.
-pub fn ijtag<S: Shelf, O: Sink, E: Sink>(alloc: Global, words: &Vec<String>, shelf: &mut S, out: &mut O, err: &mut E) -> Status
+pub fn ijtag<S: Shelf, O: Sink, E: Sink>(
+    alloc: Global,
+    words: &Vec<String>,
+    shelf: &mut S,
+    out: &mut O,
+    err: &mut E,
+) -> Status
     // Usage exactly where the words are no command.
     ensures usage { result ≡ Status.Usage → IsNone (command_of (map string_bytes words.now.items)) }
     ensures no_command { IsNone (command_of (map string_bytes words.now.items)) → (result ≡ Status.Usage) ⊎ (result ≡ Status.OutOfMemory) }

@@ -18,7 +18,12 @@ use register_compiler::put_svf;
 use std::alloc::Global;
 
 /// Begins the SVF file and writes the procedure's text. The text is made whole before the file is begun.
-pub(crate) fn write_svf<S: Shelf>(alloc: Global, name: &str, form: &Form, shelf: &mut S) -> Result<(), StoreFault>
+pub(crate) fn write_svf<S: Shelf>(
+    alloc: Global,
+    name: &str,
+    form: &Form,
+    shelf: &mut S,
+) -> Result<(), StoreFault>
     requires { IsForm (seen_form form.now) }
     ensures whole { OnOk result (file_at (S.files shelf.new) name.now ≡ option_map (λ _. Some (svf_text (seen_form form.now))) (S.files shelf.old)) }
     ensures part { OnErr result (IsPart (S.files shelf.old) (file_at (S.files shelf.old) name.now) (file_at (S.files shelf.new) name.now) (svf_text (seen_form form.now))) }

@@ -1,0 +1,208 @@
+// Runs of the program over memory and over real files.
+use crate::{Status, ijtag, ijtag_in_memory};
+use ij_io::{HostShelf, HostSink, MemShelf, MemSink, SureShelf, SureSink};
+use std::alloc::{AllocError, Global};
+use std::test::Fail;
+use std::{env, fs, process};
+
+const ICL: &[u8] =
+    b"Module Net {\n  ScanInPort SI; ScanOutPort SO { Source R[0]; }\n  ScanInterface client { Port SI; Port SO; }\n  ScanRegister R[3:0] { ScanInSource SI; CaptureSource R; ResetValue 4'b0; }\n}\nModule chip {\n  Instance net Of Net;\n  AccessLink tap Of STD_1149_1_2001 {\n    BSDLEntity chip; IJTAG { ScanInterface { net.client; } }\n  }\n}\n";
+
+const PDL: &[u8] = b"iProcsForModule chip\niProc p {} {\n  iWrite net.R 0b0101\n  iApply\n}\n";
+
+const DEVICE: &[u8] = b"device 1\nir 8\nlink tap IJTAG A0\n";
+
+const SVF: &[u8] =
+    b"ENDIR IDLE;\nENDDR IDLE;\nSTATE RESET;\nSTATE IDLE;\nSIR 8 TDI (A0);\n! apply 1\nSDR 4 TDI (5);\n";
+
+const PREFACE: &[u8] = b"ENDIR IDLE;\nENDDR IDLE;\nSTATE RESET;\nSTATE IDLE;\nSIR 8 TDI (A0);\n";
+
+fn words(alloc: Global, parts: &[&str]) -> Result<Vec<String>, AllocError> {
+    let mut words = Vec::new(alloc);
+    for part in parts {
+        words.push(String::from_str(alloc, part)?)?;
+    }
+    Ok(words)
+}
+
+fn compile_words(alloc: Global) -> Result<Vec<String>, AllocError> {
+    words(
+        alloc,
+        &["compile", "a.icl", "a.pdl", "a.dev", "chip", "p", "a.svf"],
+    )
+}
+
+/// The files of the flat write with another procedure.
+fn shelf_with(alloc: Global, pdl: &[u8]) -> Result<MemShelf, AllocError> {
+    let mut shelf = MemShelf::new(alloc);
+    for (name, text) in [("a.icl", ICL), ("a.pdl", pdl), ("a.dev", DEVICE)] {
+        if shelf.put_file(name, text).is_err() {
+            return Err(AllocError);
+        }
+    }
+    Ok(shelf)
+}
+
+#[test]
+fn texts_and_statuses_in_memory(rt: HostRuntime) -> Result<(), Fail> {
+    let alloc = rt.alloc();
+    let words = compile_words(alloc)?;
+    for (pdl, status, svf, said) in [
+        (PDL, Status::Good, Some(SVF), b"".as_slice()),
+        (
+            b"iProcsForModule chip\niProc p {} {\n}\n",
+            Status::Good,
+            Some(PREFACE),
+            b"",
+        ),
+        (
+            b"iProcsForModule chip\niProc p {} {\n  iApply\n}\n",
+            Status::Good,
+            Some(PREFACE),
+            b"",
+        ),
+        (
+            b"iProcsForModule chip\niProc p {} {\n  iWrite net.R 0b0101\n}\n",
+            Status::Refused,
+            None,
+            b"refused pdl Unapplied 3:3\n",
+        ),
+        (
+            b"iProcsForModule chip\niProc q {} {\n}\n",
+            Status::Refused,
+            None,
+            b"refused core FirstForm\n",
+        ),
+    ] {
+        let mut shelf = shelf_with(alloc, pdl)?;
+        let mut out = MemSink::new(alloc);
+        let mut err = MemSink::new(alloc);
+        assert_eq!(rt;
+            ijtag(alloc, &words, &mut shelf, &mut out, &mut err),
+            status
+        );
+        assert_eq!(rt; shelf.file("a.svf"), svf);
+        assert_eq!(rt; err.bytes(), said);
+    }
+    Ok(())
+}
+
+#[test]
+fn each_call_of_the_shelf_fails_once(rt: HostRuntime) -> Result<(), Fail> {
+    let alloc = rt.alloc();
+    let words = compile_words(alloc)?;
+    for call in 1..7u32 {
+        let mut shelf = shelf_with(alloc, PDL)?;
+        shelf.fail_at(&[call])?;
+        let mut out = MemSink::new(alloc);
+        let mut err = MemSink::new(alloc);
+        let status = ijtag(alloc, &words, &mut shelf, &mut out, &mut err);
+        let svf = shelf.file("a.svf");
+        match call {
+            1..=3 => {
+                assert_eq!(rt; status, Status::ReadFault);
+                assert!(rt; svf.is_none());
+            }
+            4 | 5 => {
+                assert_eq!(rt; status, Status::WriteFault);
+                assert!(rt; SVF.starts_with(svf.unwrap_or(b"")));
+                assert_eq!(rt; err.bytes(), b"write fault a.svf\n".as_slice());
+            }
+            _ => {
+                assert_eq!(rt; status, Status::Good);
+                assert_eq!(rt; svf, Some(SVF));
+            }
+        }
+    }
+    Ok(())
+}
+
+#[test]
+fn no_words_and_a_missing_file(rt: HostRuntime) -> Result<(), Fail> {
+    let alloc = rt.alloc();
+    let mut shelf = MemShelf::new(alloc);
+    let mut out = MemSink::new(alloc);
+    let mut err = MemSink::new(alloc);
+    let status = ijtag(alloc, &Vec::new(alloc), &mut shelf, &mut out, &mut err);
+    assert_eq!(rt; status.code(), 2);
+    assert_eq!(rt; err.bytes(), b"usage: ijtag compile\n".as_slice());
+    let status = ijtag(
+        alloc,
+        &compile_words(alloc)?,
+        &mut shelf,
+        &mut out,
+        &mut err,
+    );
+    assert_eq!(rt; status.code(), 4);
+    assert_eq!(rt;
+        err.bytes(),
+        b"usage: ijtag compile\nread fault a.icl\n".as_slice()
+    );
+    Ok(())
+}
+
+#[test]
+fn sure_files_take_the_whole_text(rt: HostRuntime) -> Result<(), Fail> {
+    let alloc = rt.alloc();
+    let mut shelf = SureShelf::new(alloc);
+    shelf.put_file("a.icl", ICL)?;
+    shelf.put_file("a.pdl", PDL)?;
+    shelf.put_file("a.dev", DEVICE)?;
+    let mut out = SureSink::new(alloc);
+    let mut err = SureSink::new(alloc);
+    let status = ijtag_in_memory(
+        alloc,
+        &compile_words(alloc)?,
+        &mut shelf,
+        &mut out,
+        &mut err,
+    );
+    assert_eq!(rt; status.code(), 0);
+    assert_eq!(rt; shelf.file("a.svf"), Some(SVF));
+    Ok(())
+}
+
+#[test]
+fn real_files_and_streams(rt: HostRuntime) -> Result<(), Fail> {
+    let alloc = rt.alloc();
+    let folder = env::temp_dir(&rt)?;
+    let stem = format!(in alloc; "{}/ijtag-{}", folder.as_path().display(), process::id(rt.process()))?;
+    let icl = format!(in alloc; "{stem}.icl")?;
+    let pdl = format!(in alloc; "{stem}.pdl")?;
+    let device = format!(in alloc; "{stem}.dev")?;
+    let svf = format!(in alloc; "{stem}.svf")?;
+    fs::write(&rt, icl.as_str(), ICL)?;
+    fs::write(&rt, pdl.as_str(), PDL)?;
+    fs::write(&rt, device.as_str(), DEVICE)?;
+    let words = words(
+        alloc,
+        &[
+            "compile",
+            icl.as_str(),
+            pdl.as_str(),
+            device.as_str(),
+            "chip",
+            "p",
+            svf.as_str(),
+        ],
+    )?;
+    let mut out = HostSink::new(rt.stdout());
+    let mut err = HostSink::new(rt.stderr());
+    let written = fs::read(&rt, svf.as_str());
+    assert!(rt; written.is_err());
+    let mut shelf = HostShelf::new(&rt, alloc);
+    assert_eq!(rt;
+        ijtag(alloc, &words, &mut shelf, &mut out, &mut err).code(),
+        0
+    );
+    let written = fs::read(&rt, svf.as_str())?;
+    assert_eq!(rt; written.as_slice(), SVF);
+    assert_eq!(rt;
+        ijtag(alloc, &Vec::new(alloc), &mut shelf, &mut out, &mut err).code(),
+        2
+    );
+    for name in [icl.as_str(), pdl.as_str(), device.as_str(), svf.as_str()] {
+        fs::remove_file(&rt, name)?;
+    }
+    Ok(())
+}
