@@ -269,4 +269,4 @@ one_register_law width net device xs one some d p =
 -- so the written text is right
 pub one_register_is_right : OneRegisterIsRight
 one_register_is_right width net device xs w one d p =
-    record { valid = record { well_formed = w; carried = d; on_data = steps_valid width net one (start_bits net) xs p }; script = map done_of xs; does = refl; written = written width (start_bits net) xs p; text = refl; plays = λ machines e. subst (λ ms. PlaysAs net device ms (map done_of xs)) (sym e) (one_register_law width net device xs one (some_width width net w one) d p) }
+    record { valid = record { well_formed = w; carried = d; on_data = steps_valid width net one (start_bits net) xs p }; does = refl; written = written width (start_bits net) xs p; text = refl; plays = λ machines e. subst (λ ms. PlaysAs net device ms (map done_of xs)) (sym e) (one_register_law width net device xs one (some_width width net w one) d p) }

@@ -56,11 +56,14 @@ pub record AreValid (net : Net) (device : Device) (steps : List SeenStep) : Type
   pub carried : IsDevice device
   pub on_data : All (IsStep net) steps
 
--- the bytes are the text of one script that does these steps, whatever machines fit the instruments
-pub record IsRight (Fits : List Machine → Type 0) (net : Net) (device : Device) (steps : List SeenStep) (bytes : List ℕ) : Type 0 where
+-- the bytes are the text of this script, which does these steps, whatever machines fit the instruments
+pub record IsRightBy (Fits : List Machine → Type 0) (net : Net) (device : Device) (steps : List SeenStep) (script : List Done) (bytes : List ℕ) : Type 0 where
   pub valid : AreValid net device steps
-  pub script : List Done
   pub does : steps_of script ≡ steps
   pub written : AreWritten script
   pub text : bytes ≡ script_text device script
   pub plays : (machines : List Machine) → Fits machines → PlaysAs net device machines script
+
+-- the bytes are the text of some such script
+abbrev pub IsRight : (List Machine → Type 0) → Net → Device → List SeenStep → List ℕ → Type 0
+IsRight Fits net device steps bytes = (script : List Done) × IsRightBy Fits net device steps script bytes

@@ -20,7 +20,7 @@ use Rattle.std.specs.Option.{is_some}
 use Rattle.tap_machine.specs.Play.{played, nothing_kept, is_empty}
 use Rattle.instruments.specs.Machine.{Machine}
 use Rattle.headline.specs.Script.{Done, IsZeroUnmasked, script_text, steps_of}
-use Rattle.headline.specs.Headline.{PlaysAs, IsRight}
+use Rattle.headline.specs.Headline.{PlaysAs, IsRightBy}
 
 -- the bits of the register after a list of writes
 abbrev pub write_reg : List Bool → List WriteBit → List Bool
@@ -78,4 +78,4 @@ abbrev pub OneRegisterIsRight : Type 0
 OneRegisterIsRight =
     (width : ℕ) (net : Net) (device : Device) (xs : List (SeenGroup × SeenScan)) →
     IsNet net → IsOneRegister width net → IsDevice device → ArePlanned width (start_bits net) xs →
-    IsRight NoMachines net device (steps_of (map done_of xs)) (script_text device (map done_of xs))
+    IsRightBy NoMachines net device (steps_of (map done_of xs)) (map done_of xs) (script_text device (map done_of xs))

@@ -8,7 +8,7 @@ ghost use Rattle.headline.specs.Sizes.{OneRegisterIsShort, WrittenScriptsFit};
 ///
 /// - `plays`: for any list of groups with a scan for each, as `ArePlanned` says, the written commands, played clock by
 ///   clock from power-up, do what the groups mean: see `PlaysAs`.
-/// - `right`: so the text of these commands is that of the procedure: see `IsRight`.
+/// - `right`: so the text of these commands is that of the procedure: see `IsRightBy`.
 /// - `short`: for a register of at most 64 bits and at most 1000 groups the clocks and the bytes are within what a
 ///   reader of SVF takes: see `IsShort`.
 /// - `fit`: on any network, the commands of a script that is written can be played: each scan has its bits.

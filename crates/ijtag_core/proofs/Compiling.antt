@@ -4,10 +4,11 @@ use Rattle.std.proofs.Common.{◌≡◌, inl, inr, ℕ, Option, Some, None, List
 use Rattle.ij_io.specs.Files.{Files, bytes_of, file_at}
 use Rattle.first_form.specs.Texts.{SeenForm}
 use Rattle.register_compiler.specs.Procedure.{unapplied_line}
+use Rattle.register_compiler.specs.Meaning.{DoesProcedure}
 use Rattle.register_compiler.specs.Svf.{svf_text}
 use Rattle.ijtag_core.specs.Accepted.{first_long, AreOf, AreAccepted}
 use Rattle.ijtag_core.specs.Command.{Command, loads}
-use Rattle.ijtag_core.specs.Compiled.{DoesProcedure, IsCompiled, IsPartOfSvf}
+use Rattle.ijtag_core.specs.Compiled.{IsCompiled, IsPartOfSvf}
 use Rattle.ijtag_core.specs.Outcome.{IsPart}
 
 -- what was loaded is accepted

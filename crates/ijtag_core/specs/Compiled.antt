@@ -1,21 +1,13 @@
 -- What a compile does with a command's files, and why it stops short.
 use Rattle.std.specs.Prelude.{◌≡◌, ◌⊎◌, ℕ, List, Option, Some, None, take, IfSome, Contains}
-use Rattle.net_graph.specs.OneRegister.{plain_net}
-use Rattle.headline.specs.Headline.{IsRight}
-use Rattle.headline.specs.OneScan.{NoMachines}
 use Rattle.ij_io.specs.Causes.{Rose}
 use Rattle.ij_io.specs.Files.{Files, OthersStay}
 use Rattle.first_form.specs.Texts.{SeenForm}
-use Rattle.register_compiler.specs.Procedure.{device_of, steps_of_lines}
+use Rattle.register_compiler.specs.Meaning.{DoesProcedure}
 use Rattle.register_compiler.specs.Svf.{svf_text}
 use Rattle.ijtag_core.specs.Accepted.{AreAccepted, IsFirstRefusal}
 use Rattle.ijtag_core.specs.Command.{Command, loads}
 use Rattle.ijtag_core.specs.Stops.{Stop, Usage, Refuses, ReadFault, WriteFault, NoMemory}
-
--- the SVF text, played clock by clock from power-up, does on the register what the procedure means
-abbrev pub DoesProcedure : SeenForm → List ℕ → Type 0
-DoesProcedure form bytes =
-    IsRight NoMachines (plain_net form.width) (device_of form.opcode) (steps_of_lines form.lines) bytes
 
 -- the files are accepted, and the SVF file holds exactly the text, which does what the procedure means
 pub record IsCompiled (files : Files) (command : Command) (svf : Option (Option (List ℕ))) : Type 0 where

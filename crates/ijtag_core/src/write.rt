@@ -1,14 +1,11 @@
 // The SVF file.
 ghost use Rattle.std.specs.Prelude.{◌≡◌, Some, OnOk, OnErr};
 ghost use Rattle.std.specs.Option.{option_map};
-ghost use Rattle.net_graph.specs.OneRegister.{plain_net};
-ghost use Rattle.headline.specs.Headline.{IsRight};
-ghost use Rattle.headline.specs.OneScan.{NoMachines};
 ghost use Rattle.ij_io.specs.Causes.{HasCauseAt, SameCounts};
 ghost use Rattle.ij_io.specs.Files.{file_at, OthersStay};
 ghost use Rattle.first_form.specs.Texts.{IsForm};
 ghost use Rattle.first_form.specs.SeenForms.{seen_form};
-ghost use Rattle.register_compiler.specs.Procedure.{device_of, steps_of_lines};
+ghost use Rattle.register_compiler.specs.Meaning.{DoesProcedure};
 ghost use Rattle.register_compiler.specs.Svf.{svf_text};
 ghost use Rattle.ijtag_core.specs.Outcome.{IsPart};
 
@@ -30,7 +27,7 @@ pub(crate) fn write_svf<S: Shelf>(
     ensures others { OthersStay (S.files shelf.old) (S.files shelf.new) name.now }
     ensures cause { HasCauseAt name.now (S.store_faults shelf.old) (S.store_faults shelf.new) result StoreFault.Failed }
     ensures loads { SameCounts (S.load_faults shelf.old) (S.load_faults shelf.new) }
-    ensures right { let seen = seen_form form.now in IsRight NoMachines (plain_net seen.width) (device_of seen.opcode) (steps_of_lines seen.lines) (svf_text seen) }
+    ensures right { DoesProcedure (seen_form form.now) (svf_text (seen_form form.now)) }
 {
     let mut text = SureSink::new(alloc);
     put_svf(alloc, form, &mut text)?;

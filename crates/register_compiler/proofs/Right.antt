@@ -8,14 +8,15 @@ use Rattle.net_graph.specs.Nets.{IsNet}
 use Rattle.net_graph.specs.OneRegister.{plain_net, plain_net_is_one}
 use Rattle.net_graph.specs.Resets.{reset_bits}
 use Rattle.net_graph.proofs.PlainNet.{plain_net_is_net}
-use Rattle.headline.specs.Script.{script_text, steps_of}
+use Rattle.headline.specs.Script.{Done, script_text, steps_of}
 use Rattle.headline.specs.OneScan.{ArePlanned, done_of, start_bits, NoMachines}
-use Rattle.headline.specs.Headline.{IsRight}
+use Rattle.headline.specs.Headline.{IsRightBy}
 use Rattle.headline.specs.Sizes.{IsShort}
 use Rattle.headline.proofs.OneRegisterPlay.{one_register_is_right}
 use Rattle.headline.proofs.Sizes.{one_register_is_short}
 use Rattle.first_form.specs.Texts.{SeenForm, IsForm}
 use Rattle.register_compiler.specs.Procedure.{Queue, device_of, queues_of, steps_of_lines}
+use Rattle.register_compiler.specs.Meaning.{DoesProcedure}
 use Rattle.register_compiler.specs.Svf.{svf_text}
 use Rattle.register_compiler.specs.Planned.{planned, plan_of}
 use Rattle.register_compiler.proofs.Written.{steps_are, svf_text_is}
@@ -50,21 +51,24 @@ pub few_scans : (form : SeenForm) → IsForm form → length (plan_of form) ≤ 
 few_scans form f =
     omega (arith, length-planned form.width (replicate form.width false) (queues_of form.lines), few_queues form f)
 
--- the text, played, does what the procedure means
-pub form_is_right : (form : SeenForm) → IsForm form → IsRight NoMachines (plain_net form.width) (device_of form.opcode) (steps_of_lines form.lines) (svf_text form)
-form_is_right form f =
+-- the script of a form
+abbrev script_of : SeenForm → List Done
+script_of form = map done_of (plan_of form)
+
+right_by : (form : SeenForm) → IsForm form → IsRightBy NoMachines (plain_net form.width) (device_of form.opcode) (steps_of_lines form.lines) (script_of form) (svf_text form)
+right_by form f =
     let net = plain_net form.width in
     let device = device_of form.opcode in
     let start = subst (λ bits. ArePlanned form.width bits (plan_of form)) (sym (starts_at_zero form.width)) (plan_is_planned form f) in
-    let right : IsRight NoMachines net device (steps_of (map done_of (plan_of form))) (script_text device (map done_of (plan_of form))) = one_register_is_right form.width net device (plan_of form) (net_is form f) (plain_net_is_one form.width) (device_is form.opcode f.opcode) start in
-    let steps : IsRight NoMachines net device (steps_of_lines form.lines) (script_text device (map done_of (plan_of form))) = subst (λ steps. IsRight NoMachines net device steps (script_text device (map done_of (plan_of form)))) (steps_are form) right in
-    subst (IsRight NoMachines net device (steps_of_lines form.lines)) (sym (svf_text_is form)) steps
+    let right : IsRightBy NoMachines net device (steps_of (script_of form)) (script_of form) (script_text device (script_of form)) = one_register_is_right form.width net device (plan_of form) (net_is form f) (plain_net_is_one form.width) (device_is form.opcode f.opcode) start in
+    let steps : IsRightBy NoMachines net device (steps_of_lines form.lines) (script_of form) (script_text device (script_of form)) = subst (λ steps. IsRightBy NoMachines net device steps (script_of form) (script_text device (script_of form))) (steps_are form) right in
+    subst (IsRightBy NoMachines net device (steps_of_lines form.lines) (script_of form)) (sym (svf_text_is form)) steps
 
 -- its clocks and bytes are within the limits
 pub form_is_short : (form : SeenForm) → IsForm form → IsShort (device_of form.opcode) (map done_of (plan_of form))
 form_is_short form f =
     one_register_is_short form.width (replicate form.width false) (device_of form.opcode) (plan_of form) f.few_bits (few_scans form f) (device_is form.opcode f.opcode) (plan_is_planned form f)
 
-pub text_is_short : (form : SeenForm) → IsForm form → length (svf_text form) ≤ 134217728
-text_is_short form f =
-    subst (λ bytes. length bytes ≤ 134217728) (sym (svf_text_is form)) (form_is_short form f).few_bytes
+-- the text, played, does what the procedure means
+pub form_is_right : (form : SeenForm) → IsForm form → DoesProcedure form (svf_text form)
+form_is_right form f = record { script = script_of form; right = right_by form f; short = form_is_short form f }

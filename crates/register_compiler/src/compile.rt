@@ -1,13 +1,11 @@
 // The SVF of a procedure.
 ghost use Rattle.std.specs.Prelude.{◌≡◌, ◌≤◌, OnOk, OnErr, Option};
-ghost use Rattle.net_graph.specs.OneRegister.{plain_net};
 ghost use Rattle.ij_io.specs.Bytes.{Adds, AddsPart};
 ghost use Rattle.ij_io.specs.Causes.{HasCause};
-ghost use Rattle.headline.specs.Headline.{IsRight};
-ghost use Rattle.headline.specs.OneScan.{NoMachines};
 ghost use Rattle.first_form.specs.Texts.{IsForm};
 ghost use Rattle.first_form.specs.SeenForms.{seen_form, seen_lines};
-ghost use Rattle.register_compiler.specs.Procedure.{device_of, steps_of_lines, unapplied_line};
+ghost use Rattle.register_compiler.specs.Procedure.{unapplied_line};
+ghost use Rattle.register_compiler.specs.Meaning.{DoesProcedure};
 ghost use Rattle.register_compiler.specs.Svf.{svf_text, lines_svf, at_start};
 
 use crate::device::make_device;
@@ -58,7 +56,7 @@ pub fn put_svf<K: Sink>(alloc: Global, form: &Form, k: &mut K) -> Result<(), Sto
     ensures whole { OnOk result (Adds (K.taken k.old) (K.taken k.new) (svf_text (seen_form form.now))) }
     ensures part { OnErr result (AddsPart (K.taken k.old) (K.taken k.new) (svf_text (seen_form form.now))) }
     ensures cause { HasCause (K.faults k.old) (K.faults k.new) result StoreFault.Failed }
-    ensures right { IsRight NoMachines (plain_net form.now.width) (device_of form.now.opcode) (steps_of_lines (seen_lines form.now.lines.items)) (svf_text (seen_form form.now)) }
+    ensures right { DoesProcedure (seen_form form.now) (svf_text (seen_form form.now)) }
 {
     let device = make_device(alloc, form.opcode)?;
     put_preface(&device, k)?;
