@@ -64,7 +64,3 @@ form_is_right form f =
 pub form_is_short : (form : SeenForm) → IsForm form → IsShort (device_of form.opcode) (map done_of (plan_of form))
 form_is_short form f =
     one_register_is_short form.width (replicate form.width false) (device_of form.opcode) (plan_of form) f.few_bits (few_scans form f) (device_is form.opcode f.opcode) (plan_is_planned form f)
-
-pub text_is_short : (form : SeenForm) → IsForm form → length (svf_text form) ≤ 134217728
-text_is_short form f =
-    subst (λ bytes. length bytes ≤ 134217728) (sym (svf_text_is form)) (form_is_short form f).few_bytes
