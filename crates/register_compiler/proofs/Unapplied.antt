@@ -1,9 +1,9 @@
 -- The first command that no iApply follows: the count over the lines finds it.
 use Rattle.std.proofs.Common.{◌≡◌, ◌+◌, ℕ, suc, List, [], ◌∷◌, ◌++◌, length, Option, Some, None, refl, sym, ap, ◌∙◌, subst, arith, append_assoc, append-nil, length-append, inl, inr}
-use Rattle.std.specs.Prelude.{All, unwrap_or}
+use Rattle.std.specs.Prelude.{unwrap_or}
 use Rattle.std.proofs.lemmas.List.Elements.{All-nil, All-cons, All-push}
 use Rattle.first_form.specs.Texts.{SeenLine, Write, Read, Apply}
-use Rattle.register_compiler.specs.Procedure.{IsQueueing, AreApplied, IsFirstUnapplied, IsUnapplied, unapplied_from, unapplied_line}
+use Rattle.register_compiler.specs.Procedure.{IsQueueing, IsFirstUnapplied, IsUnapplied, unapplied_from, unapplied_line}
 
 -- one command more that waits
 waits : (before : List SeenLine) (pending : Option ℕ) (line : ℕ) (command : SeenLine) → IsQueueing command → line ≡ 3 + length before → IsUnapplied before pending → IsFirstUnapplied (before ++ command ∷ []) (unwrap_or pending line)

@@ -1,5 +1,5 @@
 // The SVF of a procedure, and the commands that it leaves without an iApply.
-ghost use Rattle.std.specs.Prelude.{◌≡◌, ◌≤◌, OnOk, OnErr, Option};
+ghost use Rattle.std.specs.Prelude.{◌≡◌, OnOk, OnErr, Option};
 ghost use Rattle.net_graph.specs.OneRegister.{plain_net};
 ghost use Rattle.ij_io.specs.Bytes.{Adds, AddsPart};
 ghost use Rattle.ij_io.specs.Causes.{HasCause};

@@ -1,4 +1,4 @@
-use Rattle.std.proofs.Common.{◌∙◌, ◌++◌, sym, subst, arith, Option, ℕ, List, length, ap}
+use Rattle.std.proofs.Common.{◌∙◌, sym, subst, arith, List, length, ap}
 use Rattle.std.proofs.lemmas.List.{at_drop_all}
 use Rattle.first_form.specs.declared.form.Line.{Line}
 use Rattle.first_form.specs.SeenForms.{seen_lines}
