@@ -15,6 +15,7 @@ planned width held [] = []
 planned width held (q ∷ qs) =
     (group_of q, scan_of width held q.write (option_map (λ r. r.expect) q.read)) ∷ planned width (unwrap_or q.write held) qs
 
+-- the plan of a procedure, from power-up, where the register holds 0
 abbrev pub plan_of : SeenForm → List (SeenGroup × SeenScan)
 plan_of form = planned form.width (replicate form.width false) (queues_of form.lines)
 
