@@ -1,6 +1,6 @@
 -- A text begins with one line of a procedure at most.
 use Rattle.std.specs.Prelude.{codes, ◌==◌, All}
-use Rattle.std.proofs.Common.{◌≡◌, ◌≢◌, ℕ, suc, Bool, true, false, List, [], ◌∷◌, ◌++◌, length, get_or, drop, map, reverse, refl, sym, ap, ◌∙◌, arith, append_assoc, ◌<◌, ◌≤◌, length-append, subst, append-nil}
+use Rattle.std.proofs.Common.{◌≡◌, ◌≢◌, ℕ, Bool, true, false, List, [], ◌∷◌, ◌++◌, length, get_or, drop, map, reverse, refl, sym, ap, ◌∙◌, arith, append_assoc, ◌<◌, ◌≤◌, length-append, subst, append-nil}
 use Rattle.std.proofs.lemmas.List.{append_cancel_left, reverse-reverse}
 use Rattle.std.proofs.lemmas.List.Elements.{All-tail}
 use Rattle.std.proofs.Math.Seq.{get_or-append_seam}

@@ -1,4 +1,4 @@
--- Designs of the first form as contracts see them: with plain lists.
+-- Designs of the first form as contracts see them: with plain lists of bits and of lines.
 use Rattle.std.specs.Prelude.{List, map}
 use Rattle.first_form.specs.declared.form.Form.{Form}
 use Rattle.first_form.specs.declared.form.Line.{Line}

@@ -40,6 +40,7 @@ binary_digit false = 48
 abbrev pub binary : List Bool → List ℕ
 binary value = map binary_digit (reverse value)
 
+-- the ICL text of a register of so many bits
 abbrev pub icl_text : ℕ → List ℕ
 icl_text width =
     concat
@@ -47,11 +48,12 @@ icl_text width =
     ∷ codes ":0] { ScanInSource SI; CaptureSource R; ResetValue " ∷ decimal width
     ∷ codes "'b0; }\n}\nModule chip {\n  Instance net Of Net;\n  AccessLink tap Of STD_1149_1_2001 {\n    BSDLEntity chip; IJTAG { ScanInterface { net.client; } }\n  }\n}\n" ∷ [])
 
--- the opcode in two upper-case hexadecimal digits
+-- the device text, with the opcode in two upper-case hexadecimal digits
 abbrev pub device_text : ℕ → List ℕ
 device_text opcode =
     codes "device 1\nir 8\nlink tap IJTAG " ++ (hex_code (opcode / 16) ∷ hex_code (opcode % 16) ∷ codes "\n")
 
+-- a line with its line feed
 abbrev pub line_text : SeenLine → List ℕ
 line_text (Write value) = codes "  iWrite net.R 0b" ++ (binary value ++ codes "\n")
 line_text (Read expect) = codes "  iRead net.R 0b" ++ (binary expect ++ codes "\n")
@@ -61,6 +63,7 @@ abbrev pub lines_text : List SeenLine → List ℕ
 lines_text [] = []
 lines_text (line ∷ lines) = line_text line ++ lines_text lines
 
+-- the PDL text: two lines in front of the procedure's lines, and its closing brace
 abbrev pub pdl_text : List SeenLine → List ℕ
 pdl_text lines = codes "iProcsForModule chip\niProc p {} {\n" ++ (lines_text lines ++ codes "}\n")
 

@@ -1,4 +1,4 @@
-// The three texts together.
+// The three texts together: the width from the ICL text, the opcode from the device text, the lines from the PDL text.
 ghost use Rattle.std.specs.Prelude.{◌/◌, ◌%◌, ◌∷◌, [], ◌≡◌, ◌≢◌, ◌≤◌, ◌<◌, ◌+◌, ℕ, ◌++◌, length, All, IfOk, OnErr, IsErrOf, Err, codes};
 ghost use Rattle.ij_bits.specs.Hex.{hex_code};
 ghost use Rattle.std.specs.Prelude.{List as Items};
@@ -11,7 +11,8 @@ use crate::{Form, FormFault, Line, MAX_LINES, MAX_WIDTH};
 use ij_bits::List;
 use std::alloc::{AllocError, Global};
 
-/// Takes the lines of a procedure up to the closing brace that ends the text.
+/// Takes the lines of a procedure up to the closing brace that ends the text. `FirstForm` comes exactly where the text
+/// isn't at most 1000 lines and the brace.
 fn take_lines(alloc: Global, width: u32, text: &mut Reader<'_>) -> Result<List<Line>, FormFault>
     ensures widths { IfOk result (λ lines. All (HasWidth width) (seen_lines lines.items)) }
     ensures few { IfOk result (λ lines. length lines.items ≤ MAX_LINES) }
@@ -29,7 +30,7 @@ fn take_lines(alloc: Global, width: u32, text: &mut Reader<'_>) -> Result<List<L
     Ok(lines)
 }
 
-/// The ICL text of a register of so many bits.
+/// Renders the ICL text of a register of so many bits.
 fn render_icl(alloc: Global, width: u32) -> Result<String, AllocError>
     requires { 1 ≤ width }
     ensures { IfOk result (λ text. string_bytes text ≡ icl_text width) }
@@ -40,7 +41,7 @@ fn render_icl(alloc: Global, width: u32) -> Result<String, AllocError>
     )
 }
 
-/// The width of the register whose design the text is.
+/// The width of the register whose ICL text this is: the only one of 1 to 64 for which it renders as that text.
 fn read_width(alloc: Global, icl: &[u8]) -> Result<u32, FormFault>
     ensures least { IfOk result (λ width. 1 ≤ width) }
     ensures greatest { IfOk result (λ width. width ≤ MAX_WIDTH) }
@@ -56,7 +57,7 @@ fn read_width(alloc: Global, icl: &[u8]) -> Result<u32, FormFault>
     Err(FormFault::FirstForm)
 }
 
-/// The number of an upper-case hexadecimal digit.
+/// The number of an upper-case hexadecimal digit. `FirstForm` comes at every other byte.
 fn read_hex_digit(digit: u8) -> Result<u8, FormFault>
     ensures small { IfOk result (λ number. number < 16) }
     ensures digit { IfOk result (λ number. digit ≡ hex_code number) }
@@ -69,7 +70,7 @@ fn read_hex_digit(digit: u8) -> Result<u8, FormFault>
     }
 }
 
-/// The number of two upper-case hexadecimal digits.
+/// The number of two upper-case hexadecimal digits, the higher one first. `FirstForm` comes at all other bytes.
 fn read_hex_byte(digits: &[u8]) -> Result<u8, FormFault>
     ensures digits { IfOk result (λ number. digits.now ≡ hex_code (number / 16) ∷ hex_code (number % 16) ∷ []) }
     ensures other { OnErr result ((result ≡ Err FormFault.FirstForm) × ((number : ℕ) → number < 256 → digits.now ≢ hex_code (number / 16) ∷ hex_code (number % 16) ∷ [])) }
@@ -80,7 +81,8 @@ fn read_hex_byte(digits: &[u8]) -> Result<u8, FormFault>
     Ok(16 * read_hex_digit(*high)? + read_hex_digit(*low)?)
 }
 
-/// The opcode of the access link whose device file the text is.
+/// The opcode of the access link whose device text this is. `FirstForm` comes exactly where it is that of no opcode
+/// below 255.
 fn read_opcode(device: &[u8]) -> Result<u8, FormFault>
     ensures small { IfOk result (λ opcode. opcode < 255) }
     ensures text { IfOk result (λ opcode. device.now ≡ device_text opcode) }
@@ -98,7 +100,7 @@ fn read_opcode(device: &[u8]) -> Result<u8, FormFault>
     }
 }
 
-/// The lines of the procedure that the whole text is.
+/// The lines of the procedure whose PDL text this is, for a register of so many bits.
 fn read_procedure(alloc: Global, width: u32, pdl: &[u8]) -> Result<List<Line>, FormFault>
     ensures widths { IfOk result (λ lines. All (HasWidth width) (seen_lines lines.items)) }
     ensures few { IfOk result (λ lines. length lines.items ≤ MAX_LINES) }
@@ -114,8 +116,13 @@ fn read_procedure(alloc: Global, width: u32, pdl: &[u8]) -> Result<List<Line>, F
     }
 }
 
-/// The design and the procedure of the three texts. `FirstForm` comes exactly where the texts aren't those of
-/// any width, opcode and lines.
+/// The design and the procedure of the three texts, which they tell: no other width, opcode and lines have these texts.
+///
+/// # Errors
+///
+/// - `FirstForm`: exactly where the texts aren't those of any width of 1 to 64 bits, any opcode of two upper-case
+///   hexadecimal digits but `FF`, and any at most 1000 lines with values of that width.
+/// - `OutOfMemory`: there was no memory for the ICL text that is compared, for a value or for the list of lines.
 pub fn read_form(alloc: Global, icl: &[u8], pdl: &[u8], device: &[u8]) -> Result<Form, FormFault>
     ensures form { IfOk result (λ form. AreTextsOf (seen_form form) icl.now pdl.now device.now) }
     ensures only { IfOk result (λ form. (other : SeenForm) → AreTextsOf other icl.now pdl.now device.now → other ≡ seen_form form) }

@@ -1,4 +1,4 @@
-// A text that is read from its front.
+// A text that is read from its front: words, and values in binary digits.
 ghost use Rattle.std.specs.Prelude.{◌≡◌, ◌≢◌, ◌<◌, ◌^◌, ℕ, Bool, true, false, List, ◌++◌, length, IfOk, OnErr, IsErrOf, Err};
 ghost use Rattle.first_form.specs.Texts.{binary, binary_digit};
 
@@ -9,11 +9,12 @@ use std::alloc::Global;
 /// What is left of a text.
 #[derive(Drop)]
 pub(crate) struct Reader<'a> {
+    /// The bytes that weren't taken yet.
     pub(crate) rest: &'a [u8],
 }
 
 impl<'a> Reader<'a> {
-    /// Takes the word, where the text goes on with it.
+    /// Takes the word and answers whether the text went on with it. Where it didn't, nothing is taken. No memory.
     pub(crate) fn take(&mut self, word: &[u8]) -> bool
         ensures taken { result ≡ true → self.old.rest.now ≡ word.now ++ self.new.rest.now }
         ensures kept { result ≡ false → self.new.rest.now ≡ self.old.rest.now }
@@ -28,10 +29,13 @@ impl<'a> Reader<'a> {
         }
     }
 
-    /// Takes the digits of a value of so many bits.
+    /// Takes the digits of a value of so many bits, that of the highest position first.
+    ///
+    /// `FirstForm` comes exactly where the text doesn't go on with so many binary digits. A refused call takes nothing.
     pub(crate) fn take_value(&mut self, alloc: Global, width: u32) -> Result<Bits, FormFault>
         ensures width { IfOk result (λ bits. length bits.items ≡ width) }
         ensures taken { IfOk result (λ bits. self.old.rest.now ≡ binary bits.items ++ self.new.rest.now) }
+        ensures kept { OnErr result (self.new.rest.now ≡ self.old.rest.now) }
         ensures other { IsErrOf result FormFault.FirstForm → (value : List Bool) (more : List ℕ) → length value ≡ width → self.old.rest.now ≢ binary value ++ more }
     {
         let Some((digits, rest)) = self.rest.split_at_checked(width as usize) else {
@@ -43,7 +47,7 @@ impl<'a> Reader<'a> {
     }
 }
 
-/// The bits of binary digits, the last digit being position 0.
+/// The bits of binary digits, the last digit being position 0. `FirstForm` comes exactly where a byte is no such digit.
 fn read_binary(alloc: Global, digits: &[u8]) -> Result<Bits, FormFault>
     requires { length digits.now < 2 ^ 32 }
     ensures bits { IfOk result (λ bits. digits.now ≡ binary bits.items) }
@@ -58,7 +62,7 @@ fn read_binary(alloc: Global, digits: &[u8]) -> Result<Bits, FormFault>
     Ok(bits)
 }
 
-/// The bit of a binary digit.
+/// The bit of the digit `0` or `1`. `FirstForm` comes at every other byte.
 fn read_bit(digit: u8) -> Result<bool, FormFault>
     ensures bit { IfOk result (λ bit. digit ≡ binary_digit bit) }
     ensures other { OnErr result ((result ≡ Err FormFault.FirstForm) × ((bit : Bool) → digit ≢ binary_digit bit)) }

@@ -1,5 +1,6 @@
 pub mod Scans
 pub mod Lines
+pub mod Unapplied
 pub mod Whole
 pub mod Written
 pub mod Positions

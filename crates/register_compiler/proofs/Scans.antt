@@ -1,7 +1,7 @@
 -- The scan of an iApply is one that can be written.
 use Rattle.std.specs.Option.{ForSome}
 use Rattle.std.specs.Prelude.{option_map}
-use Rattle.std.proofs.Common.{◌≡◌, ◌≤◌, Bool, true, List, Option, Some, None, length, refl, arith, subst}
+use Rattle.std.proofs.Common.{◌≡◌, ◌≤◌, Bool, true, List, Option, Some, None, length, refl, subst}
 use Rattle.std.proofs.Math.ListN.{length-replicate}
 use Rattle.svf_writer.specs.Fits.{IsWrittenScan}
 use Rattle.register_compiler.specs.Svf.{scan_of}

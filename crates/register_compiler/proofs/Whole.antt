@@ -1,5 +1,5 @@
 -- The whole text: the preface of the device that was made, then the lines.
-use Rattle.std.proofs.Common.{◌≡◌, ℕ, List, ◌++◌, refl, ap, ◌∙◌}
+use Rattle.std.proofs.Common.{◌≡◌, ℕ, List, ◌++◌, ap, ◌∙◌}
 use Rattle.net_graph.specs.declared.device.Device.{Device}
 use Rattle.svf_writer.specs.Written.{preface}
 use Rattle.first_form.specs.Texts.{SeenForm}

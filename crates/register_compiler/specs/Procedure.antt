@@ -1,5 +1,5 @@
 -- What a procedure on one register means, as the bit steps of its lines (IEEE 1687-2014, PDL level 0: iWrite, iRead, iApply).
-use Rattle.std.specs.Prelude.{ℕ, suc, Bool, List, [], ◌∷◌, map, Option, Some, None, unwrap_or, codes}
+use Rattle.std.specs.Prelude.{◌≡◌, ◌⊎◌, ◌+◌, ℕ, suc, Bool, List, [], ◌∷◌, ◌++◌, length, map, Option, Some, None, All, unwrap_or, codes}
 use Rattle.std.specs.Option.{option_map_or}
 use Rattle.ij_bits.specs.Room.{full}
 use Rattle.net_graph.specs.declared.device.Device.{Device}
@@ -73,3 +73,28 @@ unapplied_from line pending (Apply ∷ lines) = unapplied_from (suc line) None l
 -- the line of the first iWrite or iRead that no iApply follows
 abbrev pub unapplied_line : List SeenLine → Option ℕ
 unapplied_line lines = unapplied_from 3 None lines
+
+-- a line that waits for an iApply: an iWrite or an iRead
+abbrev pub IsQueueing : SeenLine → Type 0
+IsQueueing (Write value) = Unit {0}
+IsQueueing (Read expect) = Unit {0}
+IsQueueing Apply = ⊥
+
+-- lines after which nothing waits: there are none, or an iApply is the last
+abbrev pub AreApplied : List SeenLine → Type 0
+AreApplied lines = (lines ≡ []) ⊎ ((before : List SeenLine) × (lines ≡ before ++ Apply ∷ []))
+
+-- the command on this line of the text is the first that no iApply follows
+pub record IsFirstUnapplied (lines : List SeenLine) (line : ℕ) : Type 0 where
+  pub before : List SeenLine
+  pub command : SeenLine
+  pub after : List SeenLine
+  pub parts : lines ≡ before ++ command ∷ after
+  pub applied : AreApplied before
+  pub waiting : All IsQueueing (command ∷ after)
+  pub place : line ≡ 3 + length before
+
+-- the line of the first command that no iApply follows, or none where an iApply follows each
+abbrev pub IsUnapplied : List SeenLine → Option ℕ → Type 0
+IsUnapplied lines None = AreApplied lines
+IsUnapplied lines (Some line) = IsFirstUnapplied lines line

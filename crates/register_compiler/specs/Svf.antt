@@ -18,10 +18,11 @@ abbrev pub scan_of : ℕ → List Bool → Option (List Bool) → Option (List B
 scan_of width held write read =
     record { len = width; tdi = Some (unwrap_or write held); tdo = read; mask = option_map (λ expect. replicate width true) read; smask = None }
 
--- an iApply writes its mark and its scan
+-- the text of an iApply with something queued: its mark and its scan
 abbrev pub apply_text : ℕ → Between → List ℕ
 apply_text width b = mark (suc b.applies) ++ text_of (SDR (scan_of width b.held b.write b.read))
 
+-- then the register holds what was written, and nothing is queued
 abbrev pub after_apply : Between → Between
 after_apply b = record { applies = suc b.applies; held = unwrap_or b.write b.held; write = None; read = None }
 
@@ -35,6 +36,7 @@ line_svf width b (Write value) = []
 line_svf width b (Read expect) = []
 line_svf width b Apply = if_queued b (apply_text width b) []
 
+-- an iWrite or an iRead takes the place of an earlier one, since each names the whole register
 abbrev pub after_line : Between → SeenLine → Between
 after_line b (Write value) = record b { write = Some value }
 after_line b (Read expect) = record b { read = Some expect }

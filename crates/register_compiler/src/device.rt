@@ -1,4 +1,4 @@
-// The device of the first form.
+// The device of the first form (IEEE 1149.1-2013).
 ghost use Rattle.std.specs.Prelude.{◌≡◌, IfOk, None, codes};
 
 use ij_bits::{List, OutOfMemory};
@@ -6,7 +6,8 @@ use ij_text::Name;
 use net_graph::device::Device;
 use std::alloc::Global;
 
-/// The device whose access link `tap IJTAG` has this opcode, with an instruction register of 8 bits.
+/// The device whose access link `tap IJTAG` has this opcode, with an instruction register of 8 bits and no
+/// identification code. Its two names take memory.
 pub(crate) fn make_device(alloc: Global, opcode: u8) -> Result<Device, OutOfMemory>
     ensures ir { IfOk result (λ device. device.ir ≡ 8) }
     ensures identity { IfOk result (λ device. device.idcode ≡ None) }
@@ -25,6 +26,7 @@ pub(crate) fn make_device(alloc: Global, opcode: u8) -> Result<Device, OutOfMemo
     })
 }
 
+/// The name of these bytes. Takes memory for them.
 fn make_name(alloc: Global, text: &[u8]) -> Result<Name, OutOfMemory>
     ensures { IfOk result (λ name. name.items ≡ text.now) }
 {

@@ -1,4 +1,4 @@
-// The scan of one iApply.
+// The scan of one iApply (Serial Vector Format, revision E: SDR).
 ghost use Rattle.std.specs.Prelude.{◌≡◌, IfOk, None, true, length, replicate, option_map};
 ghost use Rattle.svf_writer.specs.SeenCommands.{seen_scan};
 ghost use Rattle.register_compiler.specs.Svf.{scan_of};
@@ -7,7 +7,8 @@ use ij_bits::{Bits, OutOfMemory};
 use std::alloc::Global;
 use svf_writer::command::Scan;
 
-/// The scan that shifts these bits in and compares each bit that came out with `expect`.
+/// The scan that shifts these bits in, position 0 first, and compares each bit that comes out with that of `expect`,
+/// or none without it. TDI, TDO and MASK take memory.
 pub(crate) fn make_scan(
     alloc: Global,
     tdi: &Bits,
@@ -30,12 +31,14 @@ pub(crate) fn make_scan(
     })
 }
 
+/// The same bits once more.
 fn copy(alloc: Global, bits: &Bits) -> Result<Bits, OutOfMemory>
     ensures { IfOk result (λ copy. copy.items ≡ bits.now.items) }
 {
     bits.slice(alloc, 0, bits.len())
 }
 
+/// So many bits, each of them 1.
 fn ones(alloc: Global, count: u32) -> Result<Bits, OutOfMemory>
     ensures { IfOk result (λ bits. bits.items ≡ replicate count true) }
 {

@@ -1,4 +1,4 @@
-// A compile, line by line.
+// A compile, line by line: what is queued, what the register holds, and how many scans were written.
 ghost use Rattle.std.specs.Prelude.{◌++◌, ◌≡◌, ◌≤◌, ◌<◌, ◌+◌, ◌^◌, length, OnOk, OnErr, unwrap_or, None};
 ghost use Rattle.std.specs.Option.{ForSome};
 ghost use Rattle.ij_io.specs.Bytes.{Adds, AddsPart};
@@ -15,7 +15,7 @@ use std::alloc::Global;
 use svf_writer::command::Command;
 use svf_writer::write::{put, put_mark};
 
-/// Writes the mark of an iApply with its number, and its command.
+/// Writes the mark of an iApply with its number, and its command. After a refusal some first bytes are written.
 fn put_marked<K: Sink>(number: u32, command: &Command, k: &mut K) -> Result<(), StoreFault>
     requires { IsWrittenCommand (seen_command command.now) }
     ensures whole { OnOk result (Adds (K.taken k.old) (K.taken k.new) (mark number ++ text_of (seen_command command.now))) }
@@ -27,14 +27,14 @@ fn put_marked<K: Sink>(number: u32, command: &Command, k: &mut K) -> Result<(), 
     Ok(())
 }
 
-/// A compile between two lines of the procedure.
+/// A compile between two lines of the procedure. A value has one bit for each bit of the register, position 0 nearest TDO.
 #[derive(Drop)]
 pub(crate) struct Session<'a> {
-    /// The register's bits.
+    /// How many bits the register has, 1 to 64.
     width: u32,
-    /// The iApplys that had a scan.
+    /// How many iApplys had a scan.
     applies: u32,
-    /// What the register holds.
+    /// What the register holds after the last scan.
     held: &'a Bits,
     /// The value of the last iWrite since the last iApply.
     write: Option<&'a Bits>,
@@ -70,7 +70,7 @@ impl<'a> Session<'a> {
         }
     }
 
-    /// What the register holds after the next iApply.
+    /// What the register holds after the next iApply: the value queued for it, or else what it holds.
     fn next_held(&self) -> &'a Bits
         ensures bits { result.now.items ≡ unwrap_or (between self.now).write (between self.now).held }
         ensures long { length result.now.items ≡ self.now.width }
@@ -81,7 +81,7 @@ impl<'a> Session<'a> {
         }
     }
 
-    /// Writes the mark and the scan of an iApply.
+    /// Writes the mark and the scan of an iApply, and empties the queue. After a refusal some first bytes are written.
     fn put_apply<K: Sink>(&mut self, alloc: Global, k: &mut K) -> Result<(), StoreFault>
         requires { self.old.applies + 1 < 2 ^ 32 }
         ensures whole { OnOk result (Adds (K.taken k.old) (K.taken k.new) (apply_text self.old.width (between self.old))) }
@@ -100,7 +100,9 @@ impl<'a> Session<'a> {
         Ok(())
     }
 
-    /// Takes in a line: an iWrite or an iRead stands in for an earlier one, and an iApply is written where something is queued.
+    /// Takes in a line: an iWrite or an iRead takes the place of an earlier one, since each names the whole register, and
+    /// an iApply is written where something is queued. Only a scan takes memory. After a refusal some first bytes of the
+    /// line's text are written.
     pub(crate) fn put_line<K: Sink>(
         &mut self,
         alloc: Global,

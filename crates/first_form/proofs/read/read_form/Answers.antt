@@ -1,9 +1,9 @@
 use Rattle.std.specs.Prelude.{IsErrOf, All}
-use Rattle.std.proofs.Common.{◌≡◌, ◌∙◌, sym, refl, rules, subst, arith, List, ℕ}
+use Rattle.std.proofs.Common.{◌≡◌, ◌∙◌, sym, rules, subst, arith, ℕ}
 use Rattle.std.proofs.lemmas.List.{length-map}
 use Rattle.first_form.specs.SeenForms.{seen_line}
 use Rattle.first_form.specs.declared.form.FormFault.TheVariants.{FirstForm}
-use Rattle.first_form.specs.Texts.{SeenForm, HasWidth}
+use Rattle.first_form.specs.Texts.{HasWidth}
 use Rattle.first_form.proofs.Widths.{width_told}
 use Rattle.first_form.proofs.Forms.{form_told}
 use Rattle.first_form.proofs.read.read_form.Goals as goal

@@ -1,4 +1,4 @@
-use Rattle.std.proofs.Common.{◌≢◌, ◌≤◌, ◌∙◌, sym, ap, arith, below_more, false, List, ℕ}
+use Rattle.std.proofs.Common.{◌≢◌, ◌≤◌, ◌∙◌, sym, arith, below_more, false}
 use Rattle.std.proofs.lemmas.Bool.{false≢true}
 use Rattle.std.proofs.lemmas.Bool.Decides.{Decides-eqb}
 use Rattle.std.proofs.lemmas.Slice.Eq.{slice_eq-Decides}

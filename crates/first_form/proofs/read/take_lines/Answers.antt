@@ -1,5 +1,5 @@
-use Rattle.std.specs.Prelude.{IsErrOf, codes}
-use Rattle.std.proofs.Common.{◌≡◌, ◌≢◌, ◌∙◌, sym, refl, ap, rules, map, length, List, ℕ, ◌++◌, ◌∷◌, [], arith, length-append}
+use Rattle.std.specs.Prelude.{IsErrOf}
+use Rattle.std.proofs.Common.{◌≡◌, ◌∙◌, sym, refl, ap, rules, length, List, ℕ, ◌++◌, ◌∷◌, [], arith, length-append}
 use Rattle.std.proofs.lemmas.List.{length-map, map-append}
 use Rattle.std.proofs.lemmas.List.Elements.{All-push, All-same}
 use Rattle.first_form.specs.declared.form.FormFault.TheVariants.{FirstForm}

@@ -1,4 +1,4 @@
-use Rattle.std.proofs.Common.{◌-◌, ◌∙◌, sym, arith, length}
+use Rattle.std.proofs.Common.{◌-◌, arith, length}
 use Rattle.first_form.proofs.Digits.{digit_at}
 use Rattle.first_form.proofs.text.read_binary.Goals as goal
 
