@@ -166,7 +166,11 @@ fn sure_files_take_the_whole_text(rt: HostRuntime) -> Result<(), Fail> {
 fn real_files_and_streams(rt: HostRuntime) -> Result<(), Fail> {
     let alloc = rt.alloc();
     let folder = env::temp_dir(&rt)?;
-    let stem = format!(in alloc; "{}/ijtag-{}", folder.as_path().display(), process::id(rt.process()))?;
+    let stem = format!(in alloc;
+        "{}/ijtag-{}",
+        folder.as_path().display(),
+        process::id(rt.process())
+    )?;
     let icl = format!(in alloc; "{stem}.icl")?;
     let pdl = format!(in alloc; "{stem}.pdl")?;
     let device = format!(in alloc; "{stem}.dev")?;
