@@ -1,15 +1,19 @@
 -- What a command's files are accepted as, and what they are refused for first.
-use Rattle.std.specs.Prelude.{◌≡◌, ℕ, List, [], ◌∷◌, length, Option, Some, None, find, nat_lt, codes}
+use Rattle.std.specs.Prelude.{◌≡◌, ◌⊎◌, ℕ, List, [], ◌∷◌, length, Option, Some, None, find, nat_lt, codes}
 use Rattle.ij_io.specs.Files.{Files, bytes_of}
 use Rattle.first_form.specs.Texts.{SeenForm, AreTextsOf}
 use Rattle.register_compiler.specs.Procedure.{unapplied_line}
 use Rattle.ijtag_core.specs.Command.{Command, loads}
 use Rattle.ijtag_core.specs.Stops.{Refusal, Long, FirstForm, Unapplied}
-use Rattle.ijtag_core.specs.declared.limits.TheConstants.{SOURCE_LIMIT}
 
--- the first of these files that is above the limit
+-- a source file is long where it has more than 16,777,216 bytes: the first of these files that is
 abbrev pub first_long : Files → List (List ℕ) → Option (List ℕ)
-first_long files names = find (λ name. nat_lt SOURCE_LIMIT (length (bytes_of files name))) names
+first_long files names = find (λ name. nat_lt 16777216 (length (bytes_of files name))) names
+
+-- this file is one of those that are loaded in this order, and none before it is long
+abbrev pub IsReached : Files → List (List ℕ) → List ℕ → Type 0
+IsReached files [] name = ⊥
+IsReached files (first ∷ names) name = (first ≡ name) ⊎ ((first_long files (first ∷ []) ≡ None) × IsReached files names name)
 
 -- texts, the top module and the procedure are those of this form
 pub record AreOf (form : SeenForm) (icl pdl device : List ℕ) (command : Command) : Type 0 where

@@ -5,7 +5,7 @@ use Rattle.ij_io.specs.Files.{Files, OthersStay}
 use Rattle.first_form.specs.Texts.{SeenForm}
 use Rattle.register_compiler.specs.Meaning.{DoesProcedure}
 use Rattle.register_compiler.specs.Svf.{svf_text}
-use Rattle.ijtag_core.specs.Accepted.{AreAccepted, IsFirstRefusal}
+use Rattle.ijtag_core.specs.Accepted.{AreAccepted, IsFirstRefusal, IsReached}
 use Rattle.ijtag_core.specs.Command.{Command, loads}
 use Rattle.ijtag_core.specs.Stops.{Stop, Usage, Refuses, ReadFault, WriteFault, NoMemory}
 
@@ -26,11 +26,12 @@ pub record Counts : Type 0 where
   pub before : List ℕ → ℕ
   pub now : List ℕ → ℕ
 
--- the first refusal of the files, or a load of one of them failed, or the files are accepted and a store of the SVF file
--- failed, or memory was wanting
+-- the first refusal of the files, or a load of one of them failed before which none is long, or the files are accepted and
+-- a store of the SVF file failed, or memory was wanting
 abbrev pub IsStop : Option Files → Command → Counts → Counts → Stop → Type 0
 IsStop files command load store (Refuses refusal) = IfSome files (λ f. IsFirstRefusal f command refusal)
-IsStop files command load store (ReadFault name) = Contains (loads command) name × Rose (load.before name) (load.now name)
+IsStop files command load store (ReadFault name) =
+    Contains (loads command) name × Rose (load.before name) (load.now name) × IfSome files (λ f. IsReached f (loads command) name)
 IsStop files command load store (WriteFault name) =
     (name ≡ command.svf) × Rose (store.before name) (store.now name) × IfSome files (λ f. (form : SeenForm) × AreAccepted f command form)
 IsStop files command load store NoMemory = Unit {0}

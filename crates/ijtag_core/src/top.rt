@@ -5,9 +5,9 @@ ghost use Rattle.ij_io.specs.Bytes.{AddsPart};
 ghost use Rattle.ij_io.specs.Causes.{Rose};
 ghost use Rattle.ij_io.specs.Files.{file_at};
 ghost use Rattle.first_form.specs.Texts.{SeenForm};
-ghost use Rattle.ijtag_core.specs.Accepted.{AreAccepted, IsFirstRefusal};
+ghost use Rattle.ijtag_core.specs.Accepted.{AreAccepted, IsFirstRefusal, IsReached};
 ghost use Rattle.ijtag_core.specs.Command.{command_of, loads};
-ghost use Rattle.ijtag_core.specs.Compiled.{IsCompiled, IsPartOfSvf, OnlySvfChanges};
+ghost use Rattle.ijtag_core.specs.Compiled.{IsCompiled, IsPartOfSvf, IsRunStop, OnlySvfChanges};
 ghost use Rattle.ijtag_core.specs.Outcome.{IsTold, SomeRose, IsEarlyStatus, IsPartStatus};
 ghost use Rattle.ijtag_core.specs.Stops.{Stop, Refusal, Usage, Refuses, ReadFault, WriteFault, stop_text};
 
@@ -35,9 +35,10 @@ pub fn ijtag<S: Shelf, O: Sink, E: Sink>(
         × IfSome (S.files shelf.old) (λ f. IsFirstRefusal f command refusal)
         × IsTold (E.taken err.old) (E.taken err.new) (E.faults err.old) (E.faults err.new) (stop_text (Refuses refusal))) }
 
-    // ReadFault only where a load of one of the command's files failed, WriteFault only where a store of the SVF file did.
+    // ReadFault only where a load of one of the command's files failed before which none is long, WriteFault only where a store of the SVF file did.
     ensures read_fault { result ≡ Status.ReadFault → IfSome (command_of (map string_bytes words.now.items)) (λ command. (name : List ℕ)
         × Contains (loads command) name × Rose (S.load_faults shelf.old name) (S.load_faults shelf.new name)
+        × IfSome (S.files shelf.old) (λ f. IsReached f (loads command) name)
         × IsTold (E.taken err.old) (E.taken err.new) (E.faults err.old) (E.faults err.new) (stop_text (ReadFault name))) }
     ensures write_fault { result ≡ Status.WriteFault → IfSome (command_of (map string_bytes words.now.items)) (λ command.
         Rose (S.store_faults shelf.old command.svf) (S.store_faults shelf.new command.svf)
@@ -59,7 +60,9 @@ pub fn ijtag<S: Shelf, O: Sink, E: Sink>(
     ensures part { IsPartStatus result → IfSome (command_of (map string_bytes words.now.items)) (λ command. IfSome (S.files shelf.old) (λ f. IsPartOfSvf f command (file_at (S.files shelf.old) command.svf) (file_at (S.files shelf.new) command.svf))) }
     ensures others { OnlySvfChanges (command_of (map string_bytes words.now.items)) (S.files shelf.old) (S.files shelf.new) }
     ensures out { out.new ≡ out.old }
-    ensures told_part { result ≡ Status.OutOfMemory → (stop : Stop) × AddsPart (E.taken err.old) (E.taken err.new) (stop_text stop) }
+    ensures told_part { result ≡ Status.OutOfMemory → (stop : Stop)
+        × IsRunStop (command_of (map string_bytes words.now.items)) (S.files shelf.old) (record { before = S.load_faults shelf.old; now = S.load_faults shelf.new }) (record { before = S.store_faults shelf.old; now = S.store_faults shelf.new }) stop
+        × AddsPart (E.taken err.old) (E.taken err.new) (stop_text stop) }
 {
     let _ = out;
     match run(alloc, words, shelf) {
