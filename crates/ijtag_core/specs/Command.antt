@@ -1,6 +1,9 @@
 -- The words that the program is called with.
-use Rattle.std.specs.Prelude.{ℕ, Bool, true, false, List, [], ◌∷◌, Option, Some, None, codes}
+use Rattle.std.specs.Prelude.{ℕ, Bool, true, false, List, [], ◌∷◌, Option, Some, None, map, codes}
 use Rattle.std.specs.Str.{bytes_eq}
+use Rattle.std.specs.String.{string_bytes}
+use Rattle.std.specs.declared.string.String.{String}
+use Rattle.std.specs.declared.alloc.Global.{Global}
 
 -- `compile ICL PDL DEVICE TOP PROC SVF`: four file names, the top module and the procedure
 pub record Command : Type 0 where
@@ -16,6 +19,10 @@ abbrev pub command_of : List (List ℕ) → Option Command
 command_of (word ∷ icl ∷ pdl ∷ device ∷ top ∷ procedure ∷ svf ∷ []) =
     elim (bytes_eq word (codes "compile")) [ true ↦ Some (record { icl = icl; pdl = pdl; device = device; top = top; procedure = procedure; svf = svf }) | false ↦ None ]
 command_of _ = None
+
+-- the command that the words of the command line are, where they are one
+abbrev pub command_in : List (String Global) → Option Command
+command_in words = command_of (map string_bytes words)
 
 -- the files that are loaded, in this order
 abbrev pub loads : Command → List (List ℕ)

@@ -1,10 +1,9 @@
 // Runs in memory.
-ghost use Rattle.std.specs.Prelude.{◌≡◌, ◌⊎◌, IfSome, Some, map};
-ghost use Rattle.std.specs.String.{string_bytes};
+ghost use Rattle.std.specs.Prelude.{◌≡◌, ◌⊎◌, IfSome, Some};
 ghost use Rattle.ij_io.specs.SureShelf.{sure_files_in};
 ghost use Rattle.first_form.specs.Texts.{SeenForm};
 ghost use Rattle.ijtag_core.specs.Accepted.{AreAccepted};
-ghost use Rattle.ijtag_core.specs.Command.{command_of};
+ghost use Rattle.ijtag_core.specs.Command.{command_in};
 ghost use Rattle.ijtag_core.specs.Compiled.{IsCompiled};
 
 use crate::{Status, ijtag};
@@ -20,8 +19,8 @@ pub fn ijtag_in_memory(
     out: &mut SureSink,
     err: &mut SureSink,
 ) -> Status
-    ensures complete { IfSome (command_of (map string_bytes words.now.items)) (λ command. (form : SeenForm) → AreAccepted (sure_files_in shelf.old) command form → (result ≡ Status.Good) ⊎ (result ≡ Status.OutOfMemory)) }
-    ensures good { result ≡ Status.Good → IfSome (command_of (map string_bytes words.now.items)) (λ command. IsCompiled (sure_files_in shelf.old) command (Some (sure_files_in shelf.new command.svf))) }
+    ensures complete { IfSome (command_in words.now.items) (λ command. (form : SeenForm) → AreAccepted (sure_files_in shelf.old) command form → (result ≡ Status.Good) ⊎ (result ≡ Status.OutOfMemory)) }
+    ensures good { result ≡ Status.Good → IfSome (command_in words.now.items) (λ command. IsCompiled (sure_files_in shelf.old) command (Some (sure_files_in shelf.new command.svf))) }
     ensures out { out.new ≡ out.old }
     ensures quiet { result ≡ Status.Good → err.new ≡ err.old }
 {

@@ -1,8 +1,7 @@
 // A run of the program.
-ghost use Rattle.std.specs.Prelude.{◌≡◌, OnOk, OnErr, IfErr, IfSome, IsSome, map};
-ghost use Rattle.std.specs.String.{string_bytes};
+ghost use Rattle.std.specs.Prelude.{◌≡◌, OnOk, OnErr, IfErr, IfSome, IsSome};
 ghost use Rattle.ij_io.specs.Files.{file_at};
-ghost use Rattle.ijtag_core.specs.Command.{command_of};
+ghost use Rattle.ijtag_core.specs.Command.{command_in};
 ghost use Rattle.ijtag_core.specs.Compiled.{IsCompiled, IsPartOfSvf, IsRunStop, IsEarly, OnlySvfChanges};
 ghost use Rattle.ijtag_core.specs.Seen.{seen_stop};
 
@@ -18,12 +17,12 @@ pub(crate) fn run<'a, S: Shelf>(
     words: &'a Vec<String>,
     shelf: &mut S,
 ) -> Result<(), Stop<'a>>
-    ensures done { OnOk result (IfSome (command_of (map string_bytes words.now.items)) (λ command. IfSome (S.files shelf.old) (λ f. IsCompiled f command (file_at (S.files shelf.new) command.svf)))) }
-    ensures command { OnOk result (IsSome (command_of (map string_bytes words.now.items))) }
-    ensures stop { IfErr result (λ stop. IsRunStop (command_of (map string_bytes words.now.items)) (S.files shelf.old) (record { before = S.load_faults shelf.old; now = S.load_faults shelf.new }) (record { before = S.store_faults shelf.old; now = S.store_faults shelf.new }) (seen_stop stop)) }
+    ensures done { OnOk result (IfSome (command_in words.now.items) (λ command. IfSome (S.files shelf.old) (λ f. IsCompiled f command (file_at (S.files shelf.new) command.svf)))) }
+    ensures command { OnOk result (IsSome (command_in words.now.items)) }
+    ensures stop { IfErr result (λ stop. IsRunStop (command_in words.now.items) (S.files shelf.old) (record { before = S.load_faults shelf.old; now = S.load_faults shelf.new }) (record { before = S.store_faults shelf.old; now = S.store_faults shelf.new }) (seen_stop stop)) }
     ensures early { IfErr result (λ stop. IsEarly (seen_stop stop) → S.files shelf.new ≡ S.files shelf.old) }
-    ensures part { OnErr result (IfSome (command_of (map string_bytes words.now.items)) (λ command. IfSome (S.files shelf.old) (λ f. IsPartOfSvf f command (file_at (S.files shelf.old) command.svf) (file_at (S.files shelf.new) command.svf)))) }
-    ensures others { OnlySvfChanges (command_of (map string_bytes words.now.items)) (S.files shelf.old) (S.files shelf.new) }
+    ensures part { OnErr result (IfSome (command_in words.now.items) (λ command. IfSome (S.files shelf.old) (λ f. IsPartOfSvf f command (file_at (S.files shelf.old) command.svf) (file_at (S.files shelf.new) command.svf)))) }
+    ensures others { OnlySvfChanges (command_in words.now.items) (S.files shelf.old) (S.files shelf.new) }
 {
     match read_words(words) {
         Some(command) => compile(alloc, &command, shelf),

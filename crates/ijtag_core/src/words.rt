@@ -1,7 +1,6 @@
 // The words that the program is called with.
-ghost use Rattle.std.specs.Prelude.{◌≡◌, map, option_map};
-ghost use Rattle.std.specs.String.{string_bytes};
-ghost use Rattle.ijtag_core.specs.Command.{command_of};
+ghost use Rattle.std.specs.Prelude.{◌≡◌, option_map};
+ghost use Rattle.ijtag_core.specs.Command.{command_in};
 ghost use Rattle.ijtag_core.specs.Seen.{seen_words};
 
 /// `compile ICL PDL DEVICE TOP PROC SVF`.
@@ -17,7 +16,7 @@ pub(crate) struct CompileWords<'a> {
 
 /// The command of the words, `None` where they are no command.
 pub(crate) fn read_words(words: &Vec<String>) -> Option<CompileWords<'_>>
-    ensures { option_map seen_words result ≡ command_of (map string_bytes words.now.items) }
+    ensures { option_map seen_words result ≡ command_in words.now.items }
 {
     match words.as_slice() {
         [command, icl, pdl, device, top, procedure, svf] if command.as_str() == "compile" => {
