@@ -35,6 +35,10 @@ pub fn ijtag<S: Shelf, O: Sink, E: Sink>(
         × IfSome (S.files shelf.old) (λ f. IsFirstRefusal f command refusal)
         × IsTold (E.taken err.old) (E.taken err.new) (E.faults err.old) (E.faults err.new) (stop_text (Refuses refusal))) }
 
+    ensures refuses { IfSome (command_of (map string_bytes words.now.items)) (λ command. IfSome (S.files shelf.old) (λ f. (refusal : Refusal) → IsFirstRefusal f command refusal
+        → ¬ SomeRose (S.load_faults shelf.old) (S.load_faults shelf.new) (loads command)
+        → (result ≡ Status.Refused) ⊎ (result ≡ Status.OutOfMemory))) }
+
     // ReadFault only where a load of one of the command's files failed before which none is long, WriteFault only where a store of the SVF file did.
     ensures read_fault { result ≡ Status.ReadFault → IfSome (command_of (map string_bytes words.now.items)) (λ command. (name : List ℕ)
         × Contains (loads command) name × Rose (S.load_faults shelf.old name) (S.load_faults shelf.new name)
