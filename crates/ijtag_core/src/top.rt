@@ -17,7 +17,13 @@ use crate::stop::report;
 use ij_io::{Shelf, Sink};
 use std::alloc::Global;
 
-/// Runs the program with these words over files and streams, and says how it ended.
+/// Runs the program with these words, those behind the program's name, over files and streams, and says how it ended.
+///
+/// The one command is `compile ICL PDL DEVICE TOP PROC SVF`. It loads the first three files in this order, accepts what they
+/// hold (IEEE 1687-2014: ICL, PDL level 0), and only then writes the SVF file (Serial Vector Format, revision E), from its front.
+/// A run that ends otherwise than as `Good` prints one line on `err`, or a first part of it where `err` fails, which changes no
+/// status. Nothing is printed on `out`.
+/// Memory is taken from `alloc`; want of it anywhere ends the run as `OutOfMemory`.
 pub fn ijtag<S: Shelf, O: Sink, E: Sink>(
     alloc: Global,
     words: &Vec<String>,
