@@ -13,7 +13,8 @@ use first_form::{Form, FormFault, read_form};
 use register_compiler::find_unapplied;
 use std::alloc::Global;
 
-/// The design and the procedure of the texts, each command of which an iApply follows.
+/// The design and the procedure of the texts, each iWrite and iRead of which an iApply follows. Where they are not of the first
+/// form with top module `chip` and procedure `p`, or no iApply follows a command, the stop says so.
 pub(crate) fn accept<'a>(
     alloc: Global,
     words: &CompileWords<'a>,

@@ -12,7 +12,8 @@ use crate::write::write_svf;
 use ij_io::{Shelf, StoreFault};
 use std::alloc::Global;
 
-/// Loads the files of the command, accepts them, and only then writes the SVF file.
+/// Loads the files of the command, accepts them, and only then writes the SVF file. A stop before that leaves all files; a
+/// later one leaves the SVF file as it was or with a first part of its text, and the others.
 pub(crate) fn compile<'a, S: Shelf>(
     alloc: Global,
     words: &CompileWords<'a>,

@@ -11,7 +11,7 @@ use ij_io::{SureShelf, SureSink};
 use std::alloc::Global;
 
 /// Runs the program over files and streams in memory. Nothing fails there but for want of memory, so what is accepted
-/// is compiled.
+/// is compiled. A file that isn't there is read as an empty one.
 pub fn ijtag_in_memory(
     alloc: Global,
     words: &Vec<String>,

@@ -11,7 +11,7 @@ use crate::words::read_words;
 use ij_io::Shelf;
 use std::alloc::Global;
 
-/// Does what the words say.
+/// Does what the words say: without a command nothing, and no file changes.
 pub(crate) fn run<'a, S: Shelf>(
     alloc: Global,
     words: &'a Vec<String>,

@@ -16,8 +16,11 @@ use std::alloc::Global;
 /// The bytes of the loaded files.
 #[derive(Drop)]
 pub(crate) struct Sources {
+    /// The network's text.
     pub icl: Vec<u8>,
+    /// The procedures' text.
     pub pdl: Vec<u8>,
+    /// The device's text.
     pub device: Vec<u8>,
 }
 
@@ -38,7 +41,8 @@ fn load<'a, S: Shelf>(alloc: Global, name: &'a str, shelf: &mut S) -> Result<Vec
     }
 }
 
-/// Loads the files of a command in their order.
+/// Loads the files of a command in the order of its words, and stops at the first that can't be loaded or is too long. No file
+/// changes.
 pub(crate) fn load_sources<'a, S: Shelf>(
     alloc: Global,
     words: &CompileWords<'a>,

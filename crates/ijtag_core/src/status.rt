@@ -7,13 +7,13 @@ ghost use Rattle.ijtag_core.specs.Codes.{code_of};
 pub enum Status {
     /// All was written, and nothing differs.
     Good,
-    /// All was written, and a compared bit differs.
+    /// All was written, and a compared bit differs. `compile`, which compares nothing, never ends so.
     Differs,
     /// The words are no command.
     Usage,
-    /// A file or a text was refused.
+    /// A file or a text was refused, and no file was begun.
     Refused,
-    /// A file could not be read.
+    /// A file could not be read, and no file was begun.
     ReadFault,
     /// A file or a stream could not be written.
     WriteFault,

@@ -17,7 +17,7 @@ pub(crate) enum Refusal<'a> {
     Long(&'a str),
     /// The texts, the top module or the procedure aren't the first form.
     FirstForm,
-    /// The line of a command that no iApply follows.
+    /// The first iWrite or iRead that no iApply follows stands on this line, counted from 1.
     Unapplied(u32),
 }
 
@@ -26,13 +26,18 @@ pub(crate) enum Refusal<'a> {
 pub(crate) enum Stop<'a> {
     /// The words are no command.
     Usage,
+    /// A file or a text is refused.
     Refused(Refusal<'a>),
+    /// A load of the file of this name failed.
     ReadFault(&'a str),
+    /// A store under this name failed.
     WriteFault(&'a str),
+    /// There was no memory.
     OutOfMemory,
 }
 
 impl Stop<'_> {
+    /// The status of a run that stops so.
     pub(crate) fn status(&self) -> Status
         ensures { result ≡ status_of (seen_stop self.now) }
     {
@@ -55,6 +60,7 @@ fn put_named<K: Sink>(text: &[u8], name: &str, k: &mut K) -> Result<(), StoreFau
     put_pieces(k, &[text, name.as_bytes(), b"\n"])
 }
 
+/// Prints the line of a command that no iApply follows. Its column is 3, behind two spaces.
 fn put_unapplied<K: Sink>(line: u32, k: &mut K) -> Result<(), StoreFault>
     ensures whole { OnOk result (Adds (K.taken k.old) (K.taken k.new) (unapplied_text line)) }
     ensures part { OnErr result (AddsPart (K.taken k.old) (K.taken k.new) (unapplied_text line)) }
@@ -66,6 +72,7 @@ fn put_unapplied<K: Sink>(line: u32, k: &mut K) -> Result<(), StoreFault>
     Ok(())
 }
 
+/// Prints the text of a refusal.
 #[tactic(auto, unfolding(crate::specs::Stops::refusal_text))]
 fn put_refusal<K: Sink>(refusal: &Refusal<'_>, k: &mut K) -> Result<(), StoreFault>
     ensures whole { OnOk result (Adds (K.taken k.old) (K.taken k.new) (refusal_text (seen_refusal refusal.now))) }
@@ -95,7 +102,8 @@ fn put_stop<K: Sink>(stop: &Stop<'_>, k: &mut K) -> Result<(), StoreFault>
     }
 }
 
-/// Prints the text of a stop on the error stream and gives its status. A fault of the stream changes no status.
+/// Prints the text of a stop on the error stream and gives its status. A fault of the stream changes no status, and want of
+/// memory there is want of memory of the run.
 pub(crate) fn report<E: Sink>(stop: &Stop<'_>, err: &mut E) -> Status
     ensures status { (result ≡ status_of (seen_stop stop.now)) ⊎ (result ≡ Status.OutOfMemory) }
     ensures told { (result ≡ Status.OutOfMemory → ⊥) → IsTold (E.taken err.old) (E.taken err.new) (E.faults err.old) (E.faults err.new) (stop_text (seen_stop stop.now)) }

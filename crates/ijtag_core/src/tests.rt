@@ -141,6 +141,39 @@ fn no_words_and_a_missing_file(rt: HostRuntime) -> Result<(), Fail> {
     Ok(())
 }
 
+// A fault of the error stream changes no status.
+#[test]
+fn other_names_and_a_long_file_are_refused(rt: HostRuntime) -> Result<(), Fail> {
+    let alloc = rt.alloc();
+    let long = vec![in alloc; b' '; 16_777_217]?;
+    for (icl, top, procedure, said) in [
+        (ICL, "chip2", "p", b"refused core FirstForm\n".as_slice()),
+        (ICL, "chip", "q", b"refused core FirstForm\n"),
+        (long.as_slice(), "chip", "p", b"refused file Long a.icl\n"),
+    ] {
+        let mut shelf = shelf_with(alloc, PDL)?;
+        shelf.put_file("a.icl", icl)?;
+        let words = words(
+            alloc,
+            &[
+                "compile", "a.icl", "a.pdl", "a.dev", top, procedure, "a.svf",
+            ],
+        )?;
+        let mut out = MemSink::new(alloc);
+        let mut err = MemSink::new(alloc);
+        let status = ijtag(alloc, &words, &mut shelf, &mut out, &mut err);
+        assert_eq!(rt; status, Status::Refused);
+        assert_eq!(rt; err.bytes(), said);
+        let mut failing = MemSink::new(alloc);
+        failing.fail_at(&[1])?;
+        let status = ijtag(alloc, &words, &mut shelf, &mut out, &mut failing);
+        assert_eq!(rt; status, Status::Refused);
+        assert_eq!(rt; failing.bytes(), b"".as_slice());
+        assert!(rt; shelf.file("a.svf").is_none());
+    }
+    Ok(())
+}
+
 #[test]
 fn sure_files_take_the_whole_text(rt: HostRuntime) -> Result<(), Fail> {
     let alloc = rt.alloc();

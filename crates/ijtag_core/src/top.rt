@@ -16,7 +16,13 @@ use crate::stop::report;
 use ij_io::{Shelf, Sink};
 use std::alloc::Global;
 
-/// Runs the program with these words over files and streams, and says how it ended.
+/// Runs the program with these words, those behind the program's name, over files and streams, and says how it ended.
+///
+/// The one command is `compile ICL PDL DEVICE TOP PROC SVF`. It loads the first three files in this order, accepts what they
+/// hold (IEEE 1687-2014: ICL, PDL level 0), and only then writes the SVF file (Serial Vector Format, revision E), from its front.
+/// A run that ends otherwise than as `Good` prints one line on `err`, or a first part of it where `err` fails, which changes no
+/// status. Nothing is printed on `out`.
+/// Memory is taken from `alloc`; want of it anywhere ends the run as `OutOfMemory`.
 pub fn ijtag<S: Shelf, O: Sink, E: Sink>(
     alloc: Global,
     words: &Vec<String>,
@@ -33,6 +39,10 @@ pub fn ijtag<S: Shelf, O: Sink, E: Sink>(
     ensures refused { result ≡ Status.Refused → IfSome (command_in words.now.items) (λ command. (refusal : Refusal)
         × IfSome (S.files shelf.old) (λ f. IsFirstRefusal f command refusal)
         × IsTold (E.taken err.old) (E.taken err.new) (E.faults err.old) (E.faults err.new) (stop_text (Refuses refusal))) }
+
+    ensures refuses { IfSome (command_of (map string_bytes words.now.items)) (λ command. IfSome (S.files shelf.old) (λ f. (refusal : Refusal) → IsFirstRefusal f command refusal
+        → ¬ SomeRose (S.load_faults shelf.old) (S.load_faults shelf.new) (loads command)
+        → (result ≡ Status.Refused) ⊎ (result ≡ Status.OutOfMemory))) }
 
     // ReadFault only where a load of one of the command's files failed before which none is long, WriteFault only where a store of the SVF file did.
     ensures read_fault { result ≡ Status.ReadFault → IfSome (command_in words.now.items) (λ command. (name : List ℕ)

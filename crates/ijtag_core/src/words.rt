@@ -3,18 +3,24 @@ ghost use Rattle.std.specs.Prelude.{◌≡◌, option_map};
 ghost use Rattle.ijtag_core.specs.Command.{command_in};
 ghost use Rattle.ijtag_core.specs.Seen.{seen_words};
 
-/// `compile ICL PDL DEVICE TOP PROC SVF`.
+/// The words of `compile ICL PDL DEVICE TOP PROC SVF`.
 #[derive(Clone, Copy)]
 pub(crate) struct CompileWords<'a> {
+    /// The file of the network (IEEE 1687-2014, ICL).
     pub icl: &'a str,
+    /// The file of the procedures (IEEE 1687-2014, PDL level 0).
     pub pdl: &'a str,
+    /// The file of the device's TAP.
     pub device: &'a str,
+    /// The top module's name.
     pub top: &'a str,
+    /// The procedure's name.
     pub procedure: &'a str,
+    /// The file that is written (Serial Vector Format, revision E).
     pub svf: &'a str,
 }
 
-/// The command of the words, `None` where they are no command.
+/// The command of the words, `None` where they are no command. It takes no memory.
 pub(crate) fn read_words(words: &Vec<String>) -> Option<CompileWords<'_>>
     ensures { option_map seen_words result ≡ command_in words.now.items }
 {

@@ -14,7 +14,8 @@ use ij_io::{Shelf, Sink, StoreFault, SureSink};
 use register_compiler::put_svf;
 use std::alloc::Global;
 
-/// Begins the SVF file and writes the procedure's text. The text is made whole before the file is begun.
+/// Begins the SVF file and writes the procedure's text. The text is made whole before the file is begun. After a refusal the
+/// file is as before or holds a first part of the text.
 pub(crate) fn write_svf<S: Shelf>(
     alloc: Global,
     name: &str,
