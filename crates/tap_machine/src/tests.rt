@@ -1,6 +1,12 @@
-// The walk of a controller through its states.
-use crate::{Tap, TapState};
+// The walk of a controller through its states, and the clocks of a play.
+ghost use Rattle.std.specs.Prelude.{◌≡◌, length, IfOk};
+
+use crate::{Pins, Player, Stable, Tap, TapState};
+use ij_bits::{Bits, OutOfMemory};
+use std::alloc::Global;
 use std::test::Fail;
+use svf_writer::command::{Command, Scan};
+use svf_writer::commands::Commands;
 
 #[test]
 fn a_controller_walks_to_reset_and_through_a_data_scan(rt: HostRuntime) {
@@ -34,4 +40,91 @@ fn a_controller_walks_to_reset_and_through_a_data_scan(rt: HostRuntime) {
         assert_eq!(rt; act.before, before);
         assert_eq!(rt; act.after, wanted, "after {before:?} with TMS {tms}");
     }
+}
+
+/// Two bits, position 0 first.
+fn two(alloc: Global, a: bool, b: bool) -> Result<Bits, OutOfMemory>
+    ensures { IfOk result (λ bits. length bits.items ≡ 2) }
+{
+    let mut bits = Bits::zeros(alloc, 2)?;
+    bits.set(0, a);
+    bits.set(1, b);
+    Ok(bits)
+}
+
+/// One bit.
+fn one(alloc: Global, a: bool) -> Result<Bits, OutOfMemory>
+    ensures { IfOk result (λ bits. length bits.items ≡ 1) }
+{
+    let mut bits = Bits::zeros(alloc, 1)?;
+    bits.set(0, a);
+    Ok(bits)
+}
+
+/// The clock that shifts a bit.
+fn shifts(scan: u32, bit: u32, tms: bool, tdi: bool, expect: Option<bool>) -> Pins {
+    Pins {
+        tms,
+        tdi,
+        expect,
+        scan,
+        bit,
+    }
+}
+
+#[test]
+fn tdi_and_mask_hold_up_to_a_new_length(rt: HostRuntime) -> Result<(), Fail> {
+    let alloc = rt.alloc();
+    let mut commands = Commands::new(alloc);
+    commands.push(Command::Sdr(Scan {
+        len: 2,
+        tdi: Some(two(alloc, true, false)?),
+        tdo: Some(two(alloc, false, true)?),
+        mask: Some(two(alloc, false, true)?),
+        smask: None,
+    }))?;
+    commands.push(Command::Sdr(Scan {
+        len: 2,
+        tdi: None,
+        tdo: Some(two(alloc, true, false)?),
+        mask: None,
+        smask: None,
+    }))?;
+    commands.push(Command::Sdr(Scan {
+        len: 1,
+        tdi: Some(one(alloc, true)?),
+        tdo: Some(one(alloc, true)?),
+        mask: None,
+        smask: None,
+    }))?;
+    commands.push(Command::Run(3))?;
+    commands.push(Command::Reset)?;
+
+    let mut player = Player::new(Stable::Reset, 7, &commands);
+    let mut shifted = Vec::new(alloc);
+    let mut quiet = Vec::new(alloc);
+    while let Some(pins) = player.next() {
+        if pins.scan > 0 {
+            shifted.push(pins)?;
+        } else {
+            quiet.push(pins.tms)?;
+        }
+    }
+    assert_eq!(rt; player.ended(), Stable::Reset);
+    // To Run-Test/Idle; three scans, each led in by three clocks and out by two; three clocks to run; five to reset.
+    let (low, high) = (false, true);
+    let clocks = [
+        low, high, low, low, high, low, high, low, low, high, low, high, low, low, high, low, low,
+        low, low, high, high, high, high, high,
+    ];
+    assert_eq!(rt; quiet.as_slice(), clocks.as_slice());
+    let wanted = [
+        shifts(8, 0, false, true, None),
+        shifts(8, 1, true, false, Some(true)),
+        shifts(9, 0, false, true, None),
+        shifts(9, 1, true, false, Some(false)),
+        shifts(10, 0, true, true, Some(true)),
+    ];
+    assert_eq!(rt; shifted.as_slice(), wanted.as_slice());
+    Ok(())
 }

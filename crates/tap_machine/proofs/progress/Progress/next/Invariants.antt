@@ -1,0 +1,15 @@
+use Rattle.std.proofs.Common.{◌≡◌}
+use Rattle.tap_machine.specs.Left.{pins_left, rests_left, to_begin, IsUnderWay}
+use Rattle.tap_machine.specs.declared.progress.Progress.{Progress}
+use Rattle.tap_machine.proofs.progress.Progress.next.Given as goal
+
+pub record Continues (before now : Progress) : Type 0 where
+  pub pins : pins_left now ≡ pins_left before
+  pub rests : rests_left now ≡ rests_left before
+  pub sound : IsUnderWay now
+
+abbrev pub invariant-loop-pins : goal.invariant-loop-pins
+invariant-loop-pins l = Continues l.fn.self l.self
+
+abbrev pub decreases-loop-pins : goal.decreases-loop-pins
+decreases-loop-pins l = to_begin l.self

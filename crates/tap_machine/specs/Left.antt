@@ -1,0 +1,116 @@
+-- What is left of a play: the pins still to come, and the state in which they leave the controller.
+use Rattle.std.specs.Prelude.{◌≡◌, ◌<◌, ◌^◌, ◌+◌, ◌*◌, ℕ, Bool, true, false, List, [], ◌∷◌, ◌++◌, length, replicate, map, drop, Option, Some, None, option_map, unwrap_or}
+use Rattle.std.specs.Borrow.{Bor}
+use Rattle.ij_bits.specs.Room.{Listed}
+use Rattle.svf_writer.specs.Fits.{HasLength, AreFitAfter}
+use Rattle.tap_machine.specs.declared.Pins.{Pins}
+use Rattle.tap_machine.specs.declared.Stable.{Stable}
+use Rattle.tap_machine.specs.declared.Stable.TheVariants.{Reset as InReset, Idle as InIdle}
+use Rattle.tap_machine.specs.declared.progress.Sources.{Sources}
+use Rattle.tap_machine.specs.declared.progress.Phase.{Phase}
+use Rattle.tap_machine.specs.declared.progress.Phase.TheVariants.{Quiet, BeforeIr, BeforeDr, Select, Enter, Shift, Exit, Update}
+use Rattle.tap_machine.specs.declared.progress.Progress.{Progress}
+use Rattle.svf_writer.specs.SeenCommands.{SeenCommand}
+use Rattle.tap_machine.specs.Play.{quiet, shifts, Kept, Played, expected, sir_pins, sdr_pins, pins_with, rests_after, scans_in}
+
+-- a play as contracts see it: the pins that are left, and where they leave the controller
+pub record Left : Type 0 where
+  pub pins : List Pins
+  pub rests : Stable
+
+-- bits that were lent
+abbrev pub lent : Option (Bor (Listed Bool)) → Option (List Bool)
+lent bits = option_map (λ b. b.now.items) bits
+
+-- what is kept of the last scan of a kind, by what it was taken from
+abbrev pub seen_kept : Sources → Kept
+seen_kept s =
+    record { len = s.len; tdi = unwrap_or (lent s.tdi) []; mask = unwrap_or (lent s.mask) (replicate s.len true) }
+
+-- the length of that scan, where there was one
+abbrev pub last_length : Sources → Option ℕ
+last_length s = option_map (λ b. s.len) s.tdi
+
+-- its bits have its length
+pub record AreSources (s : Sources) : Type 0 where
+  pub tdi : length (unwrap_or (lent s.tdi) []) ≡ s.len
+  pub mask : HasLength s.len (lent s.mask)
+
+-- the scan at hand
+abbrev pub at_hand : Progress → Played
+at_hand p =
+    record { tdi = unwrap_or (lent p.scan.tdi) []; expects = expected p.scan.len (lent p.tdo) (unwrap_or (lent p.scan.mask) (replicate p.scan.len true)) }
+
+-- the pins of a scan from a position on
+abbrev pub pins_from : ℕ → Played → ℕ → List Pins
+pins_from scan p k = shifts scan k (drop k p.tdi) (drop k p.expects) ++ map quiet (true ∷ false ∷ [])
+
+-- the pins of a command from a phase on
+abbrev pub phase_pins : ℕ → Played → Phase → List Pins
+phase_pins scan p (Quiet tms left) = replicate left (quiet tms)
+phase_pins scan p BeforeIr = sir_pins scan p
+phase_pins scan p BeforeDr = sdr_pins scan p
+phase_pins scan p Select = map quiet (false ∷ false ∷ []) ++ pins_from scan p 0
+phase_pins scan p Enter = map quiet (false ∷ []) ++ pins_from scan p 0
+phase_pins scan p (Shift k) = pins_from scan p k
+phase_pins scan p Exit = map quiet (true ∷ false ∷ [])
+phase_pins scan p Update = map quiet (false ∷ [])
+
+-- the commands that are not begun
+abbrev pub commands_left : Progress → List SeenCommand
+commands_left p = drop p.at p.commands.now
+
+-- their pins
+abbrev pub pins_to_come : Progress → List Pins
+pins_to_come p = pins_with (seen_kept p.ir) (seen_kept p.dr) p.from p.scans (commands_left p)
+
+-- the pins that are left of the command at hand
+abbrev pub pins_at_hand : Progress → List Pins
+pins_at_hand p = phase_pins p.scans (at_hand p) p.phase
+
+-- all pins that are left
+abbrev pub pins_left : Progress → List Pins
+pins_left p = pins_at_hand p ++ pins_to_come p
+
+-- where the play ends
+abbrev pub rests_left : Progress → Stable
+rests_left p = rests_after p.from (commands_left p)
+
+abbrev pub left : Progress → Left
+left p = record { pins = pins_left p; rests = rests_left p }
+
+-- a phase that shifts has a bit to shift
+abbrev pub IsWithin : ℕ → Phase → Type 0
+IsWithin len (Quiet tms left) = Unit {0}
+IsWithin len BeforeIr = 0 < len
+IsWithin len BeforeDr = 0 < len
+IsWithin len Select = 0 < len
+IsWithin len Enter = 0 < len
+IsWithin len (Shift k) = k < len
+IsWithin len Exit = Unit {0}
+IsWithin len Update = Unit {0}
+
+-- a play that is under way
+pub record IsUnderWay (p : Progress) : Type 0 where
+  pub ir : AreSources p.ir
+  pub dr : AreSources p.dr
+  pub scan : AreSources p.scan
+  pub tdo : HasLength p.scan.len (lent p.tdo)
+  pub within : IsWithin p.scan.len p.phase
+  pub fits : AreFitAfter (last_length p.ir) (last_length p.dr) (commands_left p)
+  pub few : p.scans + scans_in (commands_left p) < 2 ^ 32
+  pub counted : length p.commands.now < 2 ^ 64
+
+-- the first of the pins, and none where there is none
+abbrev pub first_of : List Pins → Option Pins
+first_of [] = None
+first_of (p ∷ ps) = Some p
+
+-- one more clock where the controller must first leave Test-Logic-Reset
+abbrev pub wakes : Stable → ℕ
+wakes InReset = 1
+wakes InIdle = 0
+
+-- a number that falls with each command begun
+abbrev pub to_begin : Progress → ℕ
+to_begin p = 2 * length (commands_left p) + wakes p.from

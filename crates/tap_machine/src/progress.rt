@@ -1,0 +1,319 @@
+// How far a play has come in its list of commands.
+ghost use Rattle.std.specs.Prelude.{◌≡◌, ◌<◌, ◌+◌, ◌^◌, ◌++◌, ◌∷◌, [], length, drop, get_or, replicate, true, false, Some, None, unwrap_or, option_map, IsTrue, ◌↔◌};
+ghost use Rattle.svf_writer.specs.Fits.{HasLength, FitsAfter};
+ghost use Rattle.svf_writer.specs.SeenCommands.{SIR, SDR, seen_scan, seen_command};
+ghost use Rattle.tap_machine.specs.Left.{lent, seen_kept, last_length, AreSources, at_hand, phase_pins, pins_at_hand, pins_to_come, pins_left, rests_left, commands_left, to_begin, IsWithin, IsUnderWay, first_of};
+ghost use Rattle.tap_machine.specs.Play.{quiet, kept_now, expected, mask_now};
+
+use crate::{Pins, Stable};
+use ij_bits::Bits;
+use svf_writer::command::{Command, Scan};
+use svf_writer::commands::Commands;
+
+/// The length of the last scan of a kind, and the bits of the commands that it took its TDI and MASK from. Without
+/// MASK each bit is compared.
+#[derive(Clone, Copy)]
+pub(crate) struct Sources<'a> {
+    pub len: u32,
+    pub tdi: Option<&'a Bits>,
+    pub mask: Option<&'a Bits>,
+}
+
+/// What is left of the command at hand.
+#[derive(Clone, Copy)]
+pub(crate) enum Phase {
+    /// So many clocks with one TMS that shift nothing.
+    Quiet { tms: bool, left: u32 },
+    /// A scan of the instruction register, from Run-Test/Idle on.
+    BeforeIr,
+    /// A scan from Run-Test/Idle or Select-DR-Scan on.
+    BeforeDr,
+    /// A scan from Select-DR-Scan or Select-IR-Scan on, to its capture.
+    Select,
+    /// A scan from its capture on.
+    Enter,
+    /// A scan from the shift of a position on.
+    Shift(u32),
+    /// A scan from Exit1-DR or Exit1-IR on.
+    Exit,
+    /// A scan from its update on.
+    Update,
+}
+
+/// A play under way: the commands, the number of those that are begun, the state in which the command at hand leaves
+/// the controller, and the number of scans so far; of the scan at hand what it shifts and what it expects; and what
+/// the last scan of each kind leaves to the next.
+#[derive(Drop)]
+pub(crate) struct Progress<'a> {
+    pub commands: &'a Commands,
+    pub at: usize,
+    pub from: Stable,
+    pub scans: u32,
+    pub phase: Phase,
+    pub scan: Sources<'a>,
+    pub tdo: Option<&'a Bits>,
+    pub ir: Sources<'a>,
+    pub dr: Sources<'a>,
+}
+
+/// The next scan's sources: TDI and MASK hold where the command has none, MASK up to a new length.
+pub(crate) fn sources_of<'a>(kept: Sources<'a>, scan: &'a Scan) -> Sources<'a>
+    requires kept { AreSources kept }
+    requires fits { FitsAfter (last_length kept) (seen_scan scan.now) }
+    ensures kept { seen_kept result ≡ kept_now (seen_kept kept.entry) (seen_scan scan.now) }
+    ensures sound { AreSources result }
+    ensures last { last_length result ≡ Some scan.now.len }
+{
+    let mask = match &scan.mask {
+        Some(mask) => Some(mask),
+        None => if kept.len == scan.len {
+            kept.mask
+        } else {
+            None
+        },
+    };
+    let tdi = match &scan.tdi {
+        Some(tdi) => Some(tdi),
+        None => kept.tdi,
+    };
+    Sources {
+        len: scan.len,
+        tdi,
+        mask,
+    }
+}
+
+/// A part of a scan, lent.
+fn lend(bits: &Option<Bits>) -> Option<&Bits>
+    ensures { lent result ≡ option_map (λ b. b.items) bits.now }
+{
+    bits.as_ref()
+}
+
+/// A clock that shifts nothing.
+fn quiet_clock(tms: bool) -> Pins
+    ensures { result ≡ quiet tms }
+{
+    Pins {
+        tms,
+        tdi: false,
+        expect: None,
+        scan: 0,
+        bit: 0,
+    }
+}
+
+impl<'a> Progress<'a> {
+    /// Whether MASK compares a position of the scan at hand.
+    fn is_compared(&self, k: u32) -> bool
+        requires within { k < self.now.scan.len }
+        requires sound { AreSources self.now.scan }
+        ensures { result ≡ get_or (unwrap_or (lent self.now.scan.mask) (replicate self.now.scan.len true)) k false }
+    {
+        match self.scan.mask {
+            Some(mask) => mask.get(k),
+            None => true,
+        }
+    }
+
+    /// The bit that is expected at a position of the scan at hand, where it is compared.
+    fn expects(&self, k: u32) -> Option<bool>
+        requires within { k < self.now.scan.len }
+        requires sound { IsUnderWay self.now }
+        ensures { result ≡ get_or (at_hand self.now).expects k None }
+    {
+        let tdo = self.tdo?;
+        if self.is_compared(k) {
+            Some(tdo.get(k))
+        } else {
+            None
+        }
+    }
+
+    /// The pins at a position of the scan at hand.
+    fn shift_clock(&self, k: u32) -> Pins
+        requires within { k < self.now.scan.len }
+        requires sound { IsUnderWay self.now }
+        ensures { Some result ≡ first_of (phase_pins self.now.scans (at_hand self.now) (Phase.Shift k)) }
+    {
+        let tdi = match self.scan.tdi {
+            Some(tdi) => tdi.get(k),
+            None => false,
+        };
+        let last = self.scan.len - 1;
+        Pins {
+            tms: k == last,
+            tdi,
+            expect: self.expects(k),
+            scan: self.scans,
+            bit: k,
+        }
+    }
+
+    /// The first of the pins that are left of the command at hand.
+    fn first(&self) -> Option<Pins>
+        requires { IsUnderWay self.now }
+        ensures { result ≡ first_of (pins_at_hand self.now) }
+    {
+        match self.phase {
+            Phase::Quiet { tms, left } => if left == 0 {
+                None
+            } else {
+                Some(quiet_clock(tms))
+            },
+            Phase::BeforeIr | Phase::BeforeDr | Phase::Exit => Some(quiet_clock(true)),
+            Phase::Select | Phase::Enter | Phase::Update => Some(quiet_clock(false)),
+            Phase::Shift(k) => Some(self.shift_clock(k)),
+        }
+    }
+
+    /// The phase after the shift of a position.
+    fn shift_after(&self, k: u32) -> Phase
+        requires within { k < self.now.scan.len }
+        requires sound { IsUnderWay self.now }
+        ensures pins { phase_pins self.now.scans (at_hand self.now) result ≡ drop 1 (phase_pins self.now.scans (at_hand self.now) (Phase.Shift k)) }
+        ensures within { IsWithin self.now.scan.len result }
+    {
+        let last = self.scan.len - 1;
+        if k == last {
+            Phase::Exit
+        } else {
+            Phase::Shift(k + 1)
+        }
+    }
+
+    /// The phase after a clock.
+    fn phase_after(&self) -> Phase
+        requires { IsUnderWay self.now }
+        ensures pins { phase_pins self.now.scans (at_hand self.now) result ≡ drop 1 (pins_at_hand self.now) }
+        ensures within { IsWithin self.now.scan.len result }
+    {
+        match self.phase {
+            Phase::Quiet { tms, left } => Phase::Quiet {
+                tms,
+                left: left.saturating_sub(1),
+            },
+            Phase::BeforeIr => Phase::BeforeDr,
+            Phase::BeforeDr => Phase::Select,
+            Phase::Select => Phase::Enter,
+            Phase::Enter => Phase::Shift(0),
+            Phase::Shift(k) => self.shift_after(k),
+            Phase::Exit => Phase::Update,
+            Phase::Update => Phase::Quiet {
+                tms: false,
+                left: 0,
+            },
+        }
+    }
+
+    /// The next command.
+    fn command(&self) -> &'a Command
+        requires { self.now.at < length self.now.commands.now }
+        ensures { commands_left self.now ≡ seen_command result.now ∷ drop (self.now.at + 1) self.now.commands.now }
+    {
+        self.commands.get(self.at)
+    }
+
+    /// Makes this the scan at hand.
+    fn begin_scan(&mut self, phase: Phase, scan: Sources<'a>, tdo: &'a Option<Bits>)
+        requires more { self.old.at + 1 < 2 ^ 64 }
+        requires few { self.old.scans + 1 < 2 ^ 32 }
+        ensures tdo { lent self.new.tdo ≡ option_map (λ b. b.items) tdo.now }
+        ensures others { self.new ≡ record self.old { phase = phase; scan = scan.entry; tdo = self.new.tdo; scans = self.old.scans + 1; at = self.old.at + 1 } }
+    {
+        self.phase = phase;
+        self.scan = scan;
+        self.tdo = lend(tdo);
+        self.scans += 1;
+        self.at += 1;
+    }
+
+    /// Begins a scan of the instruction register.
+    fn begin_sir(&mut self, scan: &'a Scan)
+        requires sound { IsUnderWay self.old }
+        requires idle { self.old.from ≡ Stable.Idle }
+        requires more { self.old.at < length self.old.commands.now }
+        requires next { commands_left self.old ≡ SIR (seen_scan scan.now) ∷ drop (self.old.at + 1) self.old.commands.now }
+        ensures pins { pins_left self.new ≡ pins_to_come self.old }
+        ensures rests { rests_left self.new ≡ rests_left self.old }
+        ensures sound { IsUnderWay self.new }
+        ensures fewer { to_begin self.new < to_begin self.old }
+    {
+        self.ir = sources_of(self.ir, scan);
+        self.begin_scan(Phase::BeforeIr, self.ir, &scan.tdo);
+    }
+
+    /// Begins a scan of the data register.
+    fn begin_sdr(&mut self, scan: &'a Scan)
+        requires sound { IsUnderWay self.old }
+        requires idle { self.old.from ≡ Stable.Idle }
+        requires more { self.old.at < length self.old.commands.now }
+        requires next { commands_left self.old ≡ SDR (seen_scan scan.now) ∷ drop (self.old.at + 1) self.old.commands.now }
+        ensures pins { pins_left self.new ≡ pins_to_come self.old }
+        ensures rests { rests_left self.new ≡ rests_left self.old }
+        ensures sound { IsUnderWay self.new }
+        ensures fewer { to_begin self.new < to_begin self.old }
+    {
+        self.dr = sources_of(self.dr, scan);
+        self.begin_scan(Phase::BeforeDr, self.dr, &scan.tdo);
+    }
+
+    /// Begins so many clocks with one TMS, which leave the controller in a state.
+    fn begin_quiet(&mut self, tms: bool, left: u32, from: Stable)
+        ensures { self.new ≡ record self.old { phase = Phase.Quiet tms left; from = from } }
+    {
+        self.phase = Phase::Quiet { tms, left };
+        self.from = from;
+    }
+
+    /// Begins the next command, or first leaves Test-Logic-Reset for one that begins in Run-Test/Idle.
+    fn begin(&mut self)
+        requires sound { IsUnderWay self.old }
+        requires more { self.old.at < length self.old.commands.now }
+        ensures pins { pins_left self.new ≡ pins_to_come self.old }
+        ensures rests { rests_left self.new ≡ rests_left self.old }
+        ensures sound { IsUnderWay self.new }
+        ensures fewer { to_begin self.new < to_begin self.old }
+    {
+        match (self.command(), self.from) {
+            (Command::Reset, _) => {
+                self.begin_quiet(true, 5, Stable::Reset);
+                self.at += 1;
+            },
+            (_, Stable::Reset) => self.begin_quiet(false, 1, Stable::Idle),
+            (Command::Sir(scan), _) => self.begin_sir(scan),
+            (Command::Sdr(scan), _) => self.begin_sdr(scan),
+            (Command::Idle, _) => {
+                self.begin_quiet(false, 0, Stable::Idle);
+                self.at += 1;
+            },
+            (Command::Run(cycles), _) => {
+                self.begin_quiet(false, *cycles, Stable::Idle);
+                self.at += 1;
+            },
+        }
+    }
+
+    /// The pins of the next clock, `None` where all were given.
+    pub(crate) fn next(&mut self) -> Option<Pins>
+        requires { IsUnderWay self.old }
+        ensures pins { result ≡ first_of (pins_left self.old) }
+        ensures others { pins_left self.new ≡ drop 1 (pins_left self.old) }
+        ensures rests { rests_left self.new ≡ rests_left self.old }
+        ensures sound { IsUnderWay self.new }
+    {
+        loop {
+            match self.first() {
+                Some(pins) => {
+                    self.phase = self.phase_after();
+                    return Some(pins);
+                },
+                None => if self.at < self.commands.len() {
+                    self.begin();
+                } else {
+                    return None;
+                },
+            }
+        }
+    }
+}
