@@ -40,7 +40,7 @@ pub fn ijtag<S: Shelf, O: Sink, E: Sink>(
         × IfSome (S.files shelf.old) (λ f. IsFirstRefusal f command refusal)
         × IsTold (E.taken err.old) (E.taken err.new) (E.faults err.old) (E.faults err.new) (stop_text (Refuses refusal))) }
 
-    ensures refuses { IfSome (command_of (map string_bytes words.now.items)) (λ command. IfSome (S.files shelf.old) (λ f. (refusal : Refusal) → IsFirstRefusal f command refusal
+    ensures refuses { IfSome (command_in words.now.items) (λ command. IfSome (S.files shelf.old) (λ f. (refusal : Refusal) → IsFirstRefusal f command refusal
         → ¬ SomeRose (S.load_faults shelf.old) (S.load_faults shelf.new) (loads command)
         → (result ≡ Status.Refused) ⊎ (result ≡ Status.OutOfMemory))) }
 
