@@ -1,5 +1,5 @@
 -- Why a run stops short, the text that it then prints on the error stream, and its status.
-use Rattle.std.specs.Prelude.{ℕ, List, [], ◌∷◌, ◌++◌, codes}
+use Rattle.std.specs.Prelude.{ℕ, List, [], ◌∷◌, codes}
 use Rattle.std.specs.Fmt.{decimal}
 use Rattle.ij_io.specs.Bytes.{concat}
 use Rattle.ijtag_core.specs.declared.status.Status.{Status}
