@@ -1,8 +1,8 @@
 -- What a file holds that was begun and then grown.
 use Rattle.std.specs.Prelude.{unwrap_or, option_map, ◌⊎◌}
-use Rattle.std.proofs.Common.{◌≡◌, inl, inr, ℕ, Option, Some, None, List, [], ◌++◌, take, refl, sym, ap, ◌∙◌}
+use Rattle.std.proofs.Common.{◌≡◌, inl, inr, ℕ, Option, Some, None, List, [], ◌++◌, take, ap, ◌∙◌}
 use Rattle.ij_io.specs.Bytes.{Adds}
-use Rattle.ij_io.specs.Files.{Files, bytes_of, file_at, GrowsPart}
+use Rattle.ij_io.specs.Files.{Files, file_at, GrowsPart}
 use Rattle.ijtag_core.specs.Outcome.{IsPart}
 
 -- after a refused begin

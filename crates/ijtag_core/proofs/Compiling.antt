@@ -1,7 +1,7 @@
 -- What is known of a compile after each of its parts.
 use Rattle.std.specs.Prelude.{IfSome, option_map}
-use Rattle.std.proofs.Common.{◌≡◌, inl, inr, ℕ, Option, Some, None, List, refl, sym, ap, ◌∙◌, subst}
-use Rattle.ij_io.specs.Files.{Files, bytes_of, file_at}
+use Rattle.std.proofs.Common.{◌≡◌, inl, inr, ℕ, Option, Some, None, List, subst}
+use Rattle.ij_io.specs.Files.{Files, bytes_of}
 use Rattle.first_form.specs.Texts.{SeenForm}
 use Rattle.register_compiler.specs.Procedure.{unapplied_line}
 use Rattle.register_compiler.specs.Meaning.{DoesProcedure}

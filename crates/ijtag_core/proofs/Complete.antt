@@ -1,6 +1,6 @@
 -- What is accepted stops at a counted fault or for want of memory alone, and what meets a refusal is refused but for these.
-use Rattle.std.specs.Prelude.{IfSome, Contains, slice_index_or, ◌⊎◌}
-use Rattle.std.proofs.Common.{◌≡◌, inl, inr, ℕ, zero, suc, ◌<◌, Option, Some, None, List, [], ◌∷◌, length, refl, sym, ap, ◌∙◌, arith, subst}
+use Rattle.std.specs.Prelude.{IfSome, slice_index_or, ◌⊎◌}
+use Rattle.std.proofs.Common.{◌≡◌, inl, inr, ℕ, zero, suc, ◌<◌, Option, Some, None, List, [], ◌∷◌, length, refl, sym, ◌∙◌, arith, subst}
 use Rattle.ij_io.specs.Causes.{Rose}
 use Rattle.ij_io.specs.Files.{Files, file_at}
 use Rattle.first_form.specs.Texts.{SeenForm}

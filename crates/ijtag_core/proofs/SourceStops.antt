@@ -1,6 +1,6 @@
 -- Why several loads stop, from why each of them does.
-use Rattle.std.specs.Prelude.{IfSome, Contains, slice_index_or, find, nat_lt, cond, Result, Ok, Err, IfErr}
-use Rattle.std.proofs.Common.{◌≡◌, inl, inr, ◌≤◌, ◌<◌, ◌+◌, ℕ, suc, Bool, true, false, Option, Some, None, List, [], ◌∷◌, length, refl, sym, ap, ◌∙◌, arith, subst}
+use Rattle.std.specs.Prelude.{IfSome, slice_index_or, nat_lt, cond}
+use Rattle.std.proofs.Common.{◌≡◌, inl, inr, ◌≤◌, ℕ, suc, Bool, true, false, Option, Some, None, List, [], ◌∷◌, length, refl, sym, ap, ◌∙◌, arith}
 use Rattle.ij_io.specs.Causes.{Rose}
 use Rattle.ij_io.specs.Files.{Files, bytes_of}
 use Rattle.ijtag_core.specs.Accepted.{first_long, IsReached}

@@ -1,5 +1,5 @@
 -- The words that the program is called with.
-use Rattle.std.specs.Prelude.{ℕ, Bool, true, false, List, [], ◌∷◌, Option, Some, None, codes}
+use Rattle.std.specs.Prelude.{ℕ, true, false, List, [], ◌∷◌, Option, Some, None, codes}
 use Rattle.std.specs.Str.{bytes_eq}
 
 -- `compile ICL PDL DEVICE TOP PROC SVF`: four file names, the top module and the procedure

@@ -1,5 +1,4 @@
 -- Words and stops as contracts see them: with plain lists.
-use Rattle.std.specs.Prelude.{ℕ, List}
 use Rattle.ijtag_core.specs.Command.{Command}
 use Rattle.ijtag_core.specs.Stops.{Stop, Refusal, Usage, Refuses, ReadFault, WriteFault, NoMemory, Long, FirstForm, Unapplied}
 use Rattle.ijtag_core.specs.declared.words.CompileWords.{CompileWords}

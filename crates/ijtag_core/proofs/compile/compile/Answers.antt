@@ -1,11 +1,10 @@
-use Rattle.std.specs.Prelude.{IfSome, Some, option_map}
-use Rattle.std.proofs.Common.{◌≡◌, ◌∙◌, refl, sym, ap, subst, rules, List, ℕ, Option}
+use Rattle.std.specs.Prelude.{Some, option_map}
+use Rattle.std.proofs.Common.{◌∙◌, refl, ap, subst, rules, List, ℕ, Option}
 use Rattle.ij_io.specs.Causes.{Rose}
 use Rattle.ij_io.specs.Files.{Files, file_at}
 use Rattle.first_form.specs.Texts.{SeenForm}
 use Rattle.first_form.specs.SeenForms.{seen_form}
 use Rattle.register_compiler.specs.Svf.{svf_text}
-use Rattle.ijtag_core.specs.Accepted.{AreAccepted}
 use Rattle.ijtag_core.specs.Command.{Command}
 use Rattle.ijtag_core.specs.Outcome.{IsPart}
 use Rattle.ijtag_core.specs.Seen.{seen_words}

@@ -1,5 +1,5 @@
-use Rattle.std.specs.Prelude.{IfErr, IfSome, Err, Result, None}
-use Rattle.std.proofs.Common.{◌≡◌, ◌≤◌, ◌∙◌, sym, ap, subst, rules, ℕ, List, [], ◌∷◌, Option, arith}
+use Rattle.std.specs.Prelude.{IfErr, IfSome, Err, None}
+use Rattle.std.proofs.Common.{◌≡◌, ◌∙◌, sym, subst, rules, ℕ, List, [], ◌∷◌, Option}
 use Rattle.ij_io.specs.Files.{Files}
 use Rattle.ijtag_core.specs.Accepted.{first_long}
 use Rattle.ijtag_core.specs.Command.{loads}

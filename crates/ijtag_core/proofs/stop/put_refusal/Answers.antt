@@ -1,5 +1,5 @@
-use Rattle.std.proofs.Common.{List, ℕ, subst, sym, ap, ◌∙◌}
-use Rattle.std.specs.Prelude.{OnOk, OnErr, codes, ◌++◌}
+use Rattle.std.proofs.Common.{subst, sym}
+use Rattle.std.specs.Prelude.{OnOk, OnErr}
 use Rattle.ij_io.specs.Bytes.{Adds, AddsPart}
 use Rattle.ijtag_core.specs.Stops.{refusal_text}
 use Rattle.ijtag_core.specs.Seen.{seen_refusal}

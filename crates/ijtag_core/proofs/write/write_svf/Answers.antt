@@ -1,5 +1,4 @@
-use Rattle.std.specs.Prelude.{OnErr}
-use Rattle.std.proofs.Common.{◌≡◌, ◌∙◌, sym, ap, subst, List, ℕ, Some}
+use Rattle.std.proofs.Common.{◌≡◌, ◌∙◌, subst, List, ℕ, Some}
 use Rattle.ij_io.specs.Bytes.{Adds}
 use Rattle.ij_io.specs.Files.{file_at}
 use Rattle.ij_io.proofs.Adding.{at_refusal}
