@@ -26,12 +26,13 @@ pub record AreOfForm (files : Files) (command : Command) (form : SeenForm) : Typ
   pub short : first_long files (loads command) ≡ None
   pub of : AreOf form (bytes_of files command.icl) (bytes_of files command.pdl) (bytes_of files command.device) command
 
--- and an iApply follows each command of the procedure
+-- and an iApply follows each iWrite and iRead of the procedure
 pub record AreAccepted (files : Files) (command : Command) (form : SeenForm) : Type 0 where
   pub of_form : AreOfForm files command form
   pub applied : unapplied_line form.lines ≡ None
 
--- the first refusal that the files meet: a long file, then a text that isn't of the form, then a command without iApply
+-- the first refusal that the files meet: a long file, then texts, a top module or a procedure that aren't of the first form,
+-- then an iWrite or iRead that no iApply follows
 abbrev pub IsFirstRefusal : Files → Command → Refusal → Type 0
 IsFirstRefusal files command (Long name) = first_long files (loads command) ≡ Some name
 IsFirstRefusal files command FirstForm = (first_long files (loads command) ≡ None) × ((form : SeenForm) → ¬ AreOfForm files command form)

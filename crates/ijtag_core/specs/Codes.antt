@@ -1,4 +1,4 @@
--- The exit status of the process.
+-- The exit status of the process: 0 to 6 in the order of the variants.
 use Rattle.std.specs.Prelude.{ℕ}
 use Rattle.ijtag_core.specs.declared.status.Status.{Status}
 use Rattle.ijtag_core.specs.declared.status.Status.TheVariants.{Good, Differs, Usage, Refused, ReadFault, WriteFault, OutOfMemory}

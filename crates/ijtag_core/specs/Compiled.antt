@@ -37,7 +37,7 @@ IsStop files command load store (WriteFault name) =
 IsStop files command load store NoMemory = Unit {0}
 IsStop files command load store Usage = ⊥
 
--- a stop before the SVF file is begun
+-- a stop that comes only before the SVF file is begun
 abbrev pub IsEarly : Stop → Type 0
 IsEarly Usage = Unit {0}
 IsEarly (Refuses refusal) = Unit {0}

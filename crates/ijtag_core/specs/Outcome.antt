@@ -2,7 +2,7 @@
 use Rattle.std.specs.Prelude.{◌≡◌, ◌⊎◌, ℕ, List, [], ◌∷◌, Option, Some, take}
 use Rattle.ij_io.specs.Bytes.{Adds, AddsPart}
 use Rattle.ij_io.specs.Causes.{Rose}
-use Rattle.ij_io.specs.Files.{Files, file_at}
+use Rattle.ij_io.specs.Files.{Files}
 use Rattle.std.specs.Option.{option_map}
 use Rattle.ijtag_core.specs.declared.status.Status.{Status}
 use Rattle.ijtag_core.specs.declared.status.Status.TheVariants.{Good, Differs, Usage, Refused, ReadFault, WriteFault, OutOfMemory}
@@ -12,19 +12,16 @@ abbrev pub SomeRose : (List ℕ → ℕ) → (List ℕ → ℕ) → List (List �
 SomeRose before now [] = ⊥
 SomeRose before now (name ∷ names) = Rose (before name) (now name) ⊎ SomeRose before now names
 
--- the text was added to a stream, or a first part of it where the stream's count of faults rose
+-- The text was added to a stream, or a first part of it where the stream's count of faults rose. Of a stream that doesn't tell
+-- what it took nothing is said but that it goes on so.
 abbrev pub IsTold : Option (List ℕ) → Option (List ℕ) → ℕ → ℕ → List ℕ → Type 0
 IsTold old new before now text = Adds old new text ⊎ (AddsPart old new text × Rose before now)
-
--- no file but this one changed
-abbrev pub OnlyChanges : List ℕ → Option Files → Option Files → Type 0
-OnlyChanges name old new = (other : List ℕ) → (other ≡ name → ⊥) → file_at new other ≡ file_at old other
 
 -- the file is as before, or holds some first bytes of the text, where the files are told
 abbrev pub IsPart : Option Files → Option (Option (List ℕ)) → Option (Option (List ℕ)) → List ℕ → Type 0
 IsPart files old new text = (new ≡ old) ⊎ ((count : ℕ) × (new ≡ option_map (λ _. Some (take count text)) files))
 
--- a status at which no file was begun
+-- a status at which no file was begun, in any case
 abbrev pub IsEarlyStatus : Status → Type 0
 IsEarlyStatus Good = ⊥
 IsEarlyStatus Differs = ⊥
@@ -34,7 +31,7 @@ IsEarlyStatus ReadFault = Unit {0}
 IsEarlyStatus WriteFault = ⊥
 IsEarlyStatus OutOfMemory = ⊥
 
--- a status at which the SVF file may hold a part of its text
+-- a status at which the SVF file may hold a first part of its text
 abbrev pub IsPartStatus : Status → Type 0
 IsPartStatus Good = ⊥
 IsPartStatus Differs = ⊥

@@ -11,18 +11,22 @@ pub data Refusal : Type 0 where
   Long : (name : List ℕ) → Refusal
   -- the texts, the top module or the procedure aren't the first form
   FirstForm : Refusal
-  -- no iApply follows the command on this line
+  -- no iApply follows the iWrite or iRead on this line, counted from 1, and it is the first such one
   Unapplied : (line : ℕ) → Refusal
 
 pub data Stop : Type 0 where
   -- the words are no command
   Usage : Stop
+  -- a file or a text is refused
   Refuses : (refusal : Refusal) → Stop
-  -- a load of this file failed, a store under this name failed
+  -- a load of this file failed
   ReadFault : (name : List ℕ) → Stop
+  -- a store under this name failed
   WriteFault : (name : List ℕ) → Stop
+  -- there was no memory
   NoMemory : Stop
 
+-- the status of a run that stops so
 abbrev pub status_of : Stop → Status
 status_of Usage = UsageStatus
 status_of (Refuses refusal) = Refused
@@ -34,14 +38,17 @@ status_of NoMemory = MemoryStatus
 abbrev pub named_line : List ℕ → List ℕ → List ℕ
 named_line text name = concat (text ∷ name ∷ codes "\n" ∷ [])
 
+-- each command of a procedure stands behind two spaces, so in column 3
 abbrev pub unapplied_text : ℕ → List ℕ
 unapplied_text line = concat (codes "refused pdl Unapplied " ∷ decimal line ∷ codes ":3\n" ∷ [])
 
+-- the line that tells a refusal
 unfoldable pub refusal_text : Refusal → List ℕ
 refusal_text (Long name) = named_line (codes "refused file Long ") name
 refusal_text FirstForm = codes "refused core FirstForm\n"
 refusal_text (Unapplied line) = unapplied_text line
 
+-- the line that tells a stop
 unfoldable pub stop_text : Stop → List ℕ
 stop_text Usage = codes "usage: ijtag compile\n"
 stop_text (Refuses refusal) = refusal_text refusal
