@@ -17,12 +17,12 @@ length-shifts : (scan k : ℕ) (ts : List Bool) (es : List (Option Bool)) → le
 length-shifts scan k [] es = refl
 length-shifts scan k (t ∷ ts) es = ap suc (length-shifts scan (suc k) ts _)
 
-length-sdr_pins : (scan : ℕ) (p : Played) → length (sdr_pins scan p) ≡ length p.tdi + 5
+pub length-sdr_pins : (scan : ℕ) (p : Played) → length (sdr_pins scan p) ≡ length p.tdi + 5
 length-sdr_pins scan p =
     let a = length-append (shifts scan 0 p.tdi p.expects) (map quiet (true ∷ false ∷ [])) in
     omega (arith, a, length-shifts scan 0 p.tdi p.expects)
 
-length-sir_pins : (scan : ℕ) (p : Played) → length (sir_pins scan p) ≡ length p.tdi + 6
+pub length-sir_pins : (scan : ℕ) (p : Played) → length (sir_pins scan p) ≡ length p.tdi + 6
 length-sir_pins scan p =
     let a = length-append (shifts scan 0 p.tdi p.expects) (map quiet (true ∷ false ∷ [])) in
     omega (arith, a, length-shifts scan 0 p.tdi p.expects)

@@ -2,6 +2,7 @@
 #![tactic(auto)]
 
 ghost use Rattle.headline.specs.OneScan.{OneRegisterPlays, OneRegisterIsRight};
+ghost use Rattle.headline.specs.Reading.{WrittenScriptsAreRead};
 ghost use Rattle.headline.specs.Sizes.{OneRegisterIsShort, WrittenScriptsFit};
 
 /// The law of a network of one register: it carries no code, its clauses say what is proved of the definitions.
@@ -12,6 +13,8 @@ ghost use Rattle.headline.specs.Sizes.{OneRegisterIsShort, WrittenScriptsFit};
 /// - `short`: for a register of at most 64 bits and at most 1000 groups the clocks and the bytes are within what a
 ///   reader of SVF takes: see `IsShort`.
 /// - `fit`: on any network, the commands of a script that is written can be played: each scan has its bits.
+/// - `read`: on any network, a reader of SVF finds these commands in the text, where they take at most 1,000,000,000
+///   clocks.
 ///
 /// IEEE 1149.1-2013 has the TAP controller, IEEE 1687-2014 the network and PDL, SVF revision E the commands.
 pub fn one_register_law()
@@ -19,4 +22,5 @@ pub fn one_register_law()
     ensures right { OneRegisterIsRight }
     ensures short { OneRegisterIsShort }
     ensures fit { WrittenScriptsFit }
+    ensures read { WrittenScriptsAreRead }
 {}

@@ -1,5 +1,5 @@
 -- The compiled text of the first form is right and short.
-use Rattle.std.proofs.Common.{◌≡◌, ℕ, zero, suc, ◌<◌, ◌≤◌, Bool, false, List, [], ◌∷◌, length, refl, sym, ap, subst, arith}
+use Rattle.std.proofs.Common.{◌≡◌, ℕ, zero, suc, ◌<◌, ◌≤◌, Bool, false, List, [], ◌∷◌, length, refl, sym, ap, ◌∙◌, subst, arith, Ok}
 use Rattle.std.specs.Prelude.{map, replicate}
 use Rattle.std.proofs.lemmas.List.{length-replicate}
 use Rattle.ij_bits.specs.Terns.{all_count}
@@ -8,12 +8,14 @@ use Rattle.net_graph.specs.Nets.{IsNet}
 use Rattle.net_graph.specs.OneRegister.{plain_net, plain_net_is_one}
 use Rattle.net_graph.specs.Resets.{reset_bits}
 use Rattle.net_graph.proofs.PlainNet.{plain_net_is_net}
-use Rattle.headline.specs.Script.{Done, script_text, steps_of}
+use Rattle.headline.specs.Script.{Done, script_commands, script_text, steps_of}
 use Rattle.headline.specs.OneScan.{ArePlanned, done_of, start_bits, NoMachines}
 use Rattle.headline.specs.Headline.{IsRightBy}
+use Rattle.svf_reader.specs.Meaning.{svf}
 use Rattle.headline.specs.Sizes.{IsShort}
 use Rattle.headline.proofs.OneRegisterPlay.{one_register_is_right}
 use Rattle.headline.proofs.Sizes.{one_register_is_short}
+use Rattle.headline.proofs.Reading.{written_scripts_are_read}
 use Rattle.first_form.specs.Texts.{SeenForm, IsForm}
 use Rattle.register_compiler.specs.Procedure.{Queue, device_of, queues_of, steps_of_lines}
 use Rattle.register_compiler.specs.Meaning.{DoesProcedure}
@@ -69,6 +71,12 @@ pub form_is_short : (form : SeenForm) → IsForm form → IsShort (device_of for
 form_is_short form f =
     one_register_is_short form.width (replicate form.width false) (device_of form.opcode) (plan_of form) f.few_bits (few_scans form f) (device_is form.opcode f.opcode) (plan_is_planned form f)
 
+-- a reader of SVF finds the script's commands in the text
+form_is_read : (form : SeenForm) → IsForm form → svf (svf_text form) ≡ Ok (script_commands (device_of form.opcode) (script_of form))
+form_is_read form f =
+    ap svf (svf_text_is form)
+    ∙ written_scripts_are_read (device_of form.opcode) (script_of form) (device_is form.opcode f.opcode) (right_by form f).written (form_is_short form f).few_clocks
+
 -- the text, played, does what the procedure means
 pub form_is_right : (form : SeenForm) → IsForm form → DoesProcedure form (svf_text form)
-form_is_right form f = record { script = script_of form; right = right_by form f; short = form_is_short form f }
+form_is_right form f = record { script = script_of form; read = form_is_read form f; right = right_by form f; short = form_is_short form f }

@@ -1,0 +1,9 @@
+pub mod Texts
+pub mod Commands
+pub mod Values
+pub mod Meaning
+pub mod Reading
+pub mod Seen
+pub mod Answers
+pub mod Scripts
+pub mod Examples

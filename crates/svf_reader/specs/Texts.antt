@@ -1,0 +1,105 @@
+-- How an SVF text falls into comments, commands and words (Serial Vector Format, revision E).
+use Rattle.std.specs.Prelude.{ℕ, suc, ◌==◌, Bool, true, false, not, ◌&&◌, ◌||◌, cond, List, [], ◌∷◌, take}
+use Rattle.ij_text.specs.declared.Place.{Place}
+
+-- ---- comments
+
+-- the first byte, or 0 where there is none
+abbrev pub first : List ℕ → ℕ
+first [] = 0
+first (b ∷ bs) = b
+
+-- a comment begins at `!` (33) and at `//` (47)
+abbrev pub opens : ℕ → ℕ → Bool
+opens b next = b == 33 || (b == 47 && next == 47)
+
+-- whether a byte stands in a comment, told from the byte before it and the one behind it: a comment lasts up to the
+-- line feed that ends its line, which isn't in it
+abbrev pub in_comment : Bool → ℕ → ℕ → Bool
+in_comment true b next = not (b == 10)
+in_comment false b next = opens b next
+
+-- a text with each byte of a comment as a space, so that every other byte keeps its place
+abbrev pub plain_from : Bool → List ℕ → List ℕ
+plain_from inside [] = []
+plain_from inside (b ∷ bs) = cond (in_comment inside b (first bs)) 32 b ∷ plain_from (in_comment inside b (first bs)) bs
+
+abbrev pub plain : List ℕ → List ℕ
+plain text = plain_from false text
+
+-- ---- commands
+
+-- a byte in front of a list of texts belongs to the first of them
+abbrev pub in_front : ℕ → List (List ℕ) → List (List ℕ)
+in_front b [] = (b ∷ []) ∷ []
+in_front b (t ∷ ts) = (b ∷ t) ∷ ts
+
+-- what stands in front of each `;` (59), and last what stands behind all of them
+abbrev pub texts : List ℕ → List (List ℕ)
+texts [] = [] ∷ []
+texts (b ∷ bs) = cond (b == 59) ([] ∷ texts bs) (in_front b (texts bs))
+
+-- ---- words
+
+-- spaces, tabs and line ends
+abbrev pub is_blank : ℕ → Bool
+is_blank b = b == 32 || (b == 9 || (b == 10 || b == 13))
+
+-- parentheses
+abbrev pub is_mark : ℕ → Bool
+is_mark b = b == 40 || b == 41
+
+abbrev pub is_any : ℕ → Bool
+is_any b = false
+
+-- a byte of a longer word, where the bytes that `alone` tells are words by themselves
+abbrev pub in_word : (ℕ → Bool) → ℕ → Bool
+in_word alone b = not (is_blank b || alone b)
+
+abbrev pub goes_on : (ℕ → Bool) → List ℕ → Bool
+goes_on alone [] = false
+goes_on alone (b ∷ bs) = in_word alone b
+
+-- a byte in front of some words: a part of the first one, if this begins right behind it
+abbrev pub longer : Bool → ℕ → List (List ℕ) → List (List ℕ)
+longer false b ws = (b ∷ []) ∷ ws
+longer true b [] = (b ∷ []) ∷ []
+longer true b (w ∷ ws) = (b ∷ w) ∷ ws
+
+abbrev pub cut : (ℕ → Bool) → List ℕ → List (List ℕ)
+cut alone [] = []
+cut alone (b ∷ bs) =
+    cond (is_blank b) (cut alone bs)
+    (cond (alone b) ((b ∷ []) ∷ cut alone bs)
+    (longer (goes_on alone bs) b (cut alone bs)))
+
+-- the words of a text: parentheses, and the longest runs of bytes that are neither blank nor parentheses
+abbrev pub words : List ℕ → List (List ℕ)
+words text = cut is_mark text
+
+-- the longest runs of bytes that aren't blank
+abbrev pub runs : List ℕ → List (List ℕ)
+runs text = cut is_any text
+
+-- how many blanks stand at the front
+abbrev pub blanks : List ℕ → ℕ
+blanks [] = 0
+blanks (b ∷ bs) = cond (is_blank b) (suc (blanks bs)) 0
+
+-- ---- places
+
+abbrev pub first_place : Place
+first_place = record { line = 1; col = 1 }
+
+-- behind a line feed (10) a line begins
+abbrev pub next_place : Place → ℕ → Place
+next_place p b = cond (b == 10) (record { line = suc p.line; col = 1 }) (record { line = p.line; col = suc p.col })
+
+-- the place of the byte behind some bytes that begin at a place
+abbrev pub place_behind : Place → List ℕ → Place
+place_behind p [] = p
+place_behind p (b ∷ bs) = place_behind (next_place p b) bs
+
+-- the place of a byte
+abbrev pub place_at : List ℕ → ℕ → Place
+place_at text n = place_behind first_place (take n text)

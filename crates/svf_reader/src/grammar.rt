@@ -1,0 +1,253 @@
+// The commands of the grammar.
+ghost use Rattle.std.specs.Prelude.{◌≡◌, ◌<◌, false, codes, length, option_map, Some, None, IfSome};
+ghost use Rattle.std.specs.List.{list_all};
+ghost use Rattle.svf_reader.specs.Commands.{fill, with_part, behind_hex, one_part, parts, no_parts, scan, state, cycles, run_test, in_real, is_frequency, is_trst, if_so, said_by, said};
+ghost use Rattle.svf_reader.specs.Reading.{words_of};
+ghost use Rattle.svf_reader.specs.Seen.{digits_of, seen_parts, seen_said};
+
+use crate::pieces::next_word;
+use crate::said::{PartTexts, Register, Said};
+use crate::words::{all_hex, are, is_close, is_open, number, says, says_one};
+
+/// The text behind one or more hexadecimal digits and the `)`.
+fn behind_hex(text: &[u8]) -> Option<&[u8]>
+    ensures value { option_map (λ rest. words_of rest.now) result ≡ behind_hex false (words_of text.now) }
+{
+    let mut text = text;
+    let mut some = false;
+    while let Some(next) = next_word(text) {
+        if is_close(next.piece) {
+            return if some { Some(next.rest) } else { None };
+        }
+        if !all_hex(next.piece) {
+            return None;
+        }
+        some = true;
+        text = next.rest;
+    }
+    None
+}
+
+/// These parts, if a part doesn't stand there yet.
+fn fill<'a>(part: Option<&'a [u8]>, filled: PartTexts<'a>) -> Option<PartTexts<'a>>
+    ensures { option_map seen_parts result ≡ fill (option_map (λ t. digits_of t.now) part.entry) (seen_parts filled.entry) }
+{
+    match part {
+        Some(_) => None,
+        None => Some(filled),
+    }
+}
+
+/// The parts with one more, if it doesn't stand there yet.
+fn with_part<'a>(name: &[u8], text: &'a [u8], parts: PartTexts<'a>) -> Option<PartTexts<'a>>
+    ensures { option_map seen_parts result ≡ with_part name.now (digits_of text.now) (seen_parts parts.entry) }
+{
+    let digits = Some(text);
+    if says(name, b"TDI") {
+        fill(
+            parts.tdi,
+            PartTexts {
+                tdi: digits,
+                ..parts
+            },
+        )
+    } else if says(name, b"TDO") {
+        fill(
+            parts.tdo,
+            PartTexts {
+                tdo: digits,
+                ..parts
+            },
+        )
+    } else if says(name, b"MASK") {
+        fill(
+            parts.mask,
+            PartTexts {
+                mask: digits,
+                ..parts
+            },
+        )
+    } else if says(name, b"SMASK") {
+        fill(
+            parts.smask,
+            PartTexts {
+                smask: digits,
+                ..parts
+            },
+        )
+    } else {
+        None
+    }
+}
+
+/// Parts of a scan, and the text behind them.
+#[derive(Clone, Copy)]
+struct PartsThen<'a> {
+    parts: PartTexts<'a>,
+    rest: &'a [u8],
+}
+
+/// The parts with one more, of which this is the text behind the name.
+#[tactic(auto, unfolding(crate::specs::Commands::one_part))]
+fn one_part<'a>(parts: PartTexts<'a>, name: &[u8], text: &'a [u8]) -> Option<PartsThen<'a>>
+    ensures { option_map (λ x. (seen_parts x.parts, words_of x.rest.now)) result ≡ one_part (seen_parts parts.entry) name.now (words_of text.now) }
+{
+    let open = next_word(text)?;
+    if !is_open(open.piece) {
+        return None;
+    }
+    let parts = with_part(name, open.rest, parts)?;
+    let rest = behind_hex(open.rest)?;
+    Some(PartsThen { parts, rest })
+}
+
+/// At most four parts, and nothing else.
+fn parts(text: &[u8]) -> Option<PartTexts<'_>>
+    ensures { option_map seen_parts result ≡ parts 4 no_parts (words_of text.now) }
+{
+    let mut parts = PartTexts {
+        tdi: None,
+        tdo: None,
+        mask: None,
+        smask: None,
+    };
+    let mut text = text;
+    for _ in 0..4u8 {
+        let Some(name) = next_word(text) else {
+            return Some(parts);
+        };
+        let more = one_part(parts, name.piece, name.rest)?;
+        parts = more.parts;
+        text = more.rest;
+    }
+    if next_word(text).is_some() {
+        return None;
+    }
+    Some(parts)
+}
+
+/// What is behind `SIR` or `SDR`.
+#[tactic(auto, unfolding(crate::specs::Commands::scan))]
+fn scan(register: Register, text: &[u8]) -> Option<Said<'_>>
+    ensures { option_map seen_said result ≡ scan register (words_of text.now) }
+{
+    let word = next_word(text)?;
+    let len = number(word.piece)?;
+    let parts = parts(word.rest)?;
+    if len == 0 {
+        return None;
+    }
+    Some(Said::Scan(register, len, parts))
+}
+
+/// What is behind `STATE`.
+#[tactic(auto, unfolding(crate::specs::Commands::state))]
+fn state(text: &[u8]) -> Option<Said<'_>>
+    ensures { option_map seen_said result ≡ state (words_of text.now) }
+{
+    if are(text, &[b"RESET"]) {
+        Some(Said::Reset)
+    } else if are(text, &[b"IDLE"]) {
+        Some(Said::Idle)
+    } else {
+        None
+    }
+}
+
+/// What is behind `RUNTEST` and, if it stands there, `IDLE`.
+#[tactic(auto, unfolding(crate::specs::Commands::cycles))]
+fn cycles(text: &[u8]) -> Option<Said<'_>>
+    ensures { option_map seen_said result ≡ cycles (words_of text.now) }
+{
+    let word = next_word(text)?;
+    if !are(word.rest, &[b"TCK"]) && !are(word.rest, &[b"TCK", b"ENDSTATE", b"IDLE"]) {
+        return None;
+    }
+    let cycles = number(word.piece)?;
+    Some(Said::Run(cycles))
+}
+
+/// What is behind `RUNTEST`.
+#[tactic(auto, unfolding(crate::specs::Commands::run_test))]
+fn run_test(text: &[u8]) -> Option<Said<'_>>
+    ensures { option_map seen_said result ≡ run_test (words_of text.now) }
+{
+    let word = next_word(text)?;
+    if says(word.piece, b"IDLE") {
+        cycles(word.rest)
+    } else {
+        cycles(text)
+    }
+}
+
+fn in_real(b: u8) -> bool
+    ensures { result ≡ in_real b }
+{
+    b.is_ascii_digit() || b == b'.' || b == b'E' || b == b'e' || b == b'+' || b == b'-'
+}
+
+fn all_real(word: &[u8]) -> bool
+    ensures { result ≡ list_all in_real word.now }
+{
+    word.iter().all(|b| in_real(*b))
+}
+
+/// Whether a frequency stands behind `FREQUENCY`, or nothing.
+#[tactic(auto, unfolding(crate::specs::Commands::is_frequency))]
+fn is_frequency(text: &[u8]) -> bool
+    ensures { result ≡ is_frequency (words_of text.now) }
+{
+    match next_word(text) {
+        None => true,
+        Some(word) => all_real(word.piece) && are(word.rest, &[b"HZ"]),
+    }
+}
+
+/// Whether one of the modes of TRST that have no effect stands behind `TRST`.
+#[tactic(auto, unfolding(crate::specs::Commands::is_trst))]
+fn is_trst(text: &[u8]) -> bool
+    ensures { result ≡ is_trst (words_of text.now) }
+{
+    are(text, &[b"OFF"]) || are(text, &[b"ABSENT"]) || are(text, &[b"Z"])
+}
+
+fn if_so<'a>(so: bool) -> Option<Said<'a>>
+    ensures { option_map seen_said result ≡ if_so so }
+{
+    if so { Some(Said::Nothing) } else { None }
+}
+
+/// What a command with this first word says.
+#[tactic(auto, unfolding(crate::specs::Commands::said_by))]
+fn said_by<'a>(word: &[u8], text: &'a [u8]) -> Option<Said<'a>>
+    ensures { option_map seen_said result ≡ said_by word.now (words_of text.now) }
+{
+    if says(word, b"SIR") {
+        scan(Register::Instruction, text)
+    } else if says(word, b"SDR") {
+        scan(Register::Data, text)
+    } else if says_one(word, &[b"HDR", b"HIR", b"TDR", b"TIR"]) {
+        if_so(are(text, &[b"0"]))
+    } else if says(word, b"STATE") {
+        state(text)
+    } else if says(word, b"RUNTEST") {
+        run_test(text)
+    } else if says_one(word, &[b"ENDDR", b"ENDIR"]) {
+        if_so(are(text, &[b"IDLE"]))
+    } else if says(word, b"FREQUENCY") {
+        if_so(is_frequency(text))
+    } else if says(word, b"TRST") {
+        if_so(is_trst(text))
+    } else {
+        None
+    }
+}
+
+/// What a command says, if it is one of the grammar.
+#[tactic(auto, unfolding(crate::specs::Commands::said))]
+pub(crate) fn said(text: &[u8]) -> Option<Said<'_>>
+    ensures { option_map seen_said result ≡ said (words_of text.now) }
+{
+    let word = next_word(text)?;
+    said_by(word.piece, word.rest)
+}

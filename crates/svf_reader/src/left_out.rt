@@ -1,0 +1,86 @@
+// Commands of SVF that are left out.
+ghost use Rattle.std.specs.Prelude.{◌≡◌, nat_le, length, option_map};
+ghost use Rattle.svf_reader.specs.Commands.{begins_with_length, begins_with_on, is_left_out, left_out, others, left_out_names, headers, names_one};
+ghost use Rattle.svf_reader.specs.Reading.{words_of, runs_of};
+
+use crate::pieces::{next_run, next_word};
+use crate::words::{names_one, number, says, says_one};
+
+/// Whether a length that isn't 0 stands at the front.
+fn begins_with_length(text: &[u8]) -> bool
+    ensures { result ≡ begins_with_length (words_of text.now) }
+{
+    match next_word(text) {
+        None => false,
+        Some(word) => matches!(number(word.piece), Some(1..)),
+    }
+}
+
+fn begins_with_on(text: &[u8]) -> bool
+    ensures { result ≡ begins_with_on (words_of text.now) }
+{
+    match next_word(text) {
+        None => false,
+        Some(word) => says(word.piece, b"ON"),
+    }
+}
+
+/// The text behind the first run.
+fn others(text: &[u8]) -> &[u8]
+    ensures { runs_of result.now ≡ others (runs_of text.now) }
+{
+    match next_run(text) {
+        None => text,
+        Some(run) => run.rest,
+    }
+}
+
+/// Whether two runs or more stand in a text.
+fn has_two(text: &[u8]) -> bool
+    ensures { result ≡ nat_le 2 (length (runs_of text.now)) }
+{
+    match next_run(text) {
+        None => false,
+        Some(run) => next_run(run.rest).is_some(),
+    }
+}
+
+/// Whether a run says a pause state, or another way to count than by TCK.
+fn names_left_out(text: &[u8]) -> bool
+    ensures { result ≡ names_one left_out_names (runs_of text.now) }
+{
+    names_one(text, &[b"DRPAUSE", b"IRPAUSE", b"SCK", b"SEC", b"MAXIMUM"])
+}
+
+/// Whether a command is left out, by its first word, the text behind it, and the text behind its first run.
+#[tactic(auto, unfolding(crate::specs::Commands::is_left_out))]
+fn is_left_out(word: &[u8], text: &[u8], runs: &[u8]) -> bool
+    ensures { result ≡ is_left_out word.now (words_of text.now) (runs_of runs.now) }
+{
+    if says_one(word, &[b"HDR", b"HIR", b"TDR", b"TIR"]) {
+        begins_with_length(text)
+    } else if says_one(word, &[b"PIO", b"PIOMAP"]) {
+        true
+    } else if says(word, b"TRST") {
+        begins_with_on(text)
+    } else if says(word, b"STATE") {
+        has_two(runs) || names_left_out(runs)
+    } else if says_one(word, &[b"RUNTEST", b"ENDDR", b"ENDIR"]) {
+        names_one(runs, &[b"RESET"]) || names_left_out(runs)
+    } else {
+        false
+    }
+}
+
+/// The first word of a command that is left out.
+#[tactic(auto, unfolding(crate::specs::Commands::left_out))]
+pub(crate) fn left_out(text: &[u8]) -> Option<&[u8]>
+    ensures { option_map (λ word. word.now) result ≡ left_out (words_of text.now) (runs_of text.now) }
+{
+    let word = next_word(text)?;
+    if is_left_out(word.piece, word.rest, others(text)) {
+        Some(word.piece)
+    } else {
+        None
+    }
+}

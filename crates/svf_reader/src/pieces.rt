@@ -1,0 +1,62 @@
+// Words and runs at the front of a text.
+ghost use Rattle.std.specs.Prelude.{◌≡◌, ◌+◌, ◌<◌, ◌≤◌, false, [], ◌∷◌, length, MatchOption, IfSome};
+ghost use Rattle.svf_reader.specs.Reading.{run_length, word_length, words_of, runs_of};
+
+use crate::bytes::{Class, byte_at, is_mark, run_len};
+
+/// A piece of a text, and the text behind it.
+#[derive(Clone, Copy)]
+pub(crate) struct Piece<'a> {
+    pub piece: &'a [u8],
+    pub rest: &'a [u8],
+}
+
+/// The text behind the blanks and comments at its front.
+fn behind_gap(text: &[u8]) -> &[u8]
+    ensures words { words_of text.now ≡ words_of result.now }
+    ensures runs { runs_of text.now ≡ runs_of result.now }
+    ensures stops { run_length Class.Gap false result.now ≡ 0 }
+    ensures shorter { length result.now ≤ length text.now }
+{
+    let (_, rest) = text.split_at(run_len(text, Class::Gap));
+    rest
+}
+
+/// The length of the first word, where no gap stands in front.
+fn word_len(text: &[u8]) -> usize
+    ensures value { result ≡ word_length text.now }
+    ensures within { 1 ≤ length text.now → result ≤ length text.now }
+{
+    if is_mark(byte_at(text, 0)) {
+        1
+    } else {
+        run_len(text, Class::Word)
+    }
+}
+
+/// The first word of a command's text, if there is one. A parenthesis is a word by itself.
+pub(crate) fn next_word<'a>(text: &'a [u8]) -> Option<Piece<'a>>
+    ensures value { MatchOption result (words_of text.now ≡ []) (λ p. words_of text.now ≡ p.piece.now ∷ words_of p.rest.now) }
+    ensures shorter { IfSome result (λ p. length p.rest.now < length text.now) }
+    ensures within { IfSome result (λ p. length p.piece.now + length p.rest.now ≤ length text.now) }
+{
+    let text = behind_gap(text);
+    if text.is_empty() {
+        return None;
+    }
+    let (piece, rest) = text.split_at(word_len(text));
+    Some(Piece { piece, rest })
+}
+
+/// The first run of bytes of a command's text that aren't blank, if there is one.
+pub(crate) fn next_run<'a>(text: &'a [u8]) -> Option<Piece<'a>>
+    ensures value { MatchOption result (runs_of text.now ≡ []) (λ p. runs_of text.now ≡ p.piece.now ∷ runs_of p.rest.now) }
+    ensures shorter { IfSome result (λ p. length p.rest.now < length text.now) }
+{
+    let text = behind_gap(text);
+    if text.is_empty() {
+        return None;
+    }
+    let (piece, rest) = text.split_at(run_len(text, Class::Run));
+    Some(Piece { piece, rest })
+}

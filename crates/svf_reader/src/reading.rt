@@ -1,0 +1,130 @@
+// Whole texts.
+ghost use Rattle.std.specs.Prelude.{◌≡◌, ℕ, ◌+◌, ◌-◌, ◌≤◌, ◌∷◌, ◌++◌, [], length, option_map, MatchOption, IfSome, OnOk, IfOk, IfErr, IsErrOf, IsErr, Ok, Err};
+ghost use Rattle.ij_bits.specs.Room.{Listed};
+ghost use Rattle.ij_text.specs.declared.Place.{Place};
+ghost use Rattle.svf_writer.specs.Fits.{AreFit};
+ghost use Rattle.svf_writer.specs.SeenCommands.{seen_command};
+ghost use Rattle.svf_reader.specs.Answers.{AtPlace, Refuses, IsRefused};
+ghost use Rattle.svf_reader.specs.Meaning.{Refusal, LeftOut, SvfSyntax, SvfLimit, HexWide, TdiMissing, listed, svf};
+ghost use Rattle.svf_reader.specs.Texts.{plain, texts, blanks, place_at};
+
+use crate::bytes::{Class, place_at, run_len};
+use crate::fault::{Refused, SvfFault};
+use crate::kept::Kept;
+use crate::meaning::comes_to;
+use crate::pieces::{Piece, next_word};
+use ij_bits::OutOfMemory;
+use ij_text::Place;
+use std::alloc::Global;
+use svf_writer::command::Command;
+use svf_writer::commands::Commands;
+
+/// The text in front of the next `;`, if there is one, and the text behind it.
+fn next_text<'a>(text: &'a [u8]) -> Option<Piece<'a>>
+    ensures value { MatchOption result (texts (plain text.now) ≡ plain text.now ∷ []) (λ p. texts (plain text.now) ≡ plain p.piece.now ∷ texts (plain p.rest.now)) }
+    ensures lengths { IfSome result (λ p. length p.piece.now + 1 + length p.rest.now ≡ length text.now) }
+{
+    let (piece, behind) = text.split_at(run_len(text, Class::Command));
+    if behind.is_empty() {
+        return None;
+    }
+    let (_, rest) = behind.split_at(1);
+    Some(Piece { piece, rest })
+}
+
+/// A refusal at a place.
+fn refused_at(refused: Refused, at: Place) -> SvfFault
+    ensures { AtPlace refused at result }
+{
+    match refused {
+        Refused::LeftOut(word) => SvfFault::LeftOut { at, word },
+        Refused::Syntax => SvfFault::SvfSyntax { at },
+        Refused::Limit => SvfFault::SvfLimit { at },
+        Refused::Wide => SvfFault::HexWide { at },
+        Refused::NoTdi => SvfFault::TdiMissing { at },
+        Refused::OutOfMemory => SvfFault::OutOfMemory,
+    }
+}
+
+/// The place of the first byte of a command, of which this is the text, and from which on so many bytes are left.
+fn command_place(src: &[u8], left: usize, text: &[u8]) -> Place
+    requires short { length src.now ≤ 134217728 }
+    requires within { left ≤ length src.now }
+    requires part { length text.now ≤ left }
+    ensures { result ≡ place_at src.now (length src.now - left + blanks (plain text.now)) }
+{
+    place_at(src, src.len() - left + run_len(text, Class::Gap))
+}
+
+/// Adds a command, if there is one.
+fn add(commands: &mut Commands, command: Option<Command>) -> Result<(), OutOfMemory>
+    requires { AreFit (commands.old ++ listed (option_map seen_command command)) }
+    ensures ok { OnOk result (commands.new ≡ commands.old ++ listed (option_map seen_command command)) }
+{
+    if let Some(command) = command {
+        commands.push(command)?;
+    }
+    Ok(())
+}
+
+/// The commands of a text, or its refusal.
+fn read(alloc: Global, src: &[u8]) -> Result<Commands, SvfFault>
+    requires { length src.now ≤ 134217728 }
+    ensures ok { IfOk result (λ commands. svf src.now ≡ Ok commands) }
+    ensures fault { IfErr result (λ fault. Refuses src.now fault) }
+{
+    let mut commands = Commands::new(alloc);
+    let mut kept = Kept {
+        ir: None,
+        dr: None,
+        in_reset: true,
+        clocks: 0,
+    };
+    let mut rest = src;
+    while let Some(next) = next_text(rest) {
+        let outcome = match comes_to(alloc, kept, true, next.piece) {
+            Ok(outcome) => outcome,
+            Err(refused) => {
+                let at = command_place(src, rest.len(), next.piece);
+                return Err(refused_at(refused, at));
+            }
+        };
+        kept = outcome.kept;
+        add(&mut commands, outcome.command)?;
+        rest = next.rest;
+    }
+    match next_word(rest) {
+        None => Ok(commands),
+        Some(_) => match comes_to(alloc, kept, false, rest) {
+            Ok(_) => Ok(commands),
+            Err(refused) => {
+                let at = command_place(src, rest.len(), rest);
+                Err(refused_at(refused, at))
+            }
+        },
+    }
+}
+
+/// Reads an SVF text (Serial Vector Format, revision E): its commands in order, without those that have no effect here.
+///
+/// Read are SIR and SDR with TDI, TDO, MASK and SMASK, STATE RESET and STATE IDLE, RUNTEST by TCK; and without effect
+/// HDR, HIR, TDR and TIR of length 0, ENDDR and ENDIR to IDLE, FREQUENCY, and TRST OFF, ABSENT and Z. Words are read in
+/// either case, and blanks and comments may stand between them and in hexadecimal texts. In each list of bits position 0
+/// is the lowest bit of the last digit, so the one that is shifted first.
+///
+/// The first command at fault decides what is refused, and the fault's place is this command's first byte. In one
+/// command the order of the causes is `LeftOut`, `SvfSyntax`, `SvfLimit` for the length of a scan, `HexWide`,
+/// `TdiMissing`, and `SvfLimit` for the clocks. The list takes memory by `alloc`; where there is none, the answer is
+/// `OutOfMemory`.
+pub fn read_svf(alloc: Global, src: &[u8]) -> Result<Commands, SvfFault>
+    requires { length src.now ≤ 134217728 }
+    ensures ok { IfOk result (λ commands. svf src.now ≡ Ok commands) }
+    ensures refused { (refusal : Refusal) → svf src.now ≡ Err refusal → IsErr result }
+    ensures left_out { (at : Place) (word : Listed ℕ) → IsErrOf result (SvfFault.LeftOut at word) → IsRefused src.now (LeftOut word.items) at }
+    ensures syntax { (at : Place) → IsErrOf result (SvfFault.SvfSyntax at) → IsRefused src.now SvfSyntax at }
+    ensures hex_wide { (at : Place) → IsErrOf result (SvfFault.HexWide at) → IsRefused src.now HexWide at }
+    ensures tdi_missing { (at : Place) → IsErrOf result (SvfFault.TdiMissing at) → IsRefused src.now TdiMissing at }
+    ensures limit { (at : Place) → IsErrOf result (SvfFault.SvfLimit at) → IsRefused src.now SvfLimit at }
+{
+    read(alloc, src)
+}

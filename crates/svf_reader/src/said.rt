@@ -1,0 +1,26 @@
+// What a command says.
+
+/// The register that a scan goes through.
+#[derive(Clone, Copy)]
+pub(crate) enum Register {
+    Instruction,
+    Data,
+}
+
+/// The parts that stand in a scan, each as the text behind its `(`.
+#[derive(Clone, Copy)]
+pub(crate) struct PartTexts<'a> {
+    pub tdi: Option<&'a [u8]>,
+    pub tdo: Option<&'a [u8]>,
+    pub mask: Option<&'a [u8]>,
+    pub smask: Option<&'a [u8]>,
+}
+
+#[derive(Clone, Copy)]
+pub(crate) enum Said<'a> {
+    Scan(Register, u64, PartTexts<'a>),
+    Reset,
+    Idle,
+    Run(u64),
+    Nothing,
+}

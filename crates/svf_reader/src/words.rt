@@ -1,0 +1,108 @@
+// What words say.
+ghost use Rattle.std.specs.Prelude.{◌≡◌, ◌<◌, ◌≤◌, ◌^◌, length, map, IfSome};
+ghost use Rattle.std.specs.List.{list_all};
+ghost use Rattle.std.specs.Char.{is_ascii_digit, is_ascii_hexdigit};
+ghost use Rattle.svf_reader.specs.Commands.{is_open, is_close, says, says_one, are, names_one, number_from, number};
+ghost use Rattle.svf_reader.specs.Reading.{words_of, runs_of};
+
+use crate::pieces::{next_run, next_word};
+
+/// Whether a word says a name, in either case.
+pub(crate) fn says(word: &[u8], name: &[u8]) -> bool
+    ensures { result ≡ says name.now word.now }
+{
+    word.eq_ignore_ascii_case(name)
+}
+
+pub(crate) fn is_open(word: &[u8]) -> bool
+    ensures { result ≡ is_open word.now }
+{
+    word == b"(".as_slice()
+}
+
+pub(crate) fn is_close(word: &[u8]) -> bool
+    ensures { result ≡ is_close word.now }
+{
+    word == b")".as_slice()
+}
+
+/// Whether a word says one of some names.
+pub(crate) fn says_one(word: &[u8], names: &[&[u8]]) -> bool
+    ensures { result ≡ says_one (map (λ name. name.now) names.now) word.now }
+{
+    for name in names {
+        if says(word, name) {
+            return true;
+        }
+    }
+    false
+}
+
+/// Whether a text has exactly these words.
+pub(crate) fn are(text: &[u8], names: &[&[u8]]) -> bool
+    ensures { result ≡ are (map (λ name. name.now) names.now) (words_of text.now) }
+{
+    let mut text = text;
+    for name in names {
+        match next_word(text) {
+            None => return false,
+            Some(next) => {
+                if !says(next.piece, name) {
+                    return false;
+                }
+                text = next.rest;
+            }
+        }
+    }
+    next_word(text).is_none()
+}
+
+/// Whether a run of a text is one of some names.
+pub(crate) fn names_one(text: &[u8], names: &[&[u8]]) -> bool
+    ensures { result ≡ names_one (map (λ name. name.now) names.now) (runs_of text.now) }
+{
+    let mut text = text;
+    while let Some(next) = next_run(text) {
+        if says_one(next.piece, names) {
+            return true;
+        }
+        text = next.rest;
+    }
+    false
+}
+
+fn all_digits(word: &[u8]) -> bool
+    ensures { result ≡ list_all is_ascii_digit word.now }
+{
+    word.iter().all(|b| b.is_ascii_digit())
+}
+
+pub(crate) fn all_hex(word: &[u8]) -> bool
+    ensures { result ≡ list_all is_ascii_hexdigit word.now }
+{
+    word.iter().all(|b| b.is_ascii_hexdigit())
+}
+
+/// The number of at most 10 digits.
+fn digits_value(word: &[u8]) -> u64
+    requires { length word.now ≤ 10 }
+    ensures value { result ≡ number_from 0 word.now }
+    ensures fits { result < 2 ^ 48 }
+{
+    let mut n = 0u64;
+    for b in word {
+        n = 10 * n + u64::from(b.saturating_sub(b'0'));
+    }
+    n
+}
+
+/// The number of 1 to 10 digits.
+pub(crate) fn number(word: &[u8]) -> Option<u64>
+    ensures value { result ≡ number word.now }
+    ensures fits { IfSome result (λ n. n < 2 ^ 48) }
+{
+    if word.is_empty() || word.len() > 10 || !all_digits(word) {
+        return None;
+    }
+    Some(digits_value(word))
+}
