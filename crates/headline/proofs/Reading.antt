@@ -15,7 +15,8 @@ use Rattle.tap_machine.specs.declared.Stable.{Stable}
 use Rattle.tap_machine.specs.declared.Stable.TheVariants.{Reset as InReset, Idle as InIdle}
 use Rattle.tap_machine.specs.Play.{Kept, Played, quiet, sdr_pins, sir_pins, to_idle, pins_with, played, kept_now, nothing_kept}
 use Rattle.svf_reader.specs.Meaning.{svf}
-use Rattle.svf_reader.specs.Scripts.{Line, EndStates, Mark, Put, line_text, script_text as lines_text, script_commands as lines_commands, AreWritten as LinesAreWritten, with_leave, clocks_from, ScriptsAreReadAgain}
+use Rattle.svf_reader.specs.Scripts.{Line, EndStates, Mark, Put, line_text, script_text as lines_text, script_commands as lines_commands, AreWritten as LinesAreWritten, with_leave, clocks_from}
+use Rattle.svf_reader.proofs.Scripting.{whole_script}
 use Rattle.headline.specs.Script.{Done, AreWritten, IsWrittenStep, all_commands, applies_after, commands_of, script_commands, script_text, step_commands, step_mark, steps_text}
 use Rattle.headline.specs.Reading.{WrittenScriptsAreRead}
 use Rattle.headline.proofs.Clocks.{length-sdr_pins, length-sir_pins}
@@ -47,12 +48,15 @@ abbrev AreAllWritten : List SeenCommand → Type 0
 AreAllWritten [] = Unit {0}
 AreAllWritten (c ∷ cs) = IsWrittenCommand c × AreAllWritten cs
 
--- so are the lines that have them
-written_lines : (ls : List Line) → AreAllWritten (lines_commands ls) → LinesAreWritten ls
-written_lines [] w = tt
-written_lines (EndStates ∷ ls) w = written_lines ls w
-written_lines (Mark n ∷ ls) w = written_lines ls w
-written_lines (Put c ∷ ls) w = (w.0, written_lines ls w.1)
+written_put : (cs : List SeenCommand) → AreAllWritten cs → LinesAreWritten (map Put cs)
+written_put [] w = tt
+written_put (c ∷ cs) w = (w.0, written_put cs w.1)
+
+written_both : (xs ys : List Line) → LinesAreWritten xs → LinesAreWritten ys → LinesAreWritten (xs ++ ys)
+written_both [] ys hx hy = hy
+written_both (EndStates ∷ xs) ys hx hy = written_both xs ys hx hy
+written_both (Mark n ∷ xs) ys hx hy = (hx.0, written_both xs ys hx.1 hy)
+written_both (Put c ∷ xs) ys hx hy = (hx.0, written_both xs ys hx.1 hy)
 
 -- ---- the clocks of commands whose scans are written
 
@@ -117,6 +121,23 @@ few_written (Reset ∷ cs) b g few = (tt, few_written cs true g.1 (omega (arith,
 few_written (Idle ∷ cs) b g few = (tt, few_written cs false g.1 (omega (arith, few)))
 few_written (Run n ∷ cs) b g few = (omega (arith, few, at_least b n), few_written cs false g.1 (omega (arith, few)))
 
+-- whether commands end in Test-Logic-Reset
+abbrev after : Bool → List SeenCommand → Bool
+after b [] = b
+after b (SIR s ∷ cs) = after false cs
+after b (SDR s ∷ cs) = after false cs
+after b (Reset ∷ cs) = after true cs
+after b (Idle ∷ cs) = after false cs
+after b (Run n ∷ cs) = after false cs
+
+clocks_both : (cs ds : List SeenCommand) (b : Bool) → clocks_from b (cs ++ ds) ≡ clocks_from b cs + clocks_from (after b cs) ds
+clocks_both [] ds b = omega arith
+clocks_both (SIR s ∷ cs) ds b = omega (arith, clocks_both cs ds false)
+clocks_both (SDR s ∷ cs) ds b = omega (arith, clocks_both cs ds false)
+clocks_both (Reset ∷ cs) ds b = omega (arith, clocks_both cs ds true)
+clocks_both (Idle ∷ cs) ds b = omega (arith, clocks_both cs ds false)
+clocks_both (Run n ∷ cs) ds b = omega (arith, clocks_both cs ds false)
+
 -- ---- a script
 
 scans_given : (xs : List SeenScan) → All IsWrittenScan xs → AreGiven (map SDR xs)
@@ -132,6 +153,11 @@ mark_text : (n : ℕ) (s : SeenStep) → lines_text (mark_lines n s) ≡ step_ma
 mark_text n (Apply g) = append-nil (mark (suc n))
 mark_text n (RunStep c) = refl
 mark_text n ResetStep = refl
+
+mark_written : (n : ℕ) (s : SeenStep) → n ≤ 999999999 → LinesAreWritten (mark_lines n s)
+mark_written n (Apply g) few = (omega (arith, few), tt)
+mark_written n (RunStep c) few = tt
+mark_written n ResetStep few = tt
 
 mark_commands : (n : ℕ) (s : SeenStep) → lines_commands (mark_lines n s) ≡ []
 mark_commands n (Apply g) = refl
@@ -200,16 +226,34 @@ module _ (device : Device) (d : IsDevice device) where
   script_given : (ds : List Done) → AreWritten ds → AreGiven (script_commands device ds)
   script_given ds w = (tt, (tt, (load_given, all_given ds w)))
 
-  script_written : (ds : List Done) → AreWritten ds → clocks_from true (script_commands device ds) ≤ 1000000000 → AreAllWritten (script_commands device ds)
-  script_written ds w few = (tt, (tt, (load_given, few_written (all_commands device ds) false (all_given ds w) (omega (arith, few)))))
+  -- a group has a scan, and so a clock
+  step_applies : (n : ℕ) (b : Bool) (s : SeenStep) (xs : List SeenScan) → IsWrittenStep s xs → applies_after n s ≤ n + clocks_from b (step_commands device s xs)
+  step_applies n b (Apply g) [] w = absurd w.compared
+  step_applies n b (Apply g) (x ∷ xs) w = omega (arith, at_least b (x.len + 5))
+  step_applies n b (RunStep c) xs w = omega arith
+  step_applies n b ResetStep xs w = omega arith
 
-pub written_scripts_are_read : ScriptsAreReadAgain → WrittenScriptsAreRead
-written_scripts_are_read scripts_are_read_again device ds d w few =
+  steps_written : (n : ℕ) (b : Bool) (ds : List Done) → AreWritten ds → n + clocks_from b (all_commands device ds) ≤ 999999999 → LinesAreWritten (steps_lines n ds)
+  steps_written n b [] w few = tt
+  steps_written n b (x ∷ xs) w few =
+      let cs = commands_of device x in
+      let more = all_commands device xs in
+      let rest = steps_lines (applies_after n x.step) xs in
+      let both = clocks_both cs more b in
+      let applies = step_applies n b x.step x.scans w.0 in
+      let here : LinesAreWritten (map Put cs) = written_put cs (few_written cs b (step_given x.step x.scans w.0) (omega (arith, both, few))) in
+      let later : LinesAreWritten rest = steps_written (applies_after n x.step) (after b cs) xs w.1 (omega (arith, both, applies, few)) in
+      written_both (mark_lines n x.step) (map Put cs ++ rest) (mark_written n x.step (omega (arith, few))) (written_both (map Put cs) rest here later)
+
+  lines_written : (ds : List Done) → AreWritten ds → clocks_from true (script_commands device ds) ≤ 1000000000 → LinesAreWritten (lines ds)
+  lines_written ds w few = (tt, (tt, (load_given, steps_written 0 false ds w (omega (arith, few)))))
+
+pub written_scripts_are_read : WrittenScriptsAreRead
+written_scripts_are_read device ds d w few =
     let cs = script_commands device ds in
     let count = clocks_are cs nothing_kept nothing_kept InReset 0 (script_given device d ds w) in
     let short : clocks_from true cs ≤ 1000000000 = subst (λ n. n ≤ 1000000000) (sym count) few in
     let are = lines_commands_are device d ds in
-    let written = written_lines (lines device d ds) (subst AreAllWritten (sym are) (script_written device d ds w short)) in
     ap svf (sym (lines_text_is device d ds))
-    ∙ scripts_are_read_again (lines device d ds) written (subst (λ l. clocks_from true l ≤ 1000000000) (sym are) short)
+    ∙ whole_script (lines device d ds) (lines_written device d ds w short) (subst (λ l. clocks_from true l ≤ 1000000000) (sym are) short)
     ∙ ap Ok are

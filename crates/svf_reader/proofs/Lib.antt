@@ -4,3 +4,7 @@ pub mod Scans
 pub mod Cuts
 pub mod Fitting
 pub mod Whole
+pub mod Digits
+pub mod Again
+pub mod Rereading
+pub mod Scripting

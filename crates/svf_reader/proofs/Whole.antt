@@ -25,11 +25,11 @@ some_at true b r = ([], r, refl)
 some_at false b [] = (b ∷ [], [], refl)
 some_at false b (t ∷ ts) = (b ∷ t, ts, refl)
 
-texts_some : (xs : List ℕ) → (t : List ℕ) × (ts : List (List ℕ)) × (texts xs ≡ t ∷ ts)
+pub texts_some : (xs : List ℕ) → (t : List ℕ) × (ts : List (List ℕ)) × (texts xs ≡ t ∷ ts)
 texts_some [] = ([], [], refl)
 texts_some (b ∷ bs) = some_at (b == 59) b (texts bs)
 
-read_more : (kept : Kept) (at : ℕ) (t xs : List ℕ) → read_from kept at (t ∷ texts xs) ≡ and_then (comes_to kept true t) (at + blanks t) (λ next. read_from next (suc (at + length t)) (texts xs))
+pub read_more : (kept : Kept) (at : ℕ) (t xs : List ℕ) → read_from kept at (t ∷ texts xs) ≡ and_then (comes_to kept true t) (at + blanks t) (λ next. read_from next (suc (at + length t)) (texts xs))
 read_more kept at t xs =
     let some = texts_some xs in
     ap (λ (l : List (List ℕ)). read_from kept at (t ∷ l)) some.2

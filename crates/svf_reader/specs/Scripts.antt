@@ -1,6 +1,6 @@
 -- Written texts of SVF commands are read again, whatever stands around them.
-use Rattle.std.specs.Prelude.{◌≡◌, ◌≤◌, ℕ, suc, ◌+◌, Bool, true, false, cond, List, [], ◌∷◌, ◌++◌, length, Result, Ok, Err, codes}
-use Rattle.svf_writer.specs.SeenCommands.{SeenScan, SeenCommand, SIR, SDR, Reset, Idle, Run}
+use Rattle.std.specs.Prelude.{◌≡◌, ◌≤◌, ◌<◌, ◌^◌, ℕ, suc, ◌+◌, Bool, true, false, cond, List, [], ◌∷◌, ◌++◌, length, Result, Ok, codes}
+use Rattle.svf_writer.specs.SeenCommands.{SeenCommand, SIR, SDR, Reset, Idle, Run}
 use Rattle.svf_writer.specs.Fits.{IsWrittenCommand}
 use Rattle.svf_writer.specs.Written.{line, mark, text_of}
 use Rattle.svf_reader.specs.declared.said.Register.TheVariants.{Instruction, Data}
@@ -49,7 +49,7 @@ script_commands (Put c ∷ ls) = c ∷ script_commands ls
 abbrev pub AreWritten : List Line → Type 0
 AreWritten [] = Unit {0}
 AreWritten (EndStates ∷ ls) = AreWritten ls
-AreWritten (Mark n ∷ ls) = AreWritten ls
+AreWritten (Mark n ∷ ls) = (n < 2 ^ 32) × AreWritten ls
 AreWritten (Put c ∷ ls) = IsWrittenCommand c × AreWritten ls
 
 -- the clocks of commands, one more where Test-Logic-Reset is left

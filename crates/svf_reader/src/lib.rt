@@ -6,6 +6,7 @@ mod fault;
 mod grammar;
 mod hex;
 mod kept;
+mod laws;
 mod left_out;
 mod meaning;
 mod pieces;
@@ -16,4 +17,5 @@ mod tests;
 mod words;
 
 pub use fault::SvfFault;
+pub use laws::{commands_are_read_again, scripts_are_read_again};
 pub use reading::read_svf;

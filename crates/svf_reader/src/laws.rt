@@ -1,0 +1,14 @@
+// What is written is read again.
+ghost use Rattle.svf_reader.specs.Scripts.{CommandsAreReadAgain, ScriptsAreReadAgain};
+
+/// The text that `put` of `svf_writer` writes of a command is read as this command, whatever stands in front of it and
+/// behind it.
+pub fn commands_are_read_again()
+    ensures { CommandsAreReadAgain }
+{}
+
+/// A script, so lines that `put_preface`, `put_mark` and `put` of `svf_writer` write, is read as the commands that were
+/// put, in order, if they have at most 1,000,000,000 clocks.
+pub fn scripts_are_read_again()
+    ensures { ScriptsAreReadAgain }
+{}
