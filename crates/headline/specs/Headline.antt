@@ -63,7 +63,3 @@ pub record IsRightBy (Fits : List Machine → Type 0) (net : Net) (device : Devi
   pub written : AreWritten script
   pub text : bytes ≡ script_text device script
   pub plays : (machines : List Machine) → Fits machines → PlaysAs net device machines script
-
--- the bytes are the text of some such script
-abbrev pub IsRight : (List Machine → Type 0) → Net → Device → List SeenStep → List ℕ → Type 0
-IsRight Fits net device steps bytes = (script : List Done) × IsRightBy Fits net device steps script bytes
