@@ -4,16 +4,15 @@ use Rattle.std.specs.Prelude.{map, replicate, unwrap_or, All, IsSome}
 use Rattle.std.proofs.lemmas.Bool.{true≢false}
 use Rattle.std.proofs.lemmas.List.{length-replicate}
 use Rattle.std.proofs.lemmas.List.Elements.{All-head, All-tail}
-use Rattle.ij_bits.specs.BitLists.{bits_of}
 use Rattle.net_graph.specs.declared.device.Device.{Device}
 use Rattle.net_graph.specs.Devices.{IsDevice}
 use Rattle.net_graph.specs.SeenSteps.{SeenStep, Apply, Run as RunStep, Reset as ResetStep}
 use Rattle.svf_writer.specs.Fits.{HasLength, IsWrittenScan, IsWrittenCommand}
 use Rattle.svf_writer.specs.SeenCommands.{SIR, SDR, Reset, Idle, Run, SeenCommand, SeenScan}
-use Rattle.svf_writer.specs.Written.{mark, text_of, texts_of, preface, preface_commands, load_link}
+use Rattle.svf_writer.specs.Written.{mark, text_of, texts_of, preface_commands, load_link}
 use Rattle.tap_machine.specs.declared.Stable.{Stable}
 use Rattle.tap_machine.specs.declared.Stable.TheVariants.{Reset as InReset, Idle as InIdle}
-use Rattle.tap_machine.specs.Play.{Kept, Played, quiet, sdr_pins, sir_pins, to_idle, pins_with, played, kept_now, nothing_kept}
+use Rattle.tap_machine.specs.Play.{Kept, quiet, sdr_pins, sir_pins, to_idle, pins_with, played, kept_now, nothing_kept}
 use Rattle.svf_reader.specs.Meaning.{svf}
 use Rattle.svf_reader.specs.Scripts.{Line, EndStates, Mark, Put, line_text, script_text as lines_text, script_commands as lines_commands, AreWritten as LinesAreWritten, with_leave, clocks_from}
 use Rattle.svf_reader.proofs.Scripting.{whole_script}
