@@ -38,11 +38,14 @@ fn put_bit(bits: &mut Bits, index: usize, place: u32, v: bool) -> bool
     ensures wide { result ≡ (v && not (nat_lt (4 * index + place) (length bits.old.items))) }
     ensures len { length bits.new.items ≡ length bits.old.items }
 {
+    if !v {
+        return false;
+    }
     let fits = has_place(bits.len(), index, place);
-    if v && fits {
+    if fits {
         bits.set(4 * index as u32 + place, true);
     }
-    v && !fits
+    !fits
 }
 
 /// Puts the four bits of a digit. Whether one is a 1 that has no place.
