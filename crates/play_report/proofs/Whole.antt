@@ -1,7 +1,5 @@
 -- The report of a whole play from power-up.
-use Rattle.std.proofs.Common.{◌≡◌, ℕ, List, length, refl, ap, ◌∙◌, sym}
-use Rattle.net_graph.specs.declared.device.Device.{Device}
-use Rattle.net_graph.specs.Signals.{Holds}
+use Rattle.std.proofs.Common.{◌≡◌, ℕ, List, length, ap, ◌∙◌}
 use Rattle.svf_writer.specs.SeenCommands.{SeenCommand}
 use Rattle.tap_machine.specs.declared.Pins.{Pins}
 use Rattle.tap_machine.specs.declared.Stable.TheVariants.{Reset as InReset}

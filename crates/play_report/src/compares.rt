@@ -35,7 +35,11 @@ fn put_compare<K: Sink>(pins: Pins, found: bool, k: &mut K) -> Result<u32, Store
 }
 
 /// Plays to the end, and writes a line for each compare that differs.
-pub(crate) fn put_compares<K: Sink>(player: &mut Player, bench: &mut FlatBench, k: &mut K) -> Result<Counted, StoreFault>
+pub(crate) fn put_compares<K: Sink>(
+    player: &mut Player,
+    bench: &mut FlatBench,
+    k: &mut K,
+) -> Result<Counted, StoreFault>
     requires { length player.old.pins ≤ 1000000000 }
     ensures state { OnOk result (bench.new ≡ record bench.old { state = after_pins (flat_chip bench.old.width bench.old.device) player.old.pins bench.old.state }) }
     ensures whole { OnOk result (Adds (K.taken k.old) (K.taken k.new) (differ_lines (differing (compares (flat_chip bench.old.width bench.old.device) player.old.pins bench.old.state)))) }

@@ -4,5 +4,7 @@
 mod compares;
 mod lines;
 mod play;
+#[cfg(test)]
+mod tests;
 
 pub use play::put_play;

@@ -14,15 +14,17 @@ fn put_bit<K: Sink>(bit: bool, k: &mut K) -> Result<(), StoreFault>
     ensures part { OnErr result (AddsPart (K.taken k.old) (K.taken k.new) (digit bit ∷ [])) }
     ensures cause { HasCause (K.faults k.old) (K.faults k.new) result StoreFault.Failed }
 {
-    if bit {
-        k.write(b"1")
-    } else {
-        k.write(b"0")
-    }
+    if bit { k.write(b"1") } else { k.write(b"0") }
 }
 
 /// Writes a compare that differs.
-pub(crate) fn put_differ<K: Sink>(scan: u32, bit: u32, expect: bool, found: bool, k: &mut K) -> Result<(), StoreFault>
+pub(crate) fn put_differ<K: Sink>(
+    scan: u32,
+    bit: u32,
+    expect: bool,
+    found: bool,
+    k: &mut K,
+) -> Result<(), StoreFault>
     ensures whole { OnOk result (Adds (K.taken k.old) (K.taken k.new) (differ_text (record { scan = scan; bit = bit; expect = expect; found = found }))) }
     ensures part { OnErr result (AddsPart (K.taken k.old) (K.taken k.new) (differ_text (record { scan = scan; bit = bit; expect = expect; found = found }))) }
     ensures cause { HasCause (K.faults k.old) (K.faults k.new) result StoreFault.Failed }
@@ -53,7 +55,11 @@ fn put_digits<K: Sink>(bench: &FlatBench, width: u32, k: &mut K) -> Result<(), S
 }
 
 /// Writes what the register holds.
-pub(crate) fn put_register<K: Sink>(bench: &FlatBench, width: u32, k: &mut K) -> Result<(), StoreFault>
+pub(crate) fn put_register<K: Sink>(
+    bench: &FlatBench,
+    width: u32,
+    k: &mut K,
+) -> Result<(), StoreFault>
     requires { width ≡ bench.now.width }
     ensures whole { OnOk result (Adds (K.taken k.old) (K.taken k.new) (register_text bench.now.state.holds width)) }
     ensures part { OnErr result (AddsPart (K.taken k.old) (K.taken k.new) (register_text bench.now.state.holds width)) }
@@ -66,7 +72,12 @@ pub(crate) fn put_register<K: Sink>(bench: &FlatBench, width: u32, k: &mut K) ->
 }
 
 /// Writes how many scans, clocks and differing compares there were.
-pub(crate) fn put_totals<K: Sink>(scans: u32, clocks: u32, differs: u32, k: &mut K) -> Result<(), StoreFault>
+pub(crate) fn put_totals<K: Sink>(
+    scans: u32,
+    clocks: u32,
+    differs: u32,
+    k: &mut K,
+) -> Result<(), StoreFault>
     ensures whole { OnOk result (Adds (K.taken k.old) (K.taken k.new) (totals_text scans clocks differs)) }
     ensures part { OnErr result (AddsPart (K.taken k.old) (K.taken k.new) (totals_text scans clocks differs)) }
     ensures cause { HasCause (K.faults k.old) (K.faults k.new) result StoreFault.Failed }

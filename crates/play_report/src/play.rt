@@ -45,7 +45,12 @@ fn scan_count(commands: &Commands) -> u32
 }
 
 /// Plays commands on a bench at power-up, and writes the report.
-fn put_report<K: Sink>(bench: &mut FlatBench, width: u32, commands: &Commands, k: &mut K) -> Result<u32, StoreFault>
+fn put_report<K: Sink>(
+    bench: &mut FlatBench,
+    width: u32,
+    commands: &Commands,
+    k: &mut K,
+) -> Result<u32, StoreFault>
     requires width { bench.old.width ≡ width }
     requires start { bench.old.state ≡ power_up (flat_chip bench.old.width bench.old.device) }
     requires clocks { length (pins InReset 0 commands.now) ≤ 1000000000 }
@@ -69,7 +74,13 @@ fn put_report<K: Sink>(bench: &mut FlatBench, width: u32, commands: &Commands, k
 ///
 /// The refusals are those of the sink, which then took some first bytes of the report, and `OutOfMemory` where there is
 /// no memory for the registers of the bench. The play itself takes none.
-pub fn put_play<K: Sink>(alloc: Global, width: u32, device: &Device, commands: &Commands, k: &mut K) -> Result<u32, StoreFault>
+pub fn put_play<K: Sink>(
+    alloc: Global,
+    width: u32,
+    device: &Device,
+    commands: &Commands,
+    k: &mut K,
+) -> Result<u32, StoreFault>
     requires clocks { length (pins InReset 0 commands.now) ≤ 1000000000 }
     requires scans { scans_in commands.now ≤ 1000000000 }
     ensures whole { OnOk result (Adds (K.taken k.old) (K.taken k.new) (play_report width device.now commands.now)) }

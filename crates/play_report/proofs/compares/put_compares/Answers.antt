@@ -1,4 +1,4 @@
-use Rattle.std.proofs.Common.{◌≡◌, ◌+◌, ◌^◌, ◌<◌, ◌≤◌, ◌++◌, ℕ, Bool, List, length, arith, ap, sym, ◌∙◌, subst, refl}
+use Rattle.std.proofs.Common.{◌≡◌, ℕ, List, length, arith, ap, ◌∙◌, subst, refl}
 use Rattle.ij_io.proofs.Adding.{at_refusal}
 use Rattle.ij_io.proofs.Fronts.{AddsFront, front_next, front_part}
 use Rattle.net_bench.specs.Bench.{clock, tdo}

@@ -1,4 +1,4 @@
-use Rattle.std.proofs.Common.{◌≡◌, ◌-◌, ◌+◌, ℕ, suc, List, [], ◌∷◌, ◌++◌, arith, ap, sym, ◌∙◌, subst}
+use Rattle.std.proofs.Common.{◌≡◌, ◌-◌, ◌+◌, ℕ, suc, List, [], ◌∷◌, ◌++◌, arith, ap, ◌∙◌, subst}
 use Rattle.ij_io.proofs.Adding.{at_refusal}
 use Rattle.ij_io.proofs.Fronts.{AddsFront, front_next, front_part}
 use Rattle.net_graph.specs.Signals.{hold_at}

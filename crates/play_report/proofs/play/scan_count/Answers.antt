@@ -1,6 +1,5 @@
-use Rattle.std.proofs.Common.{◌≡◌, ◌+◌, ◌^◌, ◌<◌, ℕ, length, arith, drop}
+use Rattle.std.proofs.Common.{◌<◌, length, arith}
 use Rattle.svf_writer.specs.SeenCommands.{seen_command}
-use Rattle.tap_machine.specs.Play.{scans_in}
 use Rattle.play_report.proofs.Counting.{scans_next}
 use Rattle.play_report.proofs.play.scan_count.Goals as goal
 
