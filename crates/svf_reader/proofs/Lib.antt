@@ -8,3 +8,4 @@ pub mod Digits
 pub mod Again
 pub mod Rereading
 pub mod Scripting
+pub mod Gaps

@@ -1,11 +1,11 @@
 -- Written texts of SVF commands are read again, whatever stands around them.
-use Rattle.std.specs.Prelude.{◌≡◌, ◌≤◌, ◌<◌, ◌^◌, ℕ, suc, ◌+◌, Bool, true, false, cond, List, [], ◌∷◌, ◌++◌, length, Result, Ok, codes}
+use Rattle.std.specs.Prelude.{◌≡◌, ◌≤◌, ◌<◌, ◌^◌, ℕ, suc, ◌+◌, Bool, true, false, ◌||◌, cond, List, [], ◌∷◌, ◌++◌, length, Result, Ok, codes}
 use Rattle.svf_writer.specs.SeenCommands.{SeenCommand, SIR, SDR, Reset, Idle, Run}
 use Rattle.svf_writer.specs.Fits.{IsWrittenCommand}
 use Rattle.svf_writer.specs.Written.{line, mark, text_of}
 use Rattle.svf_reader.specs.declared.said.Register.TheVariants.{Instruction, Data}
 use Rattle.svf_reader.specs.declared.kept.Kept.{Kept}
-use Rattle.svf_reader.specs.Texts.{texts, plain}
+use Rattle.svf_reader.specs.Texts.{first, in_comment, is_blank, texts, plain}
 use Rattle.svf_reader.specs.Meaning.{Cause, Step, with_length, leaving, clocked, and_then, read_from, svf}
 
 -- what a command does that is read again
@@ -16,12 +16,17 @@ again kept Reset = clocked kept true 5 Reset
 again kept Idle = clocked kept false (leaving kept 0) Idle
 again kept (Run n) = clocked kept false (leaving kept n) (Run n)
 
--- In any text, behind whatever is kept at its place and in front of whatever follows, the text of a command is read as
--- this command, and the rest is read on behind it.
+-- blanks and comments, each comment with the line feed that ends its line; `inside`: whether a comment has begun in front
+abbrev pub IsGapFrom : Bool → List ℕ → Type 0
+IsGapFrom inside [] = inside ≡ false
+IsGapFrom inside (b ∷ bs) = ((in_comment inside b (first bs) || is_blank b) ≡ true) × IsGapFrom (in_comment inside b (first bs)) bs
+
+-- In any text, behind whatever is kept of the commands so far and behind blanks and comments, and in front of whatever
+-- follows, the text of a command is read as this command, and the rest is read on behind it.
 abbrev pub CommandsAreReadAgain : Type 0
 CommandsAreReadAgain =
-    (c : SeenCommand) → IsWrittenCommand c → (kept : Kept) (at : ℕ) (rest : List ℕ)
-    → read_from kept at (texts (plain (text_of c ++ rest))) ≡ and_then (again kept c) at (λ next. read_from next (at + length (text_of c)) (texts (plain rest)))
+    (c : SeenCommand) → IsWrittenCommand c → (kept : Kept) (at : ℕ) (gap rest : List ℕ) → IsGapFrom false gap
+    → read_from kept at (texts (plain (gap ++ (text_of c ++ rest)))) ≡ and_then (again kept c) (at + length gap) (λ next. read_from next (at + length gap + length (text_of c)) (texts (plain rest)))
 
 -- ---- whole scripts
 

@@ -1,8 +1,8 @@
 // What is written is read again.
 ghost use Rattle.svf_reader.specs.Scripts.{CommandsAreReadAgain, ScriptsAreReadAgain};
 
-/// The text that `put` of `svf_writer` writes of a command is read as this command, whatever stands in front of it and
-/// behind it.
+/// The text that `put` of `svf_writer` writes of a command is read as this command: behind any whole commands, blanks
+/// and comments, and in front of any text.
 pub fn commands_are_read_again()
     ensures { CommandsAreReadAgain }
 {}

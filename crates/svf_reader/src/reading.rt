@@ -112,10 +112,12 @@ fn read(alloc: Global, src: &[u8]) -> Result<Commands, SvfFault>
 /// either case, and blanks and comments may stand between them and in hexadecimal texts. In each list of bits position 0
 /// is the lowest bit of the last digit, so the one that is shifted first.
 ///
-/// The first command at fault decides what is refused, and the fault's place is this command's first byte. In one
-/// command the order of the causes is `LeftOut`, `SvfSyntax`, `SvfLimit` for the length of a scan, `HexWide`,
-/// `TdiMissing`, and `SvfLimit` for the clocks. The list takes memory by `alloc`; where there is none, the answer is
-/// `OutOfMemory`.
+/// The first command at fault decides what is refused, and the fault's place is this command's first byte, which is the
+/// `;` where nothing else stands. In one command the order of the causes is `LeftOut`, `SvfSyntax`, `SvfLimit` for the
+/// length of a scan, `HexWide`, `TdiMissing`, and `SvfLimit` for the clocks. The list takes memory by `alloc`; where
+/// there is none, the answer is `OutOfMemory`.
+///
+/// The text has at most 134,217,728 bytes, as an SVF file may have here; a longer one must not be given.
 pub fn read_svf(alloc: Global, src: &[u8]) -> Result<Commands, SvfFault>
     requires { length src.now ≤ 134217728 }
     ensures ok { IfOk result (λ commands. svf src.now ≡ Ok commands) }
