@@ -9,3 +9,4 @@ pub mod Again
 pub mod Rereading
 pub mod Scripting
 pub mod Gaps
+pub mod Few

@@ -73,3 +73,9 @@ clocks_from in_reset (Run n ∷ cs) = with_leave in_reset n + clocks_from false 
 abbrev pub ScriptsAreReadAgain : Type 0
 ScriptsAreReadAgain =
     (script : List Line) → AreWritten script → clocks_from true (script_commands script) ≤ 1000000000 → svf (script_text script) ≡ Ok (script_commands script)
+
+-- ---- what is read
+
+-- The commands of any text that is read take at most 1,000,000,000 clocks.
+abbrev pub ReadCommandsAreFew : Type 0
+ReadCommandsAreFew = (src : List ℕ) (cs : List SeenCommand) → svf src ≡ Ok cs → clocks_from true cs ≤ 1000000000
