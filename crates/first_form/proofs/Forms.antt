@@ -4,7 +4,8 @@ use Rattle.std.proofs.Common.{◌≡◌, ℕ, ◌/◌, ◌%◌, ◌<◌, List, [
 use Rattle.std.proofs.lemmas.Bool.Decides.{nat_tests}
 use Rattle.std.proofs.lemmas.List.{append_cancel_left}
 use Rattle.ij_bits.specs.Hex.{hex_code}
-use Rattle.first_form.specs.Texts.{SeenForm, SeenLine, HasWidth, lines_text, line_text, device_text, AreTextsOf}
+use Rattle.first_form.specs.Texts.{SeenForm, SeenLine, HasWidth, lines_text, line_text, device_text, AreTextsOf, AreDesignTexts}
+use Rattle.first_form.specs.declared.form.Design.{Design}
 use Rattle.first_form.proofs.Lines.{lines_told, line_no_end}
 use Rattle.first_form.proofs.Widths.{width_told}
 
@@ -17,6 +18,12 @@ opcode_told m n m_small n_small e =
     let high : m / 16 ≡ n / 16 = hex_code_told (m / 16) (n / 16) (omega arith) (omega arith) (ap (λ (t : List ℕ). get_or t 0 0) digits) in
     let low : m % 16 ≡ n % 16 = hex_code_told (m % 16) (n % 16) (omega arith) (omega arith) (ap (λ (t : List ℕ). get_or t 1 0) digits) in
     omega arith
+
+pub design_told : (a b : Design) (icl device : List ℕ) → AreDesignTexts a icl device → AreDesignTexts b icl device → b ≡ a
+design_told a b icl device of_a of_b =
+    let width : b.width ≡ a.width = width_told b.width a.width of_b.within.some_bits of_b.within.few_bits of_a.within.some_bits of_a.within.few_bits (sym of_b.design ∙ of_a.design) in
+    let opcode : b.opcode ≡ a.opcode = opcode_told b.opcode a.opcode of_b.within.opcode of_a.within.opcode (sym of_b.access ∙ of_a.access) in
+    λ i. record { width = width i; opcode = opcode i }
 
 -- no line stands in front of the end
 none_more : (more : List SeenLine) → codes "}\n" ≡ lines_text more ++ codes "}\n" → more ≡ []

@@ -5,6 +5,7 @@ use Rattle.std.specs.Prelude.{◌≡◌, ◌≤◌, ◌<◌, ◌-◌, ◌/◌, �
 use Rattle.std.specs.Fmt.{decimal}
 use Rattle.ij_bits.specs.Hex.{hex_code}
 use Rattle.ij_io.specs.Bytes.{concat}
+use Rattle.first_form.specs.declared.form.Design.{Design}
 
 -- one line of the procedure, with the value of each bit of the register, position 0 nearest TDO first
 pub data SeenLine : Type 0 where
@@ -66,6 +67,18 @@ lines_text (line ∷ lines) = line_text line ++ lines_text lines
 -- the PDL text: two lines in front of the procedure's lines, and its closing brace
 abbrev pub pdl_text : List SeenLine → List ℕ
 pdl_text lines = codes "iProcsForModule chip\niProc p {} {\n" ++ (lines_text lines ++ codes "}\n")
+
+-- the limits of a design alone
+pub record IsDesign (design : Design) : Type 0 where
+  pub some_bits : 1 ≤ design.width
+  pub few_bits : design.width ≤ 64
+  pub opcode : design.opcode < 255
+
+-- the ICL and the device text are those of this design
+pub record AreDesignTexts (of : Design) (icl device : List ℕ) : Type 0 where
+  pub within : IsDesign of
+  pub design : icl ≡ icl_text of.width
+  pub access : device ≡ device_text of.opcode
 
 -- the three texts are those of this design and procedure
 pub record AreTextsOf (form : SeenForm) (icl pdl device : List ℕ) : Type 0 where

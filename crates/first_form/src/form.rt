@@ -25,6 +25,17 @@ pub enum Line {
     Apply,
 }
 
+/// A chip with one scan register `net.R` behind its TAP controller (IEEE 1149.1-2013).
+///
+/// The register captures itself and resets to 0.
+#[derive(Clone, Copy, Debug, PartialEq, Eq)]
+pub struct Design {
+    /// How many bits the register has, 1 to [`MAX_WIDTH`].
+    pub width: u32,
+    /// The opcode of the access link, for an instruction register of 8 bits. It isn't 255, since all ones is BYPASS.
+    pub opcode: u8,
+}
+
 /// A chip with one scan register `net.R` behind its TAP controller (IEEE 1149.1-2013), and a procedure `p` on it.
 ///
 /// The register captures itself and resets to 0.
@@ -38,10 +49,10 @@ pub struct Form {
     pub lines: List<Line>,
 }
 
-/// Why there is no design.
+/// Why there is no design, or no procedure on it.
 #[derive(Clone, Copy, Debug, PartialEq, Eq)]
 pub enum FormFault {
-    /// The three texts aren't of the first form.
+    /// The texts aren't of the first form.
     FirstForm,
     /// There was no memory for the design or for reading it.
     OutOfMemory,

@@ -3,11 +3,12 @@ ghost use Rattle.std.specs.Prelude.{◌/◌, ◌%◌, ◌∷◌, [], ◌≡◌, 
 ghost use Rattle.ij_bits.specs.Hex.{hex_code};
 ghost use Rattle.std.specs.Prelude.{List as Items};
 ghost use Rattle.std.specs.String.{string_bytes};
-ghost use Rattle.first_form.specs.Texts.{SeenLine, SeenForm, HasWidth, lines_text, icl_text, pdl_text, device_text, AreTextsOf, AreFirstForm};
+ghost use Rattle.first_form.specs.Texts.{SeenLine, SeenForm, HasWidth, lines_text, icl_text, pdl_text, device_text, AreTextsOf, AreFirstForm, AreDesignTexts};
 ghost use Rattle.first_form.specs.SeenForms.{seen_lines, seen_form};
+ghost use Rattle.first_form.specs.declared.form.Design.{Design as SeenDesign};
 
 use crate::text::Reader;
-use crate::{Form, FormFault, Line, MAX_LINES, MAX_WIDTH};
+use crate::{Design, Form, FormFault, Line, MAX_LINES, MAX_WIDTH};
 use ij_bits::List;
 use std::alloc::{AllocError, Global};
 
@@ -114,6 +115,23 @@ fn read_procedure(alloc: Global, width: u32, pdl: &[u8]) -> Result<List<Line>, F
     } else {
         Err(FormFault::FirstForm)
     }
+}
+
+/// The design of an ICL and a device text, which they tell: no other width and opcode have these texts.
+///
+/// # Errors
+///
+/// - `FirstForm`: exactly where the texts aren't those of any width of 1 to 64 bits and any opcode of two upper-case
+///   hexadecimal digits but `FF`.
+/// - `OutOfMemory`: there was no memory for the ICL text that is compared.
+pub fn read_design(alloc: Global, icl: &[u8], device: &[u8]) -> Result<Design, FormFault>
+    ensures design { IfOk result (λ design. AreDesignTexts design icl.now device.now) }
+    ensures only { IfOk result (λ design. (other : SeenDesign) → AreDesignTexts other icl.now device.now → other ≡ design) }
+    ensures other { IsErrOf result FormFault.FirstForm → (design : SeenDesign) → ¬ AreDesignTexts design icl.now device.now }
+{
+    let width = read_width(alloc, icl)?;
+    let opcode = read_opcode(device)?;
+    Ok(Design { width, opcode })
 }
 
 /// The design and the procedure of the three texts, which they tell: no other width, opcode and lines have these texts.

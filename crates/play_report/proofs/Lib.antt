@@ -1,3 +1,4 @@
 pub mod Counting
 pub mod Whole
 pub mod Few
+pub mod Names

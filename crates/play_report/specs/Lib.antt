@@ -1,3 +1,4 @@
 pub mod Printed
 pub mod Report
 pub mod Few
+pub mod Names

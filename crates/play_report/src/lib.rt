@@ -8,5 +8,5 @@ mod play;
 #[cfg(test)]
 mod tests;
 
-pub use laws::read_commands_are_playable;
+pub use laws::{names_are_not_played, read_commands_are_playable};
 pub use play::put_play;
