@@ -3,3 +3,5 @@ pub mod SourceStops
 pub mod Begun
 pub mod Compiling
 pub mod Complete
+pub mod Playing
+pub mod Verdicts

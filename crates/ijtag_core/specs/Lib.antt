@@ -1,9 +1,12 @@
 pub mod Command
 pub mod Stops
+pub mod Loaded
 pub mod Accepted
 pub mod Outcome
 pub mod Codes
 pub mod Seen
 pub mod Sources
-pub mod Texts
 pub mod Compiled
+pub mod Played
+pub mod Texts
+pub mod Runs

@@ -31,7 +31,7 @@ IsEarlyStatus ReadFault = Unit {0}
 IsEarlyStatus WriteFault = ⊥
 IsEarlyStatus OutOfMemory = ⊥
 
--- a status at which the SVF file may hold a first part of its text
+-- a status at which a first part of what is written may stand
 abbrev pub IsPartStatus : Status → Type 0
 IsPartStatus Good = ⊥
 IsPartStatus Differs = ⊥

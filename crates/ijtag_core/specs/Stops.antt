@@ -1,5 +1,7 @@
 -- Why a run stops short, the text that it then prints on the error stream, and its status.
-use Rattle.std.specs.Prelude.{ℕ, List, [], ◌∷◌, codes}
+use Rattle.ij_text.specs.declared.Place.{Place}
+use Rattle.svf_reader.specs.Meaning.{Cause, LeftOut, SvfSyntax, SvfLimit, HexWide, TdiMissing}
+use Rattle.std.specs.Prelude.{ℕ, List, [], ◌∷◌, ◌++◌, codes}
 use Rattle.std.specs.Fmt.{decimal}
 use Rattle.ij_io.specs.Bytes.{concat}
 use Rattle.ijtag_core.specs.declared.status.Status.{Status}
@@ -13,6 +15,8 @@ pub data Refusal : Type 0 where
   FirstForm : Refusal
   -- no iApply follows the iWrite or iRead on this line, counted from 1, and it is the first such one
   Unapplied : (line : ℕ) → Refusal
+  -- the SVF text has a first command at fault, whose first byte stands at this place
+  Svf : (cause : Cause) → (at : Place) → Refusal
 
 pub data Stop : Type 0 where
   -- the words are no command
@@ -23,6 +27,8 @@ pub data Stop : Type 0 where
   ReadFault : (name : List ℕ) → Stop
   -- a store under this name failed
   WriteFault : (name : List ℕ) → Stop
+  -- a write of the output failed
+  OutputFault : Stop
   -- there was no memory
   NoMemory : Stop
 
@@ -32,6 +38,7 @@ status_of Usage = UsageStatus
 status_of (Refuses refusal) = Refused
 status_of (ReadFault name) = ReadStatus
 status_of (WriteFault name) = WriteStatus
+status_of OutputFault = WriteStatus
 status_of NoMemory = MemoryStatus
 
 -- a text and a name on a line of their own
@@ -42,16 +49,43 @@ named_line text name = concat (text ∷ name ∷ codes "\n" ∷ [])
 abbrev pub unapplied_text : ℕ → List ℕ
 unapplied_text line = concat (codes "refused pdl Unapplied " ∷ decimal line ∷ codes ":3\n" ∷ [])
 
+-- the line and the column
+unfoldable pub place_text : Place → List ℕ
+place_text at = decimal at.line ++ (codes ":" ++ decimal at.col)
+
+unfoldable pub cause_name : Cause → List ℕ
+cause_name (LeftOut word) = codes "LeftOut"
+cause_name SvfSyntax = codes "SvfSyntax"
+cause_name SvfLimit = codes "SvfLimit"
+cause_name HexWide = codes "HexWide"
+cause_name TdiMissing = codes "TdiMissing"
+
+-- the rest of the line: the word that is left out
+unfoldable pub cause_end : Cause → List ℕ
+cause_end (LeftOut word) = concat (codes " " ∷ word ∷ codes "\n" ∷ [])
+cause_end SvfSyntax = codes "\n"
+cause_end SvfLimit = codes "\n"
+cause_end HexWide = codes "\n"
+cause_end TdiMissing = codes "\n"
+
+unfoldable pub svf_front : Cause → List ℕ
+svf_front cause = concat (codes "refused svf " ∷ cause_name cause ∷ codes " " ∷ [])
+
+abbrev pub svf_line : Cause → Place → List ℕ
+svf_line cause at = svf_front cause ++ (place_text at ++ cause_end cause)
+
 -- the line that tells a refusal
 unfoldable pub refusal_text : Refusal → List ℕ
 refusal_text (Long name) = named_line (codes "refused file Long ") name
 refusal_text FirstForm = codes "refused core FirstForm\n"
 refusal_text (Unapplied line) = unapplied_text line
+refusal_text (Svf cause at) = svf_line cause at
 
 -- the line that tells a stop
 unfoldable pub stop_text : Stop → List ℕ
-stop_text Usage = codes "usage: ijtag compile\n"
+stop_text Usage = codes "usage: ijtag compile|play\n"
 stop_text (Refuses refusal) = refusal_text refusal
 stop_text (ReadFault name) = named_line (codes "read fault ") name
 stop_text (WriteFault name) = named_line (codes "write fault ") name
+stop_text OutputFault = codes "write fault output\n"
 stop_text NoMemory = codes "out of memory\n"

@@ -1,4 +1,4 @@
-// What the loaded texts are accepted as.
+// What the texts of a compile are accepted as.
 ghost use Rattle.std.specs.Prelude.{◌≡◌, None, IfOk, IfErr};
 ghost use Rattle.first_form.specs.SeenForms.{seen_form};
 ghost use Rattle.register_compiler.specs.Procedure.{unapplied_line};
@@ -6,8 +6,9 @@ ghost use Rattle.ijtag_core.specs.Accepted.{AreOf};
 ghost use Rattle.ijtag_core.specs.Seen.{seen_words, seen_stop};
 ghost use Rattle.ijtag_core.specs.Texts.{IsTextStop};
 
+use crate::refusal::Refusal;
 use crate::sources::Sources;
-use crate::stop::{Refusal, Stop};
+use crate::stop::Stop;
 use crate::words::CompileWords;
 use first_form::{Form, FormFault, read_form};
 use register_compiler::find_unapplied;

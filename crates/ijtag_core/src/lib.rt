@@ -1,10 +1,13 @@
-//! The program as a function of its words, over any files and streams: `compile` a procedure to SVF.
+//! The program as a function of its words, over any files and streams: `compile` a procedure to SVF, `play` an SVF file.
 #![tactic(auto)]
 
 mod accept;
 mod compile;
 mod limits;
 mod memory;
+mod play;
+mod playable;
+mod refusal;
 mod run;
 mod sources;
 mod status;
@@ -15,7 +18,7 @@ mod top;
 mod words;
 mod write;
 
-pub use limits::SOURCE_LIMIT;
+pub use limits::{SOURCE_LIMIT, SVF_LIMIT};
 pub use memory::ijtag_in_memory;
 pub use status::Status;
 pub use top::ijtag;

@@ -1,6 +1,7 @@
 // How a run ended.
 ghost use Rattle.std.specs.Prelude.{◌≡◌};
 ghost use Rattle.ijtag_core.specs.Codes.{code_of};
+ghost use Rattle.ijtag_core.specs.Seen.{seen_verdict};
 
 /// How a run ended.
 #[derive(Clone, Copy, PartialEq, Eq, Debug)]
@@ -27,5 +28,26 @@ impl Status {
         ensures { result ≡ code_of self }
     {
         self as u8
+    }
+}
+
+/// Whether a compared bit differs, where all was written.
+#[derive(Clone, Copy)]
+pub(crate) enum Verdict {
+    /// None does, or none is compared.
+    Agrees,
+    /// One does.
+    Differs,
+}
+
+impl Verdict {
+    /// The status of a run that ends so.
+    pub(crate) fn status(self) -> Status
+        ensures { result ≡ seen_verdict self }
+    {
+        match self {
+            Verdict::Agrees => Status::Good,
+            Verdict::Differs => Status::Differs,
+        }
     }
 }

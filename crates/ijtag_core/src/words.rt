@@ -1,7 +1,7 @@
 // The words that the program is called with.
 ghost use Rattle.std.specs.Prelude.{◌≡◌, option_map};
 ghost use Rattle.ijtag_core.specs.Command.{command_in};
-ghost use Rattle.ijtag_core.specs.Seen.{seen_words};
+ghost use Rattle.ijtag_core.specs.Seen.{seen_command};
 
 /// The words of `compile ICL PDL DEVICE TOP PROC SVF`.
 #[derive(Clone, Copy)]
@@ -20,20 +20,51 @@ pub(crate) struct CompileWords<'a> {
     pub svf: &'a str,
 }
 
+/// The words of `play SVF ICL DEVICE TABLES TOP`.
+#[derive(Clone, Copy)]
+pub(crate) struct PlayWords<'a> {
+    /// The file that is played (Serial Vector Format, revision E).
+    pub svf: &'a str,
+    /// The file of the network (IEEE 1687-2014, ICL).
+    pub icl: &'a str,
+    /// The file of the device's TAP.
+    pub device: &'a str,
+    /// The file of the instruments' tables.
+    pub tables: &'a str,
+    /// The top module's name.
+    pub top: &'a str,
+}
+
+/// The words of a command.
+#[derive(Clone, Copy)]
+pub(crate) enum CommandWords<'a> {
+    Compile(CompileWords<'a>),
+    Play(PlayWords<'a>),
+}
+
 /// The command of the words, `None` where they are no command. It takes no memory.
-pub(crate) fn read_words(words: &Vec<String>) -> Option<CompileWords<'_>>
-    ensures { option_map seen_words result ≡ command_in words.now.items }
+pub(crate) fn read_words(words: &Vec<String>) -> Option<CommandWords<'_>>
+    ensures { option_map seen_command result ≡ command_in words.now.items }
 {
     match words.as_slice() {
         [command, icl, pdl, device, top, procedure, svf] if command.as_str() == "compile" => {
-            Some(CompileWords {
+            Some(CommandWords::Compile(CompileWords {
                 icl: icl.as_str(),
                 pdl: pdl.as_str(),
                 device: device.as_str(),
                 top: top.as_str(),
                 procedure: procedure.as_str(),
                 svf: svf.as_str(),
-            })
+            }))
+        }
+        [command, svf, icl, device, tables, top] if command.as_str() == "play" => {
+            Some(CommandWords::Play(PlayWords {
+                svf: svf.as_str(),
+                icl: icl.as_str(),
+                device: device.as_str(),
+                tables: tables.as_str(),
+                top: top.as_str(),
+            }))
         }
         _ => None,
     }

@@ -8,7 +8,7 @@ use std::alloc::Global;
 
 /// The device whose access link `tap IJTAG` has this opcode, with an instruction register of 8 bits and no
 /// identification code. Its two names take memory.
-pub(crate) fn make_device(alloc: Global, opcode: u8) -> Result<Device, OutOfMemory>
+pub fn make_device(alloc: Global, opcode: u8) -> Result<Device, OutOfMemory>
     ensures ir { IfOk result (λ device. device.ir ≡ 8) }
     ensures identity { IfOk result (λ device. device.idcode ≡ None) }
     ensures link { IfOk result (λ device. device.link.items ≡ codes "tap") }

@@ -5,7 +5,7 @@ use Rattle.ij_io.specs.Files.{Files, file_at}
 use Rattle.first_form.specs.Texts.{SeenForm}
 use Rattle.first_form.specs.SeenForms.{seen_form}
 use Rattle.register_compiler.specs.Svf.{svf_text}
-use Rattle.ijtag_core.specs.Command.{Command}
+use Rattle.ijtag_core.specs.Command.{Compile}
 use Rattle.ijtag_core.specs.Outcome.{IsPart}
 use Rattle.ijtag_core.specs.Seen.{seen_words}
 use Rattle.ijtag_core.proofs.Compiling.{accepted_now, some_accepted, compiled, part_compiled}
@@ -14,7 +14,7 @@ use Rattle.ijtag_core.proofs.compile.compile.Goals as goal
 pub returns-in-Ok-clause-done : goal.returns-in-Ok-clause-done
 returns-in-Ok-clause-done g c =
     let files : Option Files = g.S.Shelf.files c.args.shelf.now in
-    let command : Command = seen_words c.args.words.now in
+    let command : Compile = seen_words c.args.words.now in
     let form : SeenForm = seen_form c.in_ok-form.form in
     let loaded = c.in_ok-sources.ensures in
     let accepted = accepted_now files command form _ _ _ loaded.icl loaded.pdl loaded.device loaded.short c.in_ok-form.ensures.form c.in_ok-form.ensures.applied in
@@ -24,7 +24,7 @@ returns-in-Ok-clause-done g c =
 pub returns-in-Err-Failed-clause-stop : goal.returns-in-Err-Failed-clause-stop
 returns-in-Err-Failed-clause-stop g c =
     let files : Option Files = g.S.Shelf.files c.args.shelf.now in
-    let command : Command = seen_words c.args.words.now in
+    let command : Compile = seen_words c.args.words.now in
     let form : SeenForm = seen_form c.in_ok-form.form in
     let name : List ℕ = c.args.words.now.svf.now in
     let loaded = c.in_ok-sources.ensures in
@@ -35,7 +35,7 @@ returns-in-Err-Failed-clause-stop g c =
 pub returns-in-Err-Failed-clause-part : goal.returns-in-Err-Failed-clause-part
 returns-in-Err-Failed-clause-part g c =
     let files : Option Files = g.S.Shelf.files c.args.shelf.now in
-    let command : Command = seen_words c.args.words.now in
+    let command : Compile = seen_words c.args.words.now in
     let form : SeenForm = seen_form c.in_ok-form.form in
     let name : List ℕ = c.args.words.now.svf.now in
     let loaded = c.in_ok-sources.ensures in
@@ -47,7 +47,7 @@ returns-in-Err-Failed-clause-part g c =
 pub returns-clause-part : goal.returns-clause-part
 returns-clause-part g c =
     let files : Option Files = g.S.Shelf.files c.args.shelf.now in
-    let command : Command = seen_words c.args.words.now in
+    let command : Compile = seen_words c.args.words.now in
     let form : SeenForm = seen_form c.in_ok-form.form in
     let name : List ℕ = c.args.words.now.svf.now in
     let loaded = c.in_ok-sources.ensures in

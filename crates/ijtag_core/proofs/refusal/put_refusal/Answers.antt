@@ -3,8 +3,8 @@ use Rattle.std.specs.Prelude.{OnOk, OnErr}
 use Rattle.ij_io.specs.Bytes.{Adds, AddsPart}
 use Rattle.ijtag_core.specs.Stops.{refusal_text}
 use Rattle.ijtag_core.specs.Seen.{seen_refusal}
-use Rattle.ijtag_core.specs.declared.stop.Refusal.{Refusal}
-use Rattle.ijtag_core.proofs.stop.put_refusal.Goals as goal
+use Rattle.ijtag_core.specs.declared.refusal.Refusal.{Refusal}
+use Rattle.ijtag_core.proofs.refusal.put_refusal.Goals as goal
 
 pub returns-in-FirstForm-clause-whole : goal.returns-in-FirstForm-clause-whole
 unfolding refusal_text

@@ -1,5 +1,5 @@
 use Rattle.ij_io.proofs.Adding.{at_refusal, adds_front, adds_then_part, adds_both}
-use Rattle.ijtag_core.proofs.stop.put_unapplied.Goals as goal
+use Rattle.ijtag_core.proofs.refusal.put_unapplied.Goals as goal
 
 pub returns-in_err-write-clause-part : goal.returns-in_err-write-clause-part
 returns-in_err-write-clause-part g c = at_refusal _ (adds_front _ c.in_err-write.ensures.part)
