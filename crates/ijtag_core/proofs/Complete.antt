@@ -1,12 +1,10 @@
 -- What is accepted stops at a counted fault or for want of memory alone, and what meets a refusal is refused but for these.
-use Rattle.std.specs.Prelude.{IfSome, slice_index_or, ◌⊎◌, Err, Ok}
-use Rattle.std.proofs.Common.{◌≡◌, inl, inr, ℕ, zero, suc, ◌<◌, Option, Some, None, List, [], ◌∷◌, length, refl, sym, ap, ◌∙◌, arith, subst}
+use Rattle.std.specs.Prelude.{IfSome, slice_index_or, ◌⊎◌}
+use Rattle.std.proofs.Common.{◌≡◌, inl, inr, ℕ, zero, suc, ◌<◌, Option, Some, None, List, [], ◌∷◌, length, sym, arith, subst}
 use Rattle.ij_io.specs.Causes.{Rose}
 use Rattle.ij_io.specs.Files.{Files}
 use Rattle.register_compiler.specs.Procedure.{unapplied_line}
-use Rattle.ijtag_core.specs.Command.{Command, Compile, Play, Compiles, Plays, loads, names_of}
-use Rattle.ijtag_core.specs.Compiled.{Counts, IsCompileStop}
-use Rattle.ijtag_core.specs.Played.{IsPlayStop, verdict_of}
+use Rattle.ijtag_core.specs.Command.{Command, Compiles, Plays, loads, names_of}
 use Rattle.ijtag_core.specs.Outcome.{SomeRose}
 use Rattle.ijtag_core.specs.Runs.{Run, IsAccepted, IsFirstRefusal, WriteRose, IsStop, IsRunStop, IsDone}
 use Rattle.ijtag_core.specs.Stops.{Stop, Refusal, Usage, Refuses, ReadFault, WriteFault, OutputFault, NoMemory, Long, FirstForm, Unapplied, Svf, status_of}

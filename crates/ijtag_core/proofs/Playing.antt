@@ -1,5 +1,5 @@
 -- What is known of a play after each of its parts.
-use Rattle.std.specs.Prelude.{IfSome, Ok, codes}
+use Rattle.std.specs.Prelude.{IfSome, Ok}
 use Rattle.std.proofs.Common.{◌≡◌, inr, ℕ, Option, Some, None, List, subst, sym}
 use Rattle.ij_io.specs.Bytes.{Adds, AddsPart}
 use Rattle.ij_io.specs.Files.{Files, bytes_of}

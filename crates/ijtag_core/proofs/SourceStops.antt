@@ -3,7 +3,7 @@ use Rattle.std.specs.Prelude.{IfSome, slice_index_or, nat_lt, cond}
 use Rattle.std.proofs.Common.{◌≡◌, inl, inr, ◌≤◌, ℕ, suc, Bool, true, false, Option, Some, None, List, [], ◌∷◌, length, refl, sym, ap, ◌∙◌, arith, subst}
 use Rattle.ij_io.specs.Causes.{Rose}
 use Rattle.ij_io.specs.Files.{Files, bytes_of}
-use Rattle.ijtag_core.specs.Command.{Load, names_of}
+use Rattle.ijtag_core.specs.Command.{Load}
 use Rattle.ijtag_core.specs.Loaded.{first_long, IsReached}
 use Rattle.ijtag_core.specs.Sources.{IsSourceStop}
 use Rattle.ijtag_core.specs.Stops.{Stop, Usage, Refuses, ReadFault, WriteFault, OutputFault, NoMemory, Long, FirstForm, Unapplied, Svf}

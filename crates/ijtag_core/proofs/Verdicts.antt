@@ -1,8 +1,7 @@
 -- How a play ends, by how many of its compares differ.
-use Rattle.std.proofs.Common.{◌≡◌, ◌≤◌, ℕ, suc, List, [], ◌∷◌, length, refl, sym, ap, ◌∙◌, arith}
+use Rattle.std.proofs.Common.{◌≡◌, ◌≤◌, List, [], ◌∷◌, length, refl, ap, ◌∙◌, arith}
 use Rattle.net_bench.specs.Playing.{Compare}
 use Rattle.ijtag_core.specs.Played.{verdict_of}
-use Rattle.ijtag_core.specs.declared.status.Status.{Status}
 use Rattle.ijtag_core.specs.declared.status.Status.TheVariants.{Good, Differs}
 
 none_differs : (xs : List Compare) → length xs ≡ 0 → Good ≡ verdict_of xs

@@ -1,5 +1,5 @@
 -- What the files of a compile are accepted as, and what they are refused for first.
-use Rattle.std.specs.Prelude.{◌≡◌, ◌⊎◌, ℕ, List, [], ◌∷◌, Some, None, codes}
+use Rattle.std.specs.Prelude.{◌≡◌, ℕ, List, Some, None, codes}
 use Rattle.ij_io.specs.Files.{Files, bytes_of}
 use Rattle.first_form.specs.Texts.{SeenForm, AreTextsOf}
 use Rattle.register_compiler.specs.Procedure.{unapplied_line}

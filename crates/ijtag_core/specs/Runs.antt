@@ -1,5 +1,5 @@
 -- What a run of any command accepts, does and leaves, and why it stops short: that of its command.
-use Rattle.std.specs.Prelude.{◌≡◌, ◌⊎◌, ℕ, List, Option, Some, None, IfSome, Contains}
+use Rattle.std.specs.Prelude.{◌≡◌, ℕ, List, Option, Some, None, IfSome, Contains}
 use Rattle.ij_io.specs.Causes.{Rose}
 use Rattle.ij_io.specs.Files.{Files, file_at, OthersStay}
 use Rattle.first_form.specs.Texts.{SeenForm}

@@ -174,6 +174,161 @@ fn other_names_and_a_long_file_are_refused(rt: HostRuntime) -> Result<(), Fail> 
     Ok(())
 }
 
+fn play_words(alloc: Global) -> Result<Vec<String>, AllocError> {
+    words(alloc, &["play", "a.svf", "a.icl", "a.dev", "a.tab", "chip"])
+}
+
+/// The files of a play of an SVF text on the flat register.
+fn shelf_to_play(alloc: Global, svf: &[u8], tables: &[u8]) -> Result<MemShelf, AllocError> {
+    let mut shelf = shelf_with(alloc, PDL)?;
+    for (name, text) in [("a.svf", svf), ("a.tab", tables)] {
+        if shelf.put_file(name, text).is_err() {
+            return Err(AllocError);
+        }
+    }
+    Ok(shelf)
+}
+
+const TABLES: &[u8] = b"tables 1\n";
+
+#[test]
+fn plays_print_their_reports(rt: HostRuntime) -> Result<(), Fail> {
+    let alloc = rt.alloc();
+    let words = play_words(alloc)?;
+    let rows: [(&[u8], &[u8], u8, &[u8], &[u8]); 9] = [
+        (
+            SVF,
+            TABLES,
+            0,
+            b"register net.R 0101\nscans 2 clocks 29 differs 0\n",
+            b"",
+        ),
+        (
+            b"",
+            TABLES,
+            0,
+            b"register net.R 0000\nscans 0 clocks 0 differs 0\n",
+            b"",
+        ),
+        (
+            b"HDR 0;\nSIR 8 TDI (A0);\nSDR 4 TDI (5);\nSDR 4 TDO (4);\n",
+            TABLES,
+            1,
+            b"differs scan 3 bit 0 expected 0 read 1\nregister net.R 0101\nscans 3 clocks 33 differs 1\n",
+            b"",
+        ),
+        (
+            b"SDR 4 TDI (5",
+            TABLES,
+            3,
+            b"",
+            b"refused svf SvfSyntax 1:1\n",
+        ),
+        (
+            b"HDR 1 TDI (0);\n",
+            TABLES,
+            3,
+            b"",
+            b"refused svf LeftOut 1:1 HDR\n",
+        ),
+        (
+            b"SDR 4 TDI (1F);\n",
+            b"tables 2\n",
+            3,
+            b"",
+            b"refused svf HexWide 1:1\n",
+        ),
+        (
+            b"SIR 8 TDI (A0);\n\n SDR 5 TDO (5);\n",
+            TABLES,
+            3,
+            b"",
+            b"refused svf TdiMissing 3:2\n",
+        ),
+        (
+            b"SDR 65537 TDI (0);\n",
+            TABLES,
+            3,
+            b"",
+            b"refused svf SvfLimit 1:1\n",
+        ),
+        (SVF, b"tables 1", 3, b"", b"refused core FirstForm\n"),
+    ];
+    for (svf, tables, status, printed, said) in rows {
+        let mut shelf = shelf_to_play(alloc, svf, tables)?;
+        let mut out = MemSink::new(alloc);
+        let mut err = MemSink::new(alloc);
+        let ended = ijtag(alloc, &words, &mut shelf, &mut out, &mut err);
+        assert_eq!(rt; ended.code(), status);
+        assert_eq!(rt; out.bytes(), printed);
+        assert_eq!(rt; err.bytes(), said);
+        assert_eq!(rt; shelf.file("a.svf"), Some(svf));
+    }
+    Ok(())
+}
+
+// Each write of the output fails once, and what it took is a first part of the report.
+#[test]
+fn a_report_that_is_not_taken(rt: HostRuntime) -> Result<(), Fail> {
+    let alloc = rt.alloc();
+    let words = play_words(alloc)?;
+    let report = b"register net.R 0101\nscans 2 clocks 29 differs 0\n".as_slice();
+    let mut failed = 0u32;
+    for call in 1..30u32 {
+        let mut shelf = shelf_to_play(alloc, SVF, TABLES)?;
+        let mut out = MemSink::new(alloc);
+        out.fail_at(&[call])?;
+        let mut err = MemSink::new(alloc);
+        if ijtag(alloc, &words, &mut shelf, &mut out, &mut err) == Status::Good {
+            assert_eq!(rt; out.bytes(), report);
+        } else {
+            failed = call;
+            assert_eq!(rt; err.bytes(), b"write fault output\n".as_slice());
+            assert!(rt; report.starts_with(out.bytes()));
+        }
+    }
+    assert!(rt; failed >= 2);
+    assert!(rt; failed < 29);
+    Ok(())
+}
+
+// What the compiler writes, the player reads: a read that is wrong differs at its own bit.
+#[test]
+fn a_written_file_is_played(rt: HostRuntime) -> Result<(), Fail> {
+    let alloc = rt.alloc();
+    let rows: [(&[u8], Status, &[u8]); 2] = [
+        (
+            b"iProcsForModule chip\niProc p {} {\n  iWrite net.R 0b0101\n  iApply\n  iRead net.R 0b0101\n  iApply\n}\n",
+            Status::Good,
+            b"register net.R 0101\nscans 3 clocks 38 differs 0\n",
+        ),
+        (
+            b"iProcsForModule chip\niProc p {} {\n  iWrite net.R 0b0101\n  iApply\n  iRead net.R 0b0001\n  iApply\n}\n",
+            Status::Differs,
+            b"differs scan 3 bit 2 expected 0 read 1\nregister net.R 0101\nscans 3 clocks 38 differs 1\n",
+        ),
+    ];
+    for (pdl, status, report) in rows {
+        let mut shelf = shelf_to_play(alloc, b"", TABLES)?;
+        shelf.put_file("a.pdl", pdl)?;
+        let mut out = MemSink::new(alloc);
+        let mut err = MemSink::new(alloc);
+        let compiled = ijtag(
+            alloc,
+            &compile_words(alloc)?,
+            &mut shelf,
+            &mut out,
+            &mut err,
+        );
+        assert_eq!(rt; compiled, Status::Good);
+        let played = ijtag(alloc, &play_words(alloc)?, &mut shelf, &mut out, &mut err);
+        assert_eq!(rt; played, status);
+        assert_eq!(rt; out.bytes(), report);
+        assert_eq!(rt; err.bytes(), b"".as_slice());
+    }
+    Ok(())
+}
+
 #[test]
 fn sure_files_take_the_whole_text(rt: HostRuntime) -> Result<(), Fail> {
     let alloc = rt.alloc();

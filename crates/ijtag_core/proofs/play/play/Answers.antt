@@ -1,5 +1,5 @@
 use Rattle.std.specs.Prelude.{IfErr, Err}
-use Rattle.std.proofs.Common.{◌≡◌, sym, subst, rules, List, ℕ, Option}
+use Rattle.std.proofs.Common.{◌≡◌, sym, subst, rules, Option}
 use Rattle.ij_io.specs.Causes.{Rose}
 use Rattle.ij_io.specs.Files.{Files}
 use Rattle.play_report.proofs.Few.{read_commands_are_playable}
@@ -7,7 +7,7 @@ use Rattle.ijtag_core.specs.Command.{Play}
 use Rattle.ijtag_core.specs.Compiled.{Counts}
 use Rattle.ijtag_core.specs.Played.{Faults, IsPlayStop}
 use Rattle.ijtag_core.specs.Seen.{seen_play, seen_stop, seen_verdict}
-use Rattle.ijtag_core.proofs.Playing.{AreLoaded, playable_now, some_playable, played, part_played, texts_stop}
+use Rattle.ijtag_core.proofs.Playing.{playable_now, some_playable, played, part_played, texts_stop}
 use Rattle.ijtag_core.proofs.play.play.Goals as goal
 
 pub returns-in_err-playable-clause-stop : goal.returns-in_err-playable-clause-stop

@@ -1,4 +1,4 @@
-use Rattle.std.proofs.Common.{◌≡◌, subst, arith, ℕ, List}
+use Rattle.std.proofs.Common.{subst, arith, ℕ, List}
 use Rattle.ij_io.specs.Bytes.{Adds, AddsPart}
 use Rattle.ij_io.proofs.Adding.{at_refusal}
 use Rattle.play_report.proofs.Names.{names_are_not_played}

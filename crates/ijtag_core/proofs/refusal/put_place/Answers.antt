@@ -1,4 +1,4 @@
-use Rattle.ij_io.proofs.Adding.{at_refusal, adds_front, adds_then_part, adds_both}
+use Rattle.ij_io.proofs.Adding.{at_refusal, adds_front, adds_then_part}
 use Rattle.ijtag_core.specs.Stops.{place_text}
 use Rattle.ijtag_core.proofs.refusal.put_place.Goals as goal
 
