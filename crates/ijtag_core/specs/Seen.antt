@@ -1,15 +1,17 @@
 -- Words, stops and verdicts as contracts see them: with plain lists.
 use Rattle.svf_reader.specs.Meaning.{Cause, LeftOut, SvfSyntax, SvfLimit, HexWide, TdiMissing}
 use Rattle.ijtag_core.specs.Command.{Command, Compile, Play, Compiles, Plays}
-use Rattle.ijtag_core.specs.Stops.{Stop, Refusal, Usage, Refuses, ReadFault, WriteFault, OutputFault, NoMemory, Long, FirstForm, Unapplied, Svf}
+use Rattle.ijtag_core.specs.Stops.{Stop, IclCause, BadByte, OpenComment, OpenText, LeftOutOfIcl, ExprLimit, Syntax, Refusal, Icl, Usage, Refuses, ReadFault, WriteFault, OutputFault, NoMemory, Long, FirstForm, Unapplied, Svf}
 use Rattle.ijtag_core.specs.declared.words.CompileWords.{CompileWords}
 use Rattle.ijtag_core.specs.declared.words.PlayWords.{PlayWords}
 use Rattle.ijtag_core.specs.declared.words.CommandWords.{CommandWords}
 use Rattle.ijtag_core.specs.declared.words.CommandWords.TheVariants.{Compile as CompileCommand, Play as PlayCommand}
 use Rattle.ijtag_core.specs.declared.refusal.SvfCause.{SvfCause}
 use Rattle.ijtag_core.specs.declared.refusal.SvfCause.TheVariants.{LeftOut as LeftOutCause, Syntax as SyntaxCause, Limit as LimitCause, HexWide as WideCause, TdiMissing as TdiCause}
+use Rattle.ijtag_core.specs.declared.refusal.IclCause.{IclCause as RustIclCause}
+use Rattle.ijtag_core.specs.declared.refusal.IclCause.TheVariants.{BadByte as ByteCause, OpenComment as CommentCause, OpenText as TextCause, LeftOut as LeftOutIclCause, ExprLimit as ExprCause, Syntax as SyntaxIclCause}
 use Rattle.ijtag_core.specs.declared.refusal.Refusal.{Refusal as RustRefusal}
-use Rattle.ijtag_core.specs.declared.refusal.Refusal.TheVariants.{Long as LongFile, FirstForm as FirstFormRefusal, Unapplied as UnappliedRefusal, Svf as SvfRefusal}
+use Rattle.ijtag_core.specs.declared.refusal.Refusal.TheVariants.{Icl as IclRefusal, Long as LongFile, FirstForm as FirstFormRefusal, Unapplied as UnappliedRefusal, Svf as SvfRefusal}
 use Rattle.ijtag_core.specs.declared.status.Status.{Status}
 use Rattle.ijtag_core.specs.declared.status.Status.TheVariants.{Good, Differs}
 use Rattle.ijtag_core.specs.declared.status.Verdict.{Verdict}
@@ -36,10 +38,19 @@ seen_cause LimitCause = SvfLimit
 seen_cause WideCause = HexWide
 seen_cause TdiCause = TdiMissing
 
+abbrev pub seen_icl_cause : RustIclCause → IclCause
+seen_icl_cause ByteCause = BadByte
+seen_icl_cause CommentCause = OpenComment
+seen_icl_cause TextCause = OpenText
+seen_icl_cause (LeftOutIclCause word) = LeftOutOfIcl word.items
+seen_icl_cause ExprCause = ExprLimit
+seen_icl_cause SyntaxIclCause = Syntax
+
 abbrev pub seen_refusal : RustRefusal → Refusal
 seen_refusal (LongFile name) = Long name.now
 seen_refusal FirstFormRefusal = FirstForm
 seen_refusal (UnappliedRefusal line) = Unapplied line
+seen_refusal (IclRefusal cause at) = Icl (seen_icl_cause cause) at
 seen_refusal (SvfRefusal cause at) = Svf (seen_cause cause) at
 
 abbrev pub seen_stop : RustStop → Stop

@@ -1,9 +1,9 @@
 // What a file or a text is refused for, and the line that tells it.
-ghost use Rattle.std.specs.Prelude.{◌≡◌, OnOk, OnErr};
+ghost use Rattle.std.specs.Prelude.{◌≡◌, OnOk, OnErr, option_map};
 ghost use Rattle.ij_io.specs.Bytes.{Adds, AddsPart};
 ghost use Rattle.ij_io.specs.Causes.{HasCause};
-ghost use Rattle.ijtag_core.specs.Stops.{refusal_text, named_line, unapplied_text, place_text, cause_name, cause_end, svf_front, svf_line};
-ghost use Rattle.ijtag_core.specs.Seen.{seen_cause, seen_refusal};
+ghost use Rattle.ijtag_core.specs.Stops.{refusal_text, named_line, unapplied_text, place_text, line_end, located_line, svf_cause, svf_word, svf_line, icl_cause, icl_word, icl_line};
+ghost use Rattle.ijtag_core.specs.Seen.{seen_cause, seen_icl_cause, seen_refusal};
 
 use ij_io::{Sink, StoreFault, put_pieces};
 use ij_text::{Name, Place};
@@ -26,9 +26,9 @@ pub(crate) enum SvfCause {
 
 impl SvfCause {
     /// The name that is printed.
-    #[tactic(auto, unfolding(crate::specs::Stops::cause_name))]
+    #[tactic(auto, unfolding(crate::specs::Stops::svf_cause))]
     fn name(&self) -> &'static [u8]
-        ensures { result.now ≡ cause_name (seen_cause self.now) }
+        ensures { result.now ≡ svf_cause (seen_cause self.now) }
     {
         match self {
             SvfCause::LeftOut(_) => b"LeftOut",
@@ -36,6 +36,67 @@ impl SvfCause {
             SvfCause::Limit => b"SvfLimit",
             SvfCause::HexWide => b"HexWide",
             SvfCause::TdiMissing => b"TdiMissing",
+        }
+    }
+
+    /// The word that is printed behind the place.
+    fn word(&self) -> Option<&[u8]>
+        ensures { option_map (λ word. word.now) result ≡ svf_word (seen_cause self.now) }
+    {
+        match self {
+            SvfCause::LeftOut(word) => Some(word.as_slice()),
+            SvfCause::Syntax => None,
+            SvfCause::Limit => None,
+            SvfCause::HexWide => None,
+            SvfCause::TdiMissing => None,
+        }
+    }
+}
+
+/// Why an ICL text is refused (IEEE 1687-2014).
+#[derive(Drop)]
+pub(crate) enum IclCause {
+    /// A byte begins no token.
+    BadByte,
+    /// A comment has no end.
+    OpenComment,
+    /// A quoted text has no end.
+    OpenText,
+    /// A word of ICL that isn't read here.
+    LeftOut(Name),
+    /// Too many parentheses inside one another, or too many operators.
+    ExprLimit,
+    /// Any other token that doesn't fit.
+    Syntax,
+}
+
+impl IclCause {
+    /// The name that is printed.
+    #[tactic(auto, unfolding(crate::specs::Stops::icl_cause))]
+    fn name(&self) -> &'static [u8]
+        ensures { result.now ≡ icl_cause (seen_icl_cause self.now) }
+    {
+        match self {
+            IclCause::BadByte => b"BadByte",
+            IclCause::OpenComment => b"OpenComment",
+            IclCause::OpenText => b"OpenText",
+            IclCause::LeftOut(_) => b"LeftOut",
+            IclCause::ExprLimit => b"ExprLimit",
+            IclCause::Syntax => b"Syntax",
+        }
+    }
+
+    /// The word that is printed behind the place.
+    fn word(&self) -> Option<&[u8]>
+        ensures { option_map (λ word. word.now) result ≡ icl_word (seen_icl_cause self.now) }
+    {
+        match self {
+            IclCause::LeftOut(word) => Some(word.as_slice()),
+            IclCause::BadByte => None,
+            IclCause::OpenComment => None,
+            IclCause::OpenText => None,
+            IclCause::ExprLimit => None,
+            IclCause::Syntax => None,
         }
     }
 }
@@ -49,6 +110,8 @@ pub(crate) enum Refusal<'a> {
     FirstForm,
     /// The first iWrite or iRead that no iApply follows stands on this line, counted from 1.
     Unapplied(u32),
+    /// The fault of an ICL text, and its place.
+    Icl(IclCause, Place),
     /// The first command at fault of an SVF text, and the place of its first byte.
     Svf(SvfCause, Place),
 }
@@ -87,30 +150,35 @@ fn put_place<K: Sink>(at: Place, k: &mut K) -> Result<(), StoreFault>
     Ok(())
 }
 
-/// Prints what stands behind the place: the word that is left out, and the line's end.
-#[tactic(auto, unfolding(crate::specs::Stops::cause_end))]
-fn put_cause_end<K: Sink>(cause: &SvfCause, k: &mut K) -> Result<(), StoreFault>
-    ensures whole { OnOk result (Adds (K.taken k.old) (K.taken k.new) (cause_end (seen_cause cause.now))) }
-    ensures part { OnErr result (AddsPart (K.taken k.old) (K.taken k.new) (cause_end (seen_cause cause.now))) }
+/// Prints what stands behind the place: a word, where there is one, and the line's end.
+#[tactic(auto, unfolding(crate::specs::Stops::line_end))]
+fn put_line_end<K: Sink>(word: Option<&[u8]>, k: &mut K) -> Result<(), StoreFault>
+    ensures whole { OnOk result (Adds (K.taken k.old) (K.taken k.new) (line_end (option_map (λ w. w.now) word))) }
+    ensures part { OnErr result (AddsPart (K.taken k.old) (K.taken k.new) (line_end (option_map (λ w. w.now) word))) }
     ensures cause { HasCause (K.faults k.old) (K.faults k.new) result StoreFault.Failed }
 {
-    match cause {
-        SvfCause::LeftOut(word) => put_pieces(k, &[b" ", word.as_slice(), b"\n"]),
-        SvfCause::Syntax => k.write(b"\n"),
-        SvfCause::Limit => k.write(b"\n"),
-        SvfCause::HexWide => k.write(b"\n"),
-        SvfCause::TdiMissing => k.write(b"\n"),
+    match word {
+        Some(word) => put_pieces(k, &[b" ", word, b"\n"]),
+        None => k.write(b"\n"),
     }
 }
 
-/// Prints what stands in front of the place.
-#[tactic(auto, unfolding(crate::specs::Stops::svf_front))]
-fn put_svf_front<K: Sink>(cause: &SvfCause, k: &mut K) -> Result<(), StoreFault>
-    ensures whole { OnOk result (Adds (K.taken k.old) (K.taken k.new) (svf_front (seen_cause cause.now))) }
-    ensures part { OnErr result (AddsPart (K.taken k.old) (K.taken k.new) (svf_front (seen_cause cause.now))) }
+/// Prints the line of a refused text.
+fn put_located<K: Sink>(
+    stage: &[u8],
+    cause: &[u8],
+    at: Place,
+    word: Option<&[u8]>,
+    k: &mut K,
+) -> Result<(), StoreFault>
+    ensures whole { OnOk result (Adds (K.taken k.old) (K.taken k.new) (located_line stage.now cause.now at (option_map (λ w. w.now) word))) }
+    ensures part { OnErr result (AddsPart (K.taken k.old) (K.taken k.new) (located_line stage.now cause.now at (option_map (λ w. w.now) word))) }
     ensures cause { HasCause (K.faults k.old) (K.faults k.new) result StoreFault.Failed }
 {
-    put_pieces(k, &[b"refused svf ", cause.name(), b" "])
+    put_pieces(k, &[stage, cause, b" "])?;
+    put_place(at, k)?;
+    put_line_end(word, k)?;
+    Ok(())
 }
 
 /// Prints the line of a refused SVF text.
@@ -119,10 +187,16 @@ fn put_svf_refusal<K: Sink>(cause: &SvfCause, at: Place, k: &mut K) -> Result<()
     ensures part { OnErr result (AddsPart (K.taken k.old) (K.taken k.new) (svf_line (seen_cause cause.now) at)) }
     ensures cause { HasCause (K.faults k.old) (K.faults k.new) result StoreFault.Failed }
 {
-    put_svf_front(cause, k)?;
-    put_place(at, k)?;
-    put_cause_end(cause, k)?;
-    Ok(())
+    put_located(b"refused svf ", cause.name(), at, cause.word(), k)
+}
+
+/// Prints the line of a refused ICL text.
+fn put_icl_refusal<K: Sink>(cause: &IclCause, at: Place, k: &mut K) -> Result<(), StoreFault>
+    ensures whole { OnOk result (Adds (K.taken k.old) (K.taken k.new) (icl_line (seen_icl_cause cause.now) at)) }
+    ensures part { OnErr result (AddsPart (K.taken k.old) (K.taken k.new) (icl_line (seen_icl_cause cause.now) at)) }
+    ensures cause { HasCause (K.faults k.old) (K.faults k.new) result StoreFault.Failed }
+{
+    put_located(b"refused icl ", cause.name(), at, cause.word(), k)
 }
 
 /// Prints the text of a refusal.
@@ -136,6 +210,7 @@ pub(crate) fn put_refusal<K: Sink>(refusal: &Refusal<'_>, k: &mut K) -> Result<(
         Refusal::Long(name) => put_named(b"refused file Long ", name, k),
         Refusal::FirstForm => put_pieces(k, &[b"refused core FirstForm\n"]),
         Refusal::Unapplied(line) => put_unapplied(*line, k),
+        Refusal::Icl(cause, at) => put_icl_refusal(cause, *at, k),
         Refusal::Svf(cause, at) => put_svf_refusal(cause, *at, k),
     }
 }
