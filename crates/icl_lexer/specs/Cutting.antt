@@ -80,6 +80,9 @@ tokens_from start at [] = []
 tokens_from start at (p ∷ ps) =
     token_of p.kind at start (start + length p.bytes) ++ tokens_from (start + length p.bytes) (place_behind at p.bytes) ps
 
+abbrev pub Tokens : Type 0
+Tokens = List Token
+
 -- the tokens of a whole text
 abbrev pub AreTokens : List ℕ → List Token → Type 0
 AreTokens text tokens = (pieces : List Piece) × (IsCutUpTo text pieces []) × (tokens ≡ tokens_from 0 first_place pieces)
