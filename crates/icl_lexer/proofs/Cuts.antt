@@ -1,5 +1,5 @@
 -- One more piece at the end of a cutting.
-use Rattle.std.proofs.Common.{◌≡◌, ℕ, suc, ◌+◌, ◌<◌, ◌≤◌, List, [], ◌∷◌, ◌++◌, length, take, drop, refl, sym, ap, subst, ◌∙◌, append_assoc, append-nil, arith, zero, ◌-◌, length-append, length-drop}
+use Rattle.std.proofs.Common.{◌≡◌, ℕ, suc, ◌+◌, ◌≤◌, List, [], ◌∷◌, ◌++◌, length, take, drop, refl, sym, ap, subst, ◌∙◌, append_assoc, append-nil, arith, zero, ◌-◌, length-append, length-drop}
 use Rattle.std.proofs.lemmas.List.{drop-drop, length-take, take-append-drop}
 use Rattle.ij_text.specs.declared.Place.{Place}
 use Rattle.icl_lexer.specs.declared.token.Token.{Token}
@@ -62,10 +62,10 @@ cut_more text tokens start at kind len so_far piece =
     let is_piece : IsPiece (take len rest ++ drop (start + len) text) kind (length (take len rest)) = subst (λ n. IsPiece (take len rest ++ drop (start + len) text) kind n) (sym long) (subst (λ (l : List ℕ). IsPiece l kind len) (sym parts) piece) in
     let from : start ≡ 0 + length (joined ps []) = let e = so_far.start_is in omega (arith, e) in
     let last : token_of kind at start (start + len) ≡ tokens_from (0 + length (joined ps [])) (place_behind first_place (joined ps [])) (p ∷ []) =
-        ap (λ n. token_of kind at start (start + n)) (sym long)
-        ∙ ap (λ s. token_of kind at s (s + length (take len rest))) from
-        ∙ ap (λ a. token_of kind a (0 + length (joined ps [])) (0 + length (joined ps []) + length (take len rest))) so_far.at_is
-        ∙ sym (append-nil (token_of kind (place_behind first_place (joined ps [])) (0 + length (joined ps [])) (0 + length (joined ps []) + length (take len rest)))) in
+    ap (λ n. token_of kind at start (start + n)) (sym long)
+    ∙ ap (λ s. token_of kind at s (s + length (take len rest))) from
+    ∙ ap (λ a. token_of kind a (0 + length (joined ps [])) (0 + length (joined ps []) + length (take len rest))) so_far.at_is
+    ∙ sym (append-nil (token_of kind (place_behind first_place (joined ps [])) (0 + length (joined ps [])) (0 + length (joined ps []) + length (take len rest)))) in
     record {
       pieces = ps ++ p ∷ [];
       cut = record {

@@ -1,8 +1,8 @@
 -- Each text is cut or has a fault, and its tokens stand in it.
-use Rattle.std.proofs.Common.{◌≡◌, ◌≢◌, ℕ, zero, suc, ◌+◌, ◌-◌, ◌<◌, ◌≤◌, ◌⊎◌, inl, inr, Bool, true, false, List, [], ◌∷◌, ◌++◌, length, take, drop, Option, Some, None, refl, sym, ap, subst, ◌∙◌, arith, append_assoc, append-nil, length-drop, length-append}
+use Rattle.std.proofs.Common.{◌≡◌, ℕ, zero, suc, ◌+◌, ◌-◌, ◌≤◌, ◌⊎◌, inl, inr, Bool, true, false, List, [], ◌∷◌, ◌++◌, length, take, drop, Option, Some, None, refl, sym, ap, subst, ◌∙◌, arith, append_assoc, length-drop, length-append}
 use Rattle.std.specs.Prelude.{slice_range}
 use Rattle.std.proofs.lemmas.List.{nil_from_length}
-use Rattle.std.proofs.Math.Seq.{take-append_seam, drop-append_seam, take-append-add}
+use Rattle.std.proofs.Math.Seq.{take-append_seam, drop-append_seam}
 use Rattle.ij_text.specs.declared.Place.{Place}
 use Rattle.icl_lexer.specs.declared.token.Token.{Token}
 use Rattle.icl_lexer.specs.declared.token.Kind.{Kind}
@@ -58,14 +58,17 @@ cut_from (suc n) text tokens start at c le = by_rest (drop start text) refl (λ 
             let less = length-drop (start + len) text in
             let within = piece.within in
             again kind len piece (omega (arith, le, some, within, long, less))
-        by_piece (inr none) = inr (fault_of (drop start text) (place_behind first_place (joined c.pieces [])), record {
-          pieces = c.pieces;
-          rest = drop start text;
-          cut = c.cut;
-          some = λ nil. absurd (let no : b ∷ bs ≡ [] = sym e ∙ nil in cc);
-          stuck = none;
-          is = refl;
-        })
+        by_piece (inr none) = inr (
+          fault_of (drop start text) (place_behind first_place (joined c.pieces [])),
+          record {
+            pieces = c.pieces;
+            rest = drop start text;
+            cut = c.cut;
+            some = λ nil. absurd (let no : b ∷ bs ≡ [] = sym e ∙ nil in cc);
+            stuck = none;
+            is = refl;
+          },
+        )
 
 pub cut_or_fault : (text : List ℕ) → Outcome text
 cut_or_fault text = cut_from (length text) text [] 0 first_place (nothing_cut text) (omega arith)
@@ -88,8 +91,7 @@ with_token p ps text front from e h le (Is k) is others =
     let within = h.0.within in
     let same : length front + length p.bytes - length front ≡ length p.bytes = omega arith in
     let cut : slice_range text (length front) (length front + length p.bytes) ≡ take (length p.bytes) (p.bytes ++ joined ps []) =
-        ap (λ n. take n (drop (length front) text)) same ∙ ap (λ (l : List ℕ). take (length p.bytes) (drop (length front) l)) (sym e) ∙ ap (take (length p.bytes)) (drop-append_seam front (p.bytes ++ joined ps [])) in
-    (
+    ap (λ n. take n (drop (length front) text)) same ∙ ap (λ (l : List ℕ). take (length p.bytes) (drop (length front) l)) (sym e) ∙ ap (take (length p.bytes)) (drop-append_seam front (p.bytes ++ joined ps [])) in (
       le,
       omega (arith, some),
       omega (arith, all, parts, within),

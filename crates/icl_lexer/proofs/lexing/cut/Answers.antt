@@ -1,8 +1,8 @@
-use Rattle.std.proofs.Common.{◌≡◌, ℕ, ◌+◌, ◌-◌, ◌≤◌, ◌++◌, List, take, drop, length, sym, ap, subst, ◌∙◌, arith, length-drop, refl}
+use Rattle.std.proofs.Common.{ℕ, ◌+◌, ◌-◌, ◌≤◌, List, take, drop, length, sym, ap, subst, ◌∙◌, arith, length-drop}
 use Rattle.std.proofs.lemmas.List.{length-take}
 use Rattle.icl_lexer.specs.declared.token.Token.{Token}
-use Rattle.icl_lexer.specs.Cutting.{IsPiece, NoPiece, place_behind, token_of, fault_of}
-use Rattle.icl_lexer.proofs.Cuts.{CutSoFar, cut_more, nothing_cut, rest_is}
+use Rattle.icl_lexer.specs.Cutting.{IsPiece, NoPiece, place_behind, fault_of}
+use Rattle.icl_lexer.proofs.Cuts.{CutSoFar, cut_more, rest_is}
 use Rattle.icl_lexer.proofs.Unique.{gives_fault}
 use Rattle.icl_lexer.proofs.lexing.cut.Goals as goal
 

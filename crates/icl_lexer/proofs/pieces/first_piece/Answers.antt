@@ -1,7 +1,7 @@
-use Rattle.std.proofs.Common.{◌≡◌, ◌≢◌, Option, None, false, sym, subst, ◌∙◌}
+use Rattle.std.proofs.Common.{Option, sym, subst, ◌∙◌}
 use Rattle.std.specs.Prelude.{IfNone}
 use Rattle.icl_lexer.specs.declared.pieces.Front.{Front}
-use Rattle.icl_lexer.specs.Cutting.{NoPiece, opens_comment}
+use Rattle.icl_lexer.specs.Cutting.{NoPiece}
 use Rattle.icl_lexer.proofs.Fronts.{is_piece, no_piece, no_mark}
 use Rattle.icl_lexer.proofs.pieces.first_piece.Goals as goal
 use Rattle.icl_lexer.proofs.pieces.first_piece.Goals.{else-front-eq1-via-then-front-eq1+else-opens_comment, else-front-eq1-via-else-front-eq1}
@@ -20,6 +20,6 @@ returns-clause-some c =
     let text = c.args.text.now in
     let is = is_piece text c.in_ok-front.front (sym c.longest_front.ensures ∙ c.in_ok-front.was) in
     elim c.else-front-eq1.branch [
-      else-front-eq1-via-then-front-eq1+else-opens_comment w ↦ is (λ one. sym w.opens_comment.ensures ∙ w.if-opens_comment.false)
-    | else-front-eq1-via-else-front-eq1 w ↦ is (λ one. absurd (w.if-front-eq1.false one))
+      | else-front-eq1-via-then-front-eq1+else-opens_comment w ↦ is (λ one. sym w.opens_comment.ensures ∙ w.if-opens_comment.false)
+      | else-front-eq1-via-else-front-eq1 w ↦ is (λ one. absurd (w.if-front-eq1.false one))
     ]

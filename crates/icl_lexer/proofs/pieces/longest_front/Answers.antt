@@ -1,4 +1,4 @@
-use Rattle.std.proofs.Common.{◌≡◌, ℕ, List, ◌∷◌, [], ◌++◌, ◌+◌, ◌-◌, suc, length, take, get_or, sym, ap, ◌∙◌, arith, append-nil, None}
+use Rattle.std.proofs.Common.{◌≡◌, ℕ, List, ◌∷◌, [], ◌++◌, ◌+◌, ◌-◌, suc, length, take, get_or, sym, ap, ◌∙◌, arith, append-nil}
 use Rattle.icl_lexer.specs.Pieces.{kind_of}
 use Rattle.icl_lexer.specs.States.{goes_on}
 use Rattle.icl_lexer.specs.Fronts.{longest_front, newer}
