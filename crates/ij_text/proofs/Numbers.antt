@@ -1,9 +1,9 @@
 -- Digits and open bits, one more of them.
-use Rattle.std.proofs.Common.{◌≡◌, ◌+◌, ◌-◌, ◌*◌, ◌<◌, ◌≤◌, ◌==◌, ℕ, zero, suc, Bool, true, false, cond, List, [], ◌∷◌, ◌++◌, length, map, get_or, drop, Option, Some, None, is_some, refl, sym, ap, subst, ◌∙◌, arith, length-append}
+use Rattle.std.proofs.Common.{◌≡◌, ◌+◌, ◌-◌, ◌*◌, ◌<◌, ◌≤◌, ◌==◌, ℕ, zero, suc, Bool, true, false, cond, List, [], ◌∷◌, ◌++◌, length, get_or, drop, Option, Some, None, is_some, refl, ap, ◌∙◌, arith, length-append}
 use mathlib.Core.Bool.{beq}
 use Rattle.std.specs.Option.{option_eq}
 use Rattle.ij_text.specs.declared.digits.Radix.{Radix}
-use Rattle.ij_text.specs.declared.digits.Radix.TheVariants.{Ten, Two, Sixteen}
+use Rattle.ij_text.specs.declared.digits.Radix.TheVariants.{Ten}
 use Rattle.ij_text.specs.Numbers.{decimal_from, next_decimal, digit_bits, text_bits, open_bits}
 
 -- a decimal grows with each digit

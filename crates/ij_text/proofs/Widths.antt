@@ -1,5 +1,5 @@
 -- Numbers in a width.
-use Rattle.std.proofs.Common.{◌≡◌, ◌≢◌, ◌↔◌, ◌+◌, ◌-◌, ◌*◌, ◌/◌, ◌%◌, ◌^◌, ◌<◌, ◌≤◌, ◌==◌, ℕ, zero, suc, Bool, true, false, not, cond, nat_eq, nat_lt, IsTrue, List, [], ◌∷◌, ◌++◌, length, map, get_or, Option, Some, None, refl, sym, ap, ◌∙◌, arith, append_assoc}
+use Rattle.std.proofs.Common.{◌≡◌, ◌↔◌, ◌+◌, ◌-◌, ◌*◌, ◌/◌, ◌%◌, ◌^◌, ◌<◌, ◌≤◌, ◌==◌, ℕ, zero, suc, Bool, true, false, not, cond, nat_eq, IsTrue, List, [], ◌∷◌, ◌++◌, length, map, get_or, Option, Some, None, refl, sym, ap, ◌∙◌, arith, append_assoc}
 use Rattle.std.proofs.Math.Nat.{le-div_iff_mul-le}
 use Rattle.std.proofs.Math.Pow.{pow_mono}
 use Rattle.std.proofs.lemmas.Nat.{pow_pos}
@@ -18,8 +18,7 @@ test_some q h = grind (arith, nat_tests)
 -- a shifted number isn't 0 exactly where it has a bit at the width or above
 pub shifted : (n w : ℕ) → IsTrue (not (nat_eq (n / 2 ^ w) 0)) ↔ (2 ^ w ≤ n)
 shifted n w =
-    let both : (1 ≤ n / 2 ^ w) ↔ (1 * 2 ^ w ≤ n) = le-div_iff_mul-le (pow_pos w) in
-    (
+    let both : (1 ≤ n / 2 ^ w) ↔ (1 * 2 ^ w ≤ n) = le-div_iff_mul-le (pow_pos w) in (
       λ h. let k = both.0 (some_test (n / 2 ^ w) h) in omega (arith, k),
       λ h. test_some (n / 2 ^ w) (both.1 (omega (arith, h))),
     )

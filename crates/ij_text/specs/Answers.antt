@@ -1,10 +1,10 @@
 -- What the readers of numbers answer.
-use Rattle.std.specs.Prelude.{◌≡◌, ℕ, List, Option, Some, None, Result, Ok, Err}
+use Rattle.std.specs.Prelude.{◌≡◌, Option, Some, None, Result, Ok, Err}
 use Rattle.ij_text.specs.declared.Place.{Place}
 use Rattle.ij_text.specs.declared.number.Number.{Number}
 use Rattle.ij_text.specs.declared.number.NumberFault.{NumberFault}
 use Rattle.ij_text.specs.declared.number.NumberFault.TheVariants.{BadNumber, TooWide, OutOfMemory}
-use Rattle.ij_text.specs.Numbers.{Written, number_of_text, SaysTooWide, seen}
+use Rattle.ij_text.specs.Numbers.{Written, SaysTooWide, seen}
 
 -- a number that isn't too wide
 abbrev pub IsRead : Option Written → Type 0

@@ -90,11 +90,7 @@ fn hex_value(b: u8) -> u8
 fn lowest(is_open: bool, value: u8) -> Option<bool>
     ensures { result ≡ cond is_open None (Some (value % 2 == 1)) }
 {
-    if is_open {
-        None
-    } else {
-        Some(value % 2 == 1)
-    }
+    if is_open { None } else { Some(value % 2 == 1) }
 }
 
 /// Adds the bits of a hexadecimal digit.

@@ -1,4 +1,4 @@
-use Rattle.std.proofs.Common.{◌≡◌, ◌^◌, ◌≤◌, ℕ, suc, drop, get_or, Option, arith, drop-cons, sym, subst, ◌∙◌, ap}
+use Rattle.std.proofs.Common.{◌≡◌, ◌^◌, ◌≤◌, ℕ, suc, drop, get_or, Option, arith, drop-cons, sym, subst, ap}
 use Rattle.std.specs.Prelude.{MatchOption}
 use Rattle.ij_text.specs.Numbers.{decimal_from, next_decimal}
 use Rattle.ij_text.proofs.Numbers.{grows}

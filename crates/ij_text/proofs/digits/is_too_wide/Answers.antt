@@ -1,5 +1,4 @@
-use Rattle.std.proofs.Common.{◌≡◌, Bool, false, nat_lt, sym, ap, length, ◌∙◌}
-use Rattle.ij_text.specs.declared.digits.Radix.TheVariants.{Ten}
+use Rattle.std.proofs.Common.{nat_lt, sym, ap, length, ◌∙◌}
 use Rattle.ij_text.specs.Numbers.{text_bits}
 use Rattle.ij_text.proofs.Numbers.{none_of_ten}
 use Rattle.ij_text.proofs.digits.is_too_wide.Goals as goal

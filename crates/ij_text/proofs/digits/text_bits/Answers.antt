@@ -1,6 +1,5 @@
-use Rattle.std.proofs.Common.{◌≡◌, ◌<◌, ◌+◌, ◌-◌, length, arith, ap}
-use Rattle.ij_text.specs.Numbers.{text_bits}
-use Rattle.ij_text.proofs.Numbers.{fewer, one_more}
+use Rattle.std.proofs.Common.{◌-◌, length, arith, ap}
+use Rattle.ij_text.proofs.Numbers.{fewer}
 use Rattle.ij_text.proofs.digits.text_bits.Goals as goal
 
 pub put_digit-requires : goal.put_digit-requires

@@ -1,4 +1,4 @@
-use Rattle.std.proofs.Common.{◌≡◌, ◌<◌, ◌≤◌, get_or, false, sym, ◌∙◌, arith}
+use Rattle.std.proofs.Common.{get_or, false, sym, ◌∙◌, arith}
 use Rattle.ij_text.proofs.Widths.{open_get, open_past, read_bit}
 use Rattle.ij_text.proofs.fitting.bit_at.Goals as goal
 

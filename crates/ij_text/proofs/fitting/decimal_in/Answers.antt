@@ -1,4 +1,4 @@
-use Rattle.std.proofs.Common.{◌≡◌, ◌<◌, ◌+◌, ◌-◌, ◌/◌, ◌%◌, ◌==◌, ◌++◌, ◌∷◌, [], Option, Bool, List, Some, length, map, arith, ap, sym, ◌∙◌, length-append}
+use Rattle.std.proofs.Common.{◌+◌, ◌-◌, ◌/◌, ◌%◌, ◌==◌, ◌++◌, ◌∷◌, [], Option, Bool, List, Some, length, map, arith, ap, ◌∙◌, length-append}
 use Rattle.ij_bits.specs.BitLists.{bits_of}
 use Rattle.ij_text.proofs.Widths.{bit_more}
 use Rattle.ij_text.proofs.fitting.decimal_in.Goals as goal

@@ -1,4 +1,4 @@
-use Rattle.std.proofs.Common.{◌≡◌, ◌<◌, ◌≤◌, ℕ, nat_lt, IsTrue, arith}
+use Rattle.std.proofs.Common.{◌≤◌, ℕ, nat_lt, IsTrue, arith}
 use Rattle.std.proofs.lemmas.Bool.Decides.{nat_tests}
 use Rattle.ij_text.proofs.Widths.{shifted, beyond}
 use Rattle.ij_text.proofs.fitting.is_wide_decimal.Goals as goal

@@ -1,4 +1,4 @@
-use Rattle.std.proofs.Common.{◌≡◌, ◌<◌, ◌+◌, ◌++◌, ◌∷◌, [], length, get_or, Option, Bool, List, Some, false, arith, ap, sym, ◌∙◌}
+use Rattle.std.proofs.Common.{◌++◌, ◌∷◌, [], length, get_or, Option, Bool, List, Some, false, arith, ap, sym, ◌∙◌}
 use Rattle.std.proofs.lemmas.List.FromFn.{map-range_with_len_more, length-map-range_with_len}
 use Rattle.ij_text.specs.Numbers.{InBits, bits_in, tern_bits}
 use Rattle.ij_text.proofs.fitting.tern_in.Goals as goal

@@ -1,4 +1,4 @@
-use Rattle.std.proofs.Common.{◌≡◌, List, ℕ, Option, sym, ap, subst, ◌∙◌, map, Some, None}
+use Rattle.std.proofs.Common.{List, ℕ, ap, subst, ◌∙◌, map}
 use Rattle.std.specs.Str.{bytes_eq}
 use Rattle.indexmap.specs.IndexMap.{keys}
 use Rattle.ij_text.specs.Numbering.{AreDistinct, number_in}

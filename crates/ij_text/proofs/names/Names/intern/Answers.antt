@@ -1,9 +1,7 @@
-use Rattle.std.proofs.Common.{◌≡◌, List, ℕ, Option, sym, ap, subst, ◌∙◌, map, Some, None, [], ◌∷◌, ◌++◌}
-use Rattle.std.specs.List.{AllByRecursion}
+use Rattle.std.proofs.Common.{◌≡◌, List, ℕ, sym, ap, ◌∙◌, map, None, [], ◌∷◌, ◌++◌}
 use Rattle.std.specs.Map.{keys_of, values_of}
-use Rattle.std.specs.Str.{bytes_eq}
-use Rattle.indexmap.specs.IndexMap.{keys, values}
-use Rattle.ij_text.specs.Numbering.{number_in, with_name}
+use Rattle.indexmap.specs.IndexMap.{keys}
+use Rattle.ij_text.specs.Numbering.{number_in}
 use Rattle.ij_text.proofs.Numbering.{absent, added, inserted, keys_more, values_more}
 use Rattle.ij_text.proofs.names.Names.intern.Goals as goal
 
@@ -19,8 +17,7 @@ entered c =
     let none : number_in c.args.self.now c.args.name.now.items ≡ None = sym c.find.ensures.number ∙ c.in_default.is in
     let key : c.in_ok-key.key.items ≡ c.args.name.now.items = c.in_ok-key.ensures.items ∙ c.as_slice.ensures in
     let in_keys : number_in (map (λ k. k.items) (keys c.self.inside.numbered)) c.in_ok-key.key.items ≡ None =
-        ap (number_in (map (λ k. k.items) (keys c.self.inside.numbered))) key ∙ ap (λ (names : List (List ℕ)). number_in names c.args.name.now.items) c.self.view_is ∙ none in
-    (
+    ap (number_in (map (λ k. k.items) (keys c.self.inside.numbered))) key ∙ ap (λ (names : List (List ℕ)). number_in names c.args.name.now.items) c.self.view_is ∙ none in (
       none,
       key,
       c.in_ok-insert.ensures.entries

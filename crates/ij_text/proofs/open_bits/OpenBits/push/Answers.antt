@@ -1,4 +1,4 @@
-use Rattle.std.proofs.Common.{◌≡◌, Option, ◌<◌, ◌+◌, Bool, List, length, arith, sym, ap, ◌∙◌, is_some, ◌∷◌, ◌++◌, []}
+use Rattle.std.proofs.Common.{Option, Bool, List, length, arith, ap, ◌∙◌, ◌∷◌, ◌++◌, []}
 use Rattle.ij_text.specs.Numbers.{open_bits}
 use Rattle.ij_text.proofs.Numbers.{open_length, open_push, one_is}
 use Rattle.ij_text.proofs.open_bits.OpenBits.push.Goals as goal
