@@ -171,7 +171,8 @@ impl State {
 
     /// Whether no byte leads to a piece.
     pub fn is_dead(self) -> bool
-        ensures { result ≡ true → (bs : List ℕ) → goes_on self bs ≡ None }
+        ensures only { result ≡ true → (bs : List ℕ) → goes_on self bs ≡ None }
+        ensures dead { self ≡ State.Dead → result ≡ true }
     {
         matches!(self, State::Dead)
     }

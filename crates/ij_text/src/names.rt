@@ -1,5 +1,5 @@
 // Names with numbers.
-ghost use Rattle.std.specs.Prelude.{◌≡◌, ◌+◌, ◌^◌, ◌<◌, [], length, slice_get, Some, OnOk, OnErr, IfOk};
+ghost use Rattle.std.specs.Prelude.{◌≡◌, ◌+◌, ◌^◌, ◌<◌, [], length, slice_get, Some, IsTrue, ◌↔◌, OnOk, OnErr, IfOk};
 ghost use Rattle.ij_text.specs.Numbering.{AreDistinct, number_in, number_or_next, with_name};
 
 use crate::Name;
@@ -19,14 +19,14 @@ pub struct Names {
 }
 
 impl Model for Names {
-    ghost use Rattle.std.specs.Prelude.{◌≡◌, ℕ, List, map};
+    ghost use Rattle.std.specs.Prelude.{◌≡◌, ◌<◌, ◌^◌, ℕ, List, map, length};
     ghost use Rattle.indexmap.specs.IndexMap.{keys, values};
 
     ghost Value = { List (List ℕ) };
 
     ghost view = { λ n. map (λ key. key.items) (keys n.numbered) };
 
-    ghost invariant = { λ n. map (λ name. name.items) (values n.numbered) ≡ map (λ key. key.items) (keys n.numbered) };
+    ghost invariant = { λ n. (map (λ name. name.items) (values n.numbered) ≡ map (λ key. key.items) (keys n.numbered)) × (length (map (λ key. key.items) (keys n.numbered)) < 2 ^ 32) };
 }
 
 impl Names {
@@ -38,6 +38,20 @@ impl Names {
             alloc,
             numbered: IndexMap::new(alloc),
         }
+    }
+
+    /// How many names there are. Takes no memory.
+    pub fn len(&self) -> u32
+        ensures { result ≡ length self.now }
+    {
+        self.numbered.len() as u32
+    }
+
+    /// Whether there is no name. Takes no memory.
+    pub fn is_empty(&self) -> bool
+        ensures { IsTrue result ↔ (self.now ≡ []) }
+    {
+        self.len() == 0
     }
 
     /// The number of a name. One that isn't in the list yet is added, and gets the next number.
@@ -61,7 +75,6 @@ impl Names {
 
     /// The number of a name, or `None` exactly where it isn't in the list. Takes no memory.
     pub fn find(&self, name: &Name) -> Option<u32>
-        requires { length self.now < 2 ^ 32 }
         ensures number { result ≡ number_in self.now name.now.items }
         ensures distinct { AreDistinct self.now }
     {

@@ -19,6 +19,7 @@ fn a_known_name_keeps_its_number(rt: HostRuntime) -> Result<(), Fail> {
     assert_eq!(rt; names.intern(&b)?, 1);
     assert_eq!(rt; names.intern(&a)?, 0);
     assert_eq!(rt; names.find(&b), Some(1));
+    assert_eq!(rt; names.len(), 2);
     assert_eq!(rt; names.name(1).as_slice(), b"chip".as_slice());
     Ok(())
 }

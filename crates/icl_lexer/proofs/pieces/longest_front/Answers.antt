@@ -28,5 +28,5 @@ returns-else-not-is_dead c =
     let n = c.loop-n.n in
     let all : n + (length text - n) ≡ length text = omega (arith, c.loop-n.invariant.within) in
     c.loop-n.invariant.front
-    ∙ sym (no_longer text n (length text - n) (λ bs. sym (c.loop-n.invariant.stands bs) ∙ c.is_dead.ensures c.if-not-is_dead.false bs))
+    ∙ sym (no_longer text n (length text - n) (λ bs. sym (c.loop-n.invariant.stands bs) ∙ c.is_dead.ensures.only c.if-not-is_dead.false bs))
     ∙ ap (longest_front text) all
