@@ -1,0 +1,4 @@
+pub mod Numbering
+pub mod Numbers
+pub mod Answers
+pub mod Examples

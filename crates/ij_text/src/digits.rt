@@ -1,0 +1,160 @@
+// Digits and their values.
+ghost use Rattle.std.specs.Prelude.{◌≡◌, ◌+◌, ◌*◌, ◌^◌, ◌<◌, ◌≤◌, ◌++◌, ◌∷◌, [], cond, true, length, map, Some, None, nat_lt, IfOk, OnOk, MatchOption, ◌==◌, ◌/◌, ◌%◌};
+ghost use Rattle.ij_text.specs.Numbers.{are_digits, decimal_from, digit_bits, go_on, hex_value, is_digit, next_decimal, text_bits};
+
+use crate::open_bits::OpenBits;
+use ij_bits::OutOfMemory;
+use std::alloc::Global;
+
+/// The radix of a number.
+#[derive(Clone, Copy)]
+pub(crate) enum Radix {
+    Ten,
+    Two,
+    Sixteen,
+}
+
+/// Whether a byte is a digit.
+fn is_digit(radix: Radix, b: u8) -> bool
+    ensures { result ≡ is_digit radix b }
+{
+    match radix {
+        Radix::Ten => b.is_ascii_digit(),
+        Radix::Two => b == b'0' || b == b'1' || b == b'x',
+        Radix::Sixteen => b.is_ascii_hexdigit() || b == b'x',
+    }
+}
+
+/// Whether these bytes, behind a digit, are digits and `_`, the last a digit.
+fn go_on(radix: Radix, bytes: &[u8]) -> bool
+    ensures { result ≡ go_on radix true bytes.now }
+{
+    let mut behind_digit = true;
+    for b in bytes {
+        if is_digit(radix, *b) {
+            behind_digit = true;
+        } else if *b == b'_' {
+            behind_digit = false;
+        } else {
+            return false;
+        }
+    }
+    behind_digit
+}
+
+/// Whether a text is digits, with any number of `_` between two of them.
+pub(crate) fn are_digits(radix: Radix, text: &[u8]) -> bool
+    ensures { result ≡ are_digits radix text.now }
+{
+    match text {
+        [b, bytes @ ..] => is_digit(radix, *b) && go_on(radix, bytes),
+        [] => false,
+    }
+}
+
+/// The decimal with one more digit, if it is below 2^128.
+fn next_decimal(n: u128, b: u8) -> Option<u128>
+    ensures { MatchOption result (2 ^ 128 ≤ next_decimal n b) (λ m. m ≡ next_decimal n b) }
+{
+    if b == b'_' {
+        return Some(n);
+    }
+    n.checked_mul(10)?
+        .checked_add(u128::from(b.saturating_sub(b'0')))
+}
+
+/// The value of a decimal, if it is below 2^128.
+pub(crate) fn decimal(text: &[u8]) -> Option<u128>
+    ensures { MatchOption result (2 ^ 128 ≤ decimal_from 0 text.now) (λ n. n ≡ decimal_from 0 text.now) }
+{
+    let mut n = 0;
+    for b in text {
+        n = next_decimal(n, *b)?;
+    }
+    Some(n)
+}
+
+fn hex_value(b: u8) -> u8
+    ensures { result ≡ hex_value b }
+{
+    if b < b':' {
+        b.saturating_sub(b'0')
+    } else if b < b'G' {
+        b - 55
+    } else {
+        b.saturating_sub(87)
+    }
+}
+
+/// The lowest bit of a digit's value, or of what is left of it, if it isn't open.
+fn lowest(is_open: bool, value: u8) -> Option<bool>
+    ensures { result ≡ cond is_open None (Some (value % 2 == 1)) }
+{
+    if is_open { None } else { Some(value % 2 == 1) }
+}
+
+/// Adds the bits of a hexadecimal digit.
+fn put_hex(bits: &mut OpenBits, b: u8) -> Result<(), OutOfMemory>
+    requires { length bits.old + 4 < 2 ^ 32 }
+    ensures { OnOk result (bits.new ≡ bits.old ++ digit_bits Radix.Sixteen b) }
+{
+    let is_open = b == b'x';
+    let value = hex_value(b);
+    bits.push(lowest(is_open, value))?;
+    bits.push(lowest(is_open, value / 2))?;
+    bits.push(lowest(is_open, value / 2 / 2))?;
+    bits.push(lowest(is_open, value / 2 / 2 / 2))
+}
+
+/// Adds the bits of a digit.
+fn put_digit(bits: &mut OpenBits, radix: Radix, b: u8) -> Result<(), OutOfMemory>
+    requires { length bits.old + 4 < 2 ^ 32 }
+    ensures { OnOk result (bits.new ≡ bits.old ++ cond (b == 95) [] (digit_bits radix b)) }
+{
+    if b == b'_' {
+        return Ok(());
+    }
+    match radix {
+        Radix::Ten => Ok(()),
+        Radix::Two => bits.push(if b == b'x' { None } else { Some(b == b'1') }),
+        Radix::Sixteen => put_hex(bits, b),
+    }
+}
+
+/// How many of the bytes are digits, so no `_`.
+fn digit_count(text: &[u8]) -> usize
+    ensures two { length (text_bits Radix.Two text.now) ≡ result }
+    ensures sixteen { length (text_bits Radix.Sixteen text.now) ≡ 4 * result }
+{
+    let mut count = 0;
+    for b in text {
+        if *b != b'_' {
+            count += 1;
+        }
+    }
+    count
+}
+
+/// Whether the digits stand for more than 4096 bits.
+pub(crate) fn is_too_wide(radix: Radix, text: &[u8]) -> bool
+    ensures { result ≡ nat_lt 4096 (length (text_bits radix text.now)) }
+{
+    match radix {
+        Radix::Ten => false,
+        Radix::Two => digit_count(text) > 4096,
+        Radix::Sixteen => digit_count(text) > 1024,
+    }
+}
+
+/// The bits of a text of digits.
+pub(crate) fn text_bits(alloc: Global, radix: Radix, text: &[u8]) -> Result<OpenBits, OutOfMemory>
+    requires { length (text_bits radix text.now) ≤ 4096 }
+    ensures { IfOk result (λ bits. bits ≡ text_bits radix text.now) }
+{
+    let mut bits = OpenBits::new(alloc)?;
+    let n = text.len();
+    for i in 0..n {
+        put_digit(&mut bits, radix, text[n - 1 - i])?;
+    }
+    Ok(bits)
+}
