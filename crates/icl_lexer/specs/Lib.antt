@@ -1,0 +1,4 @@
+pub mod Pieces
+pub mod Cutting
+pub mod States
+pub mod Examples

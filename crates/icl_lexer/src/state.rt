@@ -1,0 +1,178 @@
+// Where the reading of a piece stands.
+ghost use Rattle.std.specs.Prelude.{◌≡◌, ◌==◌, ◌∷◌, [], ℕ, List, None, cond, true, false};
+ghost use Rattle.icl_lexer.specs.Pieces.{base, block, kind_of, quoted, slash};
+ghost use Rattle.icl_lexer.specs.States.{begins_other, goes_on};
+
+use crate::bytes::{
+    begins_word, in_decimal, in_digits, in_word, is_base, is_blank, is_digit_x, is_mark,
+};
+use crate::token::{Kind, TokenKind};
+
+/// What was read of a piece.
+#[derive(Clone, Copy)]
+pub(crate) enum State {
+    /// Nothing.
+    Start,
+    /// A whole piece, which no byte continues.
+    Whole(Kind),
+    Word,
+    Decimal,
+    /// The `$` of a parameter.
+    Dollar,
+    Parameter,
+    /// A sized number up to its `'`.
+    Apostrophe,
+    /// A sized number up to its base.
+    Base,
+    /// A sized number, up to one of its digits.
+    Digits,
+    /// Quoted text, whose end is to come.
+    Quoted,
+    /// Quoted text, up to a backslash that takes the next byte.
+    Backslash,
+    /// A `/`.
+    Slash,
+    /// A comment that begins with `//`.
+    Line,
+    /// A comment that begins with `/*`, whose end is to come.
+    Block,
+    /// The same, and its last byte is a `*`.
+    Star,
+    /// What is no piece, and no byte makes it one.
+    Dead,
+}
+
+/// The state where the test holds, and else none that leads to a piece.
+fn only_if(test: bool, state: State) -> State
+    ensures { (bs : List ℕ) → goes_on result bs ≡ cond test (goes_on state bs) None }
+{
+    if test { state } else { State::Dead }
+}
+
+/// The state behind the first byte of a piece.
+fn begin(b: u8) -> State
+    ensures { (bs : List ℕ) → goes_on result bs ≡ kind_of (b ∷ bs) }
+{
+    if is_blank(b) {
+        State::Whole(Kind::Gap)
+    } else if begins_word(b) {
+        State::Word
+    } else if b.is_ascii_digit() {
+        State::Decimal
+    } else {
+        begin_other(b)
+    }
+}
+
+/// The same, where the byte begins no gap, word or decimal.
+fn begin_other(b: u8) -> State
+    ensures { (bs : List ℕ) → goes_on result bs ≡ begins_other b bs }
+{
+    match b {
+        b'$' => State::Dollar,
+        b'\'' => State::Apostrophe,
+        b'"' => State::Quoted,
+        b'/' => State::Slash,
+        _ => only_if(is_mark(b), State::Whole(Kind::Is(TokenKind::Mark))),
+    }
+}
+
+/// The state behind a byte that may go on a decimal or a parameter.
+fn go_on_size(in_class: bool, state: State, b: u8) -> State
+    ensures { (bs : List ℕ) → goes_on result bs ≡ cond in_class (goes_on state bs) (cond (b == 39) (base bs) None) }
+{
+    if in_class {
+        state
+    } else {
+        only_if(b == b'\'', State::Apostrophe)
+    }
+}
+
+/// The state behind a byte of quoted text.
+fn go_on_text(b: u8) -> State
+    ensures { (bs : List ℕ) → goes_on result bs ≡ quoted false (b ∷ bs) }
+{
+    match b {
+        b'"' => State::Whole(Kind::Is(TokenKind::Quoted)),
+        b'\\' => State::Backslash,
+        _ => State::Quoted,
+    }
+}
+
+/// The state behind the byte behind a `/`.
+fn go_on_slash(b: u8) -> State
+    ensures { (bs : List ℕ) → goes_on result bs ≡ slash (b ∷ bs) }
+{
+    match b {
+        b'/' => State::Line,
+        b'*' => State::Block,
+        _ => State::Dead,
+    }
+}
+
+/// The state behind a byte of a comment that doesn't end it.
+fn go_on_block(b: u8) -> State
+    ensures { (bs : List ℕ) → goes_on result bs ≡ block (b == 42) bs }
+{
+    if b == b'*' { State::Star } else { State::Block }
+}
+
+/// The state behind a byte of a comment behind a `*` of it.
+fn go_on_star(b: u8) -> State
+    ensures { (bs : List ℕ) → goes_on result bs ≡ block true (b ∷ bs) }
+{
+    if b == b'/' {
+        State::Whole(Kind::Gap)
+    } else {
+        go_on_block(b)
+    }
+}
+
+impl State {
+    /// The state behind one more byte.
+    pub fn next(self, b: u8) -> State
+        ensures { (bs : List ℕ) → goes_on result bs ≡ goes_on self (b ∷ bs) }
+    {
+        match self {
+            State::Start => begin(b),
+            State::Word => only_if(in_word(b), State::Word),
+            State::Decimal => go_on_size(in_decimal(b), State::Decimal, b),
+            State::Dollar => only_if(begins_word(b), State::Parameter),
+            State::Parameter => go_on_size(in_word(b), State::Parameter, b),
+            State::Apostrophe => only_if(is_base(b), State::Base),
+            State::Base => only_if(is_digit_x(b), State::Digits),
+            State::Digits => only_if(in_digits(b), State::Digits),
+            State::Quoted => go_on_text(b),
+            State::Backslash => State::Quoted,
+            State::Slash => go_on_slash(b),
+            State::Line => only_if(b != b'\n', State::Line),
+            State::Block => go_on_block(b),
+            State::Star => go_on_star(b),
+            State::Whole(_) => State::Dead,
+            State::Dead => State::Dead,
+        }
+    }
+
+    /// What was read, if it is a piece.
+    pub fn kind(self) -> Option<Kind>
+        ensures { result ≡ goes_on self [] }
+    {
+        match self {
+            State::Whole(kind) => Some(kind),
+            State::Word => Some(Kind::Is(TokenKind::Word)),
+            State::Decimal => Some(Kind::Is(TokenKind::Decimal)),
+            State::Parameter => Some(Kind::Is(TokenKind::Param)),
+            State::Digits => Some(Kind::Is(TokenKind::Sized)),
+            State::Slash => Some(Kind::Is(TokenKind::Mark)),
+            State::Line => Some(Kind::Gap),
+            _ => None,
+        }
+    }
+
+    /// Whether no byte leads to a piece.
+    pub fn is_dead(self) -> bool
+        ensures { result ≡ true → (bs : List ℕ) → goes_on self bs ≡ None }
+    {
+        matches!(self, State::Dead)
+    }
+}
