@@ -1,5 +1,5 @@
 -- The grammar of expressions, signals and bodies (IEEE 1687-2014, as far as it is read here): one definition for each production.
-use Rattle.std.specs.Prelude.{ℕ, zero, suc, ◌-◌, Bool, true, false, ◌&&◌, not, cond, List, [], ◌∷◌, ◌++◌, length, drop, slice_range, Option, Some, None}
+use Rattle.std.specs.Prelude.{ℕ, zero, suc, ◌+◌, ◌-◌, Bool, true, false, ◌&&◌, not, cond, List, [], ◌∷◌, ◌++◌, length, drop, slice_range, Option, Some, None}
 use Rattle.grammar.specs.Symbol.{Symbol, one, give, none, barred, ◌>>=◌, ◌<|>◌, repeat}
 use Rattle.ij_text.specs.declared.Place.{Place}
 use Rattle.icl_lexer.specs.declared.token.TokenKind.{TokenKind}
@@ -51,37 +51,22 @@ number_of Word at text = None
 number_of Quoted at text = None
 number_of Mark at text = None
 
--- a number that may have operators beside it, or a text
-abbrev pub plain_of : TokenKind → Place → List ℕ → Option Formula
-plain_of Decimal at text = as_decimal (decimal_of text)
-plain_of Param at text = Some (AParam at (drop 1 text))
-plain_of Quoted at text = Some (AQuoted (slice_range text 1 (length text - 1)))
-plain_of Sized at text = None
-plain_of Word at text = None
-plain_of Mark at text = None
-
 abbrev pub with_count : ℕ → Option Formula → Option Counted
 with_count used None = None
 with_count used (Some f) = Some (record { formula = f; used = used; lone = false })
 
-abbrev pub sized_of : ℕ → TokenKind → List ℕ → Option Counted
-sized_of used Sized text = Some (record { formula = ASized text; used = used; lone = true })
-sized_of used Decimal text = None
-sized_of used Param text = None
-sized_of used Quoted text = None
-sized_of used Word text = None
-sized_of used Mark text = None
+-- a number or a text; a sized number only where nothing stands before it in its innermost expression
+abbrev pub leaf_of : Bool → ℕ → TokenKind → Place → List ℕ → Option Counted
+leaf_of alone used Decimal at text = with_count used (as_decimal (decimal_of text))
+leaf_of alone used Param at text = Some (record { formula = AParam at (drop 1 text); used = used; lone = false })
+leaf_of alone used Quoted at text = Some (record { formula = AQuoted (slice_range text 1 (length text - 1)); used = used; lone = false })
+leaf_of true used Sized at text = Some (record { formula = ASized text; used = used; lone = true })
+leaf_of false used Sized at text = None
+leaf_of alone used Word at text = None
+leaf_of alone used Mark at text = None
 
-abbrev pub plain_at : ℕ → Tok → Option Counted
-plain_at used t = with_count used (plain_of t.kind t.at t.text)
-
-abbrev pub sized_at : ℕ → Tok → Option Counted
-sized_at used t = sized_of used t.kind t.text
-
--- where nothing stands before it in its innermost expression, a sized number, too
-abbrev pub leaf : Bool → ℕ → Of Counted
-leaf true used = one (plain_at used) <|> one (sized_at used)
-leaf false used = one (plain_at used)
+abbrev pub leaf_at : Bool → ℕ → Tok → Option Counted
+leaf_at alone used t = leaf_of alone used t.kind t.at t.text
 
 -- an operator at its place
 pub record Signed : Type 0 where
@@ -118,7 +103,7 @@ with_operand a o = record { formula = AnOp o.sign.at o.sign.sign a.formula o.rig
 abbrev pub operand : (ℕ → Of Counted) → (Tok → Option Signed) → Counted → Of Operand
 operand part sign a = do
   s ← operator (256 - a.used) a.lone sign
-  b ← part (suc a.used)
+  b ← part (a.used + 1)
   give (record { sign = s; right = b })
 
 -- a first part, and then any number of operators and parts, from the left; at most 256 operators in all
@@ -139,10 +124,10 @@ too_deep t = cond (is_mark 40 t) (Some OfExpression) None
 
 -- a factor with at most `depth` levels of parentheses, where a sized number may stand or not
 unfoldable pub factor : ℕ → Bool → ℕ → Of Counted
-factor zero alone used = leaf alone used <|> barred too_deep
+factor zero alone used = barred too_deep <|> one (leaf_at alone used)
 factor (suc depth) alone used =
-    leaf alone used
-    <|> in_parentheses (chain (chain (factor depth true) (factor depth false) product_sign) (chain (factor depth false) (factor depth false) product_sign) sum_sign) used
+    in_parentheses (chain (chain (factor depth true) (factor depth false) product_sign) (chain (factor depth false) (factor depth false) product_sign) sum_sign) used
+    <|> one (leaf_at alone used)
 
 abbrev pub term : ℕ → Bool → ℕ → Of Counted
 term depth alone used = chain (factor depth alone) (factor depth false) product_sign used
