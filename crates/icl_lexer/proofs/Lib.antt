@@ -1,0 +1,4 @@
+pub mod Fronts
+pub mod Cuts
+pub mod Unique
+pub mod Total

@@ -1,5 +1,5 @@
 -- How an ICL text is cut into pieces, its tokens and the gaps between them (IEEE 1687-2014).
-use Rattle.std.specs.Prelude.{◌≡◌, ◌≢◌, ℕ, suc, ◌+◌, ◌<◌, ◌≤◌, ◌==◌, Bool, true, false, ◌&&◌, ◌||◌, cond, List, [], ◌∷◌, ◌++◌, length, take, Option, Some, None}
+use Rattle.std.specs.Prelude.{◌≡◌, ◌≢◌, ℕ, suc, ◌+◌, ◌<◌, ◌≤◌, ◌==◌, Bool, true, false, ◌&&◌, ◌||◌, cond, List, [], ◌∷◌, ◌++◌, length, take, Some, None}
 use Rattle.ij_text.specs.declared.Place.{Place}
 use Rattle.icl_lexer.specs.declared.token.Token.{Token}
 use Rattle.icl_lexer.specs.declared.token.Kind.{Kind}
@@ -79,6 +79,9 @@ abbrev pub tokens_from : ℕ → Place → List Piece → List Token
 tokens_from start at [] = []
 tokens_from start at (p ∷ ps) =
     token_of p.kind at start (start + length p.bytes) ++ tokens_from (start + length p.bytes) (place_behind at p.bytes) ps
+
+abbrev pub Tokens : Type 0
+Tokens = List Token
 
 -- the tokens of a whole text
 abbrev pub AreTokens : List ℕ → List Token → Type 0

@@ -3,8 +3,15 @@
 
 mod bytes;
 mod fault;
+mod laws;
+mod lexing;
+mod pieces;
 mod state;
+#[cfg(test)]
+mod tests;
 mod token;
 
 pub use fault::LexFault;
+pub use laws::{cuttings_are_one, texts_are_cut_or_at_fault, tokens_are_in_the_text};
+pub use lexing::lex;
 pub use token::{Kind, Token, TokenKind};
