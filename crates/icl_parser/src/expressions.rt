@@ -9,7 +9,9 @@ ghost use Rattle.icl_parser.specs.Reading.{read_put, read_operand, read_factor, 
 use crate::fault::Stop;
 use crate::leaves::read_leaf;
 use crate::lexeme::{Lexeme, Read, begins_mark, read_mark};
-use crate::signs::{SignAt, begins_product_sign, begins_sum_sign, read_product_sign, read_sum_sign};
+use crate::signs::{
+    SignAt, begins_product_sign, begins_sum_sign, read_product_sign, read_sum_sign,
+};
 use icl_syntax::{Expr, Limit};
 use std::alloc::Global;
 
@@ -183,10 +185,7 @@ fn joined<'a>(
 
 /// An expression: at most 64 levels of parentheses and 256 operators.
 #[tactic(auto, unfolding(crate::specs::Reading::read_expr))]
-pub(crate) fn read_expr<'a>(
-    alloc: Global,
-    tokens: &'a [Lexeme<'a>],
-) -> Result<Read<'a, Expr>, Stop>
+pub(crate) fn read_expr<'a>(alloc: Global, tokens: &'a [Lexeme<'a>]) -> Result<Read<'a, Expr>, Stop>
     ensures shorter { IfOk result (λ r. length r.rest.now < length tokens.now) }
     ensures gives { Gives (seen_read seen_expr) result (read_expr (toks tokens.now)) }
 {

@@ -10,7 +10,9 @@ ghost use Rattle.icl_parser.specs.Reading.{begins, is_some_at, read_put, read_af
 use crate::bodies::{read_attribute_said, read_body};
 use crate::fault::Stop;
 use crate::lexeme::{Lexeme, Read, before_close, begins_mark, read_mark, read_name, read_word};
-use crate::signals::{maybe_expr_behind, maybe_range, read_expr_behind, read_sig, read_sigs, read_value};
+use crate::signals::{
+    maybe_expr_behind, maybe_range, read_expr_behind, read_sig, read_sigs, read_value,
+};
 use crate::words::bind_word;
 use icl_syntax::{Bind, BindWord, Expr, MuxRow, Owner, PortKind, Range, What};
 use ij_bits::List;
@@ -187,7 +189,10 @@ fn read_values<'a>(
     while begins_mark(rest, b'|') {
         rest = put_next_value(alloc, rest, &mut values)?;
     }
-    Ok(Read { value: values, rest })
+    Ok(Read {
+        value: values,
+        rest,
+    })
 }
 
 /// A row of a multiplexer.
@@ -223,10 +228,7 @@ fn put_row<'a>(
 }
 
 /// One row or more, up to a `}`.
-fn read_rows<'a>(
-    alloc: Global,
-    tokens: &'a [Lexeme<'a>],
-) -> Result<Read<'a, List<MuxRow>>, Stop>
+fn read_rows<'a>(alloc: Global, tokens: &'a [Lexeme<'a>]) -> Result<Read<'a, List<MuxRow>>, Stop>
     ensures shorter { IfOk result (λ r. length r.rest.now < length tokens.now) }
 {
     let mut rows = List::new(alloc);
@@ -238,10 +240,7 @@ fn read_rows<'a>(
 }
 
 /// A multiplexer behind its name.
-pub(crate) fn read_mux<'a>(
-    alloc: Global,
-    tokens: &'a [Lexeme<'a>],
-) -> Result<Read<'a, What>, Stop>
+pub(crate) fn read_mux<'a>(alloc: Global, tokens: &'a [Lexeme<'a>]) -> Result<Read<'a, What>, Stop>
     ensures shorter { IfOk result (λ r. length r.rest.now < length tokens.now) }
     ensures gives { Gives (seen_read seen_what) result (read_mux (toks tokens.now)) }
 {
@@ -301,10 +300,7 @@ fn bound_parameter<'a>(
 }
 
 /// An attribute of an instance behind its word.
-fn bound_attribute<'a>(
-    alloc: Global,
-    tokens: &'a [Lexeme<'a>],
-) -> Result<Read<'a, Bind>, Stop> {
+fn bound_attribute<'a>(alloc: Global, tokens: &'a [Lexeme<'a>]) -> Result<Read<'a, Bind>, Stop> {
     let said = read_attribute_said(alloc, tokens)?;
     Ok(Read {
         value: Bind::Attribute {
@@ -392,10 +388,7 @@ fn read_many_binds<'a>(
     Ok(Read { value: binds, rest })
 }
 
-fn braced_binds<'a>(
-    alloc: Global,
-    tokens: &'a [Lexeme<'a>],
-) -> Result<Read<'a, List<Bind>>, Stop> {
+fn braced_binds<'a>(alloc: Global, tokens: &'a [Lexeme<'a>]) -> Result<Read<'a, List<Bind>>, Stop> {
     let open = read_mark(tokens, b'{')?;
     let binds = read_many_binds(alloc, open.rest)?;
     let close = read_mark(binds.rest, b'}')?;

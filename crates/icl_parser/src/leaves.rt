@@ -65,10 +65,7 @@ pub(crate) fn number_value(alloc: Global, t: &Lexeme) -> Result<Option<Expr>, Ou
     match t.kind {
         TokenKind::Decimal => Ok(decimal(t.text).map(Expr::Decimal)),
         TokenKind::Sized => Ok(Some(Expr::Sized(copied(alloc, t.text)?))),
-        TokenKind::Param => Ok(Some(Expr::Param(
-            t.at,
-            copied(alloc, behind_first(t.text))?,
-        ))),
+        TokenKind::Param => Ok(Some(Expr::Param(t.at, copied(alloc, behind_first(t.text))?))),
         TokenKind::Word | TokenKind::Quoted | TokenKind::Mark => Ok(None),
     }
 }

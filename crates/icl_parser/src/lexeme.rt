@@ -105,10 +105,7 @@ pub(crate) fn read_mark<'a>(tokens: &'a [Lexeme<'a>], mark: u8) -> Result<Read<'
 }
 
 /// A word that is this one, and its place.
-pub(crate) fn read_word<'a>(
-    tokens: &'a [Lexeme<'a>],
-    word: &[u8],
-) -> Result<Read<'a, Place>, Stop>
+pub(crate) fn read_word<'a>(tokens: &'a [Lexeme<'a>], word: &[u8]) -> Result<Read<'a, Place>, Stop>
     ensures shorter { IfOk result (λ r. length r.rest.now < length tokens.now) }
     ensures gives { Gives (seen_read same) result (read_word word.now (toks tokens.now)) }
 {
@@ -119,10 +116,7 @@ pub(crate) fn read_word<'a>(
 }
 
 /// Any word, a keyword included.
-pub(crate) fn read_name<'a>(
-    alloc: Global,
-    tokens: &'a [Lexeme<'a>],
-) -> Result<Read<'a, Name>, Stop>
+pub(crate) fn read_name<'a>(alloc: Global, tokens: &'a [Lexeme<'a>]) -> Result<Read<'a, Name>, Stop>
     ensures shorter { IfOk result (λ r. length r.rest.now < length tokens.now) }
     ensures gives { Gives (seen_read bytes_of) result (read_name (toks tokens.now)) }
 {

@@ -17,10 +17,7 @@ use std::alloc::Global;
 // ---- enumerations
 
 /// A word of an enumeration up to its `;`.
-fn read_enum_word<'a>(
-    alloc: Global,
-    tokens: &'a [Lexeme<'a>],
-) -> Result<Read<'a, EnumWord>, Stop>
+fn read_enum_word<'a>(alloc: Global, tokens: &'a [Lexeme<'a>]) -> Result<Read<'a, EnumWord>, Stop>
     ensures shorter { IfOk result (λ r. length r.rest.now < length tokens.now) }
 {
     let name = read_name(alloc, tokens)?;
@@ -116,10 +113,7 @@ fn member_behind<'a>(
 }
 
 /// A member of an interface up to its `;`.
-fn read_member<'a>(
-    alloc: Global,
-    tokens: &'a [Lexeme<'a>],
-) -> Result<Read<'a, Option<Name>>, Stop>
+fn read_member<'a>(alloc: Global, tokens: &'a [Lexeme<'a>]) -> Result<Read<'a, Option<Name>>, Stop>
     ensures shorter { IfOk result (λ r. length r.rest.now < length tokens.now) }
 {
     let word = read_member_word(tokens)?;
@@ -152,10 +146,7 @@ fn put_member<'a>(
 }
 
 /// Members of an interface up to a `}`.
-fn read_members<'a>(
-    alloc: Global,
-    tokens: &'a [Lexeme<'a>],
-) -> Result<Read<'a, List<Name>>, Stop>
+fn read_members<'a>(alloc: Global, tokens: &'a [Lexeme<'a>]) -> Result<Read<'a, List<Name>>, Stop>
     ensures shorter { IfOk result (λ r. length r.rest.now ≤ length tokens.now) }
 {
     let mut names = List::new(alloc);
@@ -191,10 +182,7 @@ pub(crate) struct Selected {
     pub interface: Name,
 }
 
-fn read_selected<'a>(
-    alloc: Global,
-    tokens: &'a [Lexeme<'a>],
-) -> Result<Read<'a, Selected>, Stop>
+fn read_selected<'a>(alloc: Global, tokens: &'a [Lexeme<'a>]) -> Result<Read<'a, Selected>, Stop>
     ensures shorter { IfOk result (λ r. length r.rest.now < length tokens.now) }
 {
     let cell = read_name(alloc, tokens)?;
@@ -211,10 +199,7 @@ fn read_selected<'a>(
 }
 
 /// The `ScanInterface` of an instruction.
-fn read_selecting<'a>(
-    alloc: Global,
-    tokens: &'a [Lexeme<'a>],
-) -> Result<Read<'a, Selected>, Stop>
+fn read_selecting<'a>(alloc: Global, tokens: &'a [Lexeme<'a>]) -> Result<Read<'a, Selected>, Stop>
     ensures shorter { IfOk result (λ r. length r.rest.now < length tokens.now) }
 {
     let word = read_word(tokens, b"ScanInterface")?;
@@ -302,10 +287,7 @@ fn read_link_kind<'a>(tokens: &'a [Lexeme<'a>]) -> Result<Read<'a, LinkKind>, St
 }
 
 /// An access link behind its name.
-pub(crate) fn read_link<'a>(
-    alloc: Global,
-    tokens: &'a [Lexeme<'a>],
-) -> Result<Read<'a, What>, Stop>
+pub(crate) fn read_link<'a>(alloc: Global, tokens: &'a [Lexeme<'a>]) -> Result<Read<'a, What>, Stop>
     ensures shorter { IfOk result (λ r. length r.rest.now < length tokens.now) }
 {
     let of = read_word(tokens, b"Of")?;

@@ -87,10 +87,7 @@ fn put_item<'a>(
 }
 
 /// Items up to a `}`.
-fn read_items<'a>(
-    alloc: Global,
-    tokens: &'a [Lexeme<'a>],
-) -> Result<Read<'a, List<Item>>, Stop>
+fn read_items<'a>(alloc: Global, tokens: &'a [Lexeme<'a>]) -> Result<Read<'a, List<Item>>, Stop>
     ensures shorter { IfOk result (λ r. length r.rest.now ≤ length tokens.now) }
 {
     let mut items = List::new(alloc);

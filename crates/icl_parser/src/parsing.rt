@@ -3,14 +3,14 @@ ghost use Rattle.std.specs.Prelude.{◌≡◌, ◌<◌, ◌≤◌, [], IfOk, len
 ghost use Rattle.icl_syntax.specs.Tokens.{toks_of};
 ghost use Rattle.icl_parser.specs.Seen.{toks, tok, Gives};
 
+use crate::ends::end_of;
 use crate::fault::{ParseFault, Stop};
 use crate::lexeme::{Lexeme, copied};
 use crate::modules::read_design;
 use crate::words::is_left_out;
-use icl_lexer::{Token, TokenKind, place_behind};
+use icl_lexer::Token;
 use icl_syntax::{Design, Limit};
 use ij_bits::{List, OutOfMemory};
-use ij_text::Place;
 use std::alloc::Global;
 
 /// The tokens with their texts.
@@ -54,7 +54,7 @@ fn fault(
     why: Option<Limit>,
 ) -> Result<ParseFault, OutOfMemory> {
     if left == 0 {
-        let at = place_behind(Place { line: 1, col: 1 }, src);
+        let at = end_of(src);
         return Ok(ParseFault::Syntax { at });
     }
     fault_at(alloc, &lexemes[lexemes.len() - left], why)
