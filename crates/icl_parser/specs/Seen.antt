@@ -1,6 +1,5 @@
 -- What the functions of the parser take and give, without where it lies in memory.
 use Rattle.std.specs.Prelude.{◌≡◌, ℕ, Bool, List, [], ◌∷◌, map, Option, Some, None, Result, Ok, Err}
-use Rattle.std.specs.Option.{option_map}
 use Rattle.std.proofs.Common.{Bor}
 use Rattle.grammar.specs.Reading.{Stop as Unfit, Reader}
 use Rattle.icl_syntax.specs.declared.words.Limit.{Limit}

@@ -1,5 +1,5 @@
 // Expressions.
-ghost use Rattle.std.specs.Prelude.{◌≡◌, ◌≤◌, ◌<◌, ◌+◌, ◌×◌, true, false, IfOk, length};
+ghost use Rattle.std.specs.Prelude.{◌≡◌, ◌≤◌, ◌<◌, ◌+◌, true, false, IfOk, length};
 ghost use Rattle.grammar.specs.Reading.{read_barred};
 ghost use Rattle.icl_syntax.specs.Grammar.{too_deep, sum_sign, product_sign, with_operand};
 ghost use Rattle.icl_syntax.specs.Views.{seen_expr};
@@ -38,6 +38,7 @@ fn too_deep<'a>(tokens: &'a [Lexeme<'a>]) -> Result<Read<'a, Counting>, Stop>
 
 /// A token, or an expression in at most `depth` levels of parentheses.
 #[cycle(expressions)]
+#[tactic(auto, using(crate::proofs::Factors::factor_steps))]
 fn factor<'a>(
     alloc: Global,
     tokens: &'a [Lexeme<'a>],
@@ -108,6 +109,7 @@ fn product<'a>(
 
 /// What stands on the left, with the next operator and factor.
 #[cycle(expressions)]
+#[tactic(auto, unfolding(crate::specs::Reading::read_operand))]
 fn with_factor<'a>(
     alloc: Global,
     left: Read<'a, Counting>,
@@ -145,6 +147,7 @@ fn sum<'a>(
 
 /// What stands on the left, with the next operator and product.
 #[cycle(expressions)]
+#[tactic(auto, unfolding(crate::specs::Reading::read_operand))]
 fn with_product<'a>(
     alloc: Global,
     left: Read<'a, Counting>,
@@ -171,15 +174,17 @@ fn joined<'a>(
     ensures rest { IfOk result (λ r. length r.rest.now ≡ length right.entry.rest.now) }
     ensures gives { Gives (seen_read seen_counting) result (joined (seen_counting left) (seen_sign sign) (seen_counting right.entry.value) (toks right.entry.rest.now)) }
 {
+    let rest = right.rest;
+    let right = right.value;
     let a = Box::new(alloc, left.expr)?;
-    let b = Box::new(alloc, right.value.expr)?;
+    let b = Box::new(alloc, right.expr)?;
     Ok(Read {
         value: Counting {
             expr: Expr::Op(sign.at, sign.sign, a, b),
-            used: right.value.used,
+            used: right.used,
             lone: false,
         },
-        rest: right.rest,
+        rest,
     })
 }
 
