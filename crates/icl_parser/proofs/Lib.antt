@@ -4,3 +4,6 @@ pub mod Steps
 pub mod Factors
 pub mod Symbols
 pub mod Chains
+pub mod Lists
+pub mod SignalLaws
+pub mod SignalLoops

@@ -147,8 +147,11 @@ read_number = read_one number_at
 unfoldable pub read_path_behind : List ℕ → Reading (List (List ℕ))
 read_path_behind first = read_repeat (is_mark 46) (λ (ns : List (List ℕ)). read_after 46 read_name) appended (first ∷ [])
 
+unfoldable pub read_named_behind : Named → Reading Located
+read_named_behind first = read_in_turn (read_path_behind first.name) (λ path. read_in_turn (read_maybe 91 read_range) (λ r. gives (record { at = first.at; what = APath path r })))
+
 unfoldable pub read_named_sig : Reading Located
-read_named_sig = read_in_turn (read_one named_at) (λ first. read_in_turn (read_path_behind first.name) (λ path. read_in_turn (read_maybe 91 read_range) (λ r. gives (record { at = first.at; what = APath path r }))))
+read_named_sig = read_in_turn (read_one named_at) read_named_behind
 
 abbrev pub read_plain_sig : Reading Located
 read_plain_sig = read_either is_name read_named_sig read_number

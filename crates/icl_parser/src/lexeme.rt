@@ -1,5 +1,5 @@
 // Tokens with their texts, and reading one of them.
-ghost use Rattle.std.specs.Prelude.{◌≡◌, ◌<◌, ◌≤◌, ℕ, false, length, IfOk, drop, slice_range, Option, Some, None, map};
+ghost use Rattle.std.specs.Prelude.{◌≡◌, ◌<◌, ◌≤◌, ℕ, false, length, IfOk, ◌++◌, ◌∷◌, []};
 ghost use Rattle.icl_lexer.specs.declared.token.TokenKind.{TokenKind};
 ghost use Rattle.icl_syntax.specs.Tokens.{is_mark, is_word, is_left_out, name_at, if_word, word_at, mark_at};
 ghost use Rattle.icl_syntax.specs.Views.{bytes_of};
@@ -61,6 +61,22 @@ pub(crate) fn copied(alloc: Global, bytes: &[u8]) -> Result<Text, OutOfMemory>
     ensures { IfOk result (λ text. text.items ≡ bytes.now) }
 {
     Ok(List::from(Vec::from_slice(alloc, bytes)?))
+}
+
+/// A list, with a value at its end, and the tokens behind the value.
+pub(crate) fn pushed<'a, X: Drop>(
+    list: List<X>,
+    read: Read<'a, X>,
+) -> Result<Read<'a, List<X>>, OutOfMemory>
+    ensures items { IfOk result (λ r. r.value.items ≡ list.items ++ read.entry.value ∷ []) }
+    ensures rest { IfOk result (λ r. r.rest.now ≡ read.entry.rest.now) }
+{
+    let mut list = list;
+    list.push(read.value)?;
+    Ok(Read {
+        value: list,
+        rest: read.rest,
+    })
 }
 
 /// Whether a mark is the next token.

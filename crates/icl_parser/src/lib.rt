@@ -6,6 +6,7 @@ mod expressions;
 mod fault;
 mod leaves;
 mod lexeme;
+mod signals;
 mod signs;
 mod words;
 

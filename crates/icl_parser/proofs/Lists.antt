@@ -1,0 +1,51 @@
+-- The loops that read lists of parts.
+use Rattle.std.proofs.Common.{◌≡◌, ℕ, Bool, true, false, List, [], ◌∷◌, ◌++◌, map, Option, Result, Ok, refl}
+use Rattle.std.specs.Prelude.{◌||◌}
+use Rattle.grammar.specs.Symbol.{◌>>=◌, repeat}
+use Rattle.grammar.specs.Reading.{Stop as Unfit, read_repeat, read_on, read_in_turn}
+use Rattle.grammar.proofs.Laws.{Reads, repeat_reads, wider_reads}
+use Rattle.icl_syntax.specs.declared.words.Limit.{Limit}
+use Rattle.icl_syntax.specs.Tokens.{Tok, is_mark}
+use Rattle.icl_syntax.specs.Grammar.{Of, mark, appended, parted}
+use Rattle.icl_parser.specs.declared.fault.Stop.{Stop}
+use Rattle.icl_parser.specs.Seen.{Fails}
+use Rattle.icl_parser.specs.Reading.{Reading, begins, gives, no_close, read_put, read_after, read_parted}
+use Rattle.icl_parser.proofs.Tokens.{nothing, marks, both_false, left_false, right_false}
+use Rattle.icl_parser.proofs.Symbols.{then_reads, mark_reads}
+use Rattle.icl_parser.proofs.Steps.{Outcome, start, start_fails, go_on, round_fails, ends}
+
+-- ---- parts with a mark between them
+
+-- what is read behind some of them
+abbrev pub more_parted : {A : Type 0} → ℕ → Reading A → List A → List Tok → Outcome (List A)
+more_parted {A} c r xs ts = read_repeat (is_mark c) (λ (ys : List A). read_after c r) appended xs ts
+
+-- the first part, and where the others begin
+pub begun : {A : Type 0} (c : ℕ) (r : Reading A) (a : A) (xs : List A) (ts us : List Tok) (whole : Outcome (List A)) → xs ≡ a ∷ [] → us ≡ ts → more_parted c r (a ∷ []) ts ≡ whole → more_parted c r xs us ≡ whole
+begun c r a xs ts us whole e f h = rw (e, f) h
+
+-- a list of one part
+pub listed : {X A : Type 0} (view : X → A) (none all : List X) (x : X) → none ≡ [] → all ≡ none ++ x ∷ [] → map view all ≡ view x ∷ []
+listed view none all x e f = rw (f, e) refl
+
+pub after_reads : {A : Type 0} (c : ℕ) {S : Of A} {first more : Tok → Bool} {r : Reading A} → Reads S first more false r → Reads (mark c >>= λ m. S) (is_mark c) more false (read_after c r)
+after_reads {A} c {S} {first} {more} {r} law = then_reads (λ m. S) first more false (λ m. r) (mark_reads c) (λ m. law) (λ t h. refl)
+
+module _ {A : Type 0} (c : ℕ) {S : Of A} {first more : Tok → Bool} {r : Reading A} (law : Reads S first more false r) (apart : (t : Tok) → is_mark c t ≡ true → more t ≡ false) where
+  pub parted_go_on : (xs : List A) (ts : List Tok) (x : List A × List Tok) → begins (is_mark c) ts ≡ true → read_put (read_after c r) appended xs ts ≡ Ok x → more_parted c r x.0 x.1 ≡ more_parted c r xs ts
+  parted_go_on = go_on (λ (ys : List A). mark c >>= λ m. S) appended (is_mark c) more (λ ys. read_after c r) (λ ys. after_reads c law) apart
+
+  pub parted_fails : (xs : List A) (ts : List Tok) (stop : Stop) → begins (is_mark c) ts ≡ true → Fails stop (read_put (read_after c r) appended xs ts) → Fails stop (more_parted c r xs ts)
+  parted_fails = round_fails (λ (ys : List A). mark c >>= λ m. S) appended (is_mark c) more (λ ys. read_after c r) (λ ys. after_reads c law) apart
+
+  pub parted_ends : (xs : List A) (ts : List Tok) → begins (is_mark c) ts ≡ false → more_parted c r xs ts ≡ Ok (xs, ts)
+  parted_ends = ends (λ (ys : List A). mark c >>= λ m. S) appended (is_mark c) more (λ ys. read_after c r) (λ ys. after_reads c law) apart
+
+  pub more_parted_reads : (xs : List A) → Reads (repeat (λ (ys : List A). mark c >>= λ m. S) appended xs) (is_mark c) (λ t. is_mark c t || more t) true (more_parted c r xs)
+  more_parted_reads = repeat_reads (λ (ys : List A). mark c >>= λ m. S) appended (is_mark c) more (λ ys. read_after c r) (λ ys. after_reads c law) apart
+
+  pub parted_reads : Reads (parted c S) first (λ t. is_mark c t || more t) false (read_parted c r)
+  parted_reads =
+      wider_reads
+      (then_reads (λ a. repeat (λ (xs : List A). mark c >>= λ m. S) appended (a ∷ [])) (is_mark c) (λ t. is_mark c t || more t) true (λ a. more_parted c r (a ∷ [])) law (λ a. more_parted_reads (a ∷ [])) apart)
+      first (λ t. is_mark c t || more t) (λ t h. h) (λ t h. both_false _ _ h (right_false (is_mark c t) (more t) h))
