@@ -7,3 +7,4 @@ pub mod Chains
 pub mod Lists
 pub mod SignalLaws
 pub mod SignalLoops
+pub mod BodyLaws

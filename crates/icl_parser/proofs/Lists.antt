@@ -1,17 +1,17 @@
 -- The loops that read lists of parts.
 use Rattle.std.proofs.Common.{◌≡◌, ℕ, Bool, true, false, List, [], ◌∷◌, ◌++◌, map, Option, Result, Ok, refl}
 use Rattle.std.specs.Prelude.{◌||◌}
-use Rattle.grammar.specs.Symbol.{◌>>=◌, repeat}
+use Rattle.grammar.specs.Symbol.{give, ◌>>=◌, repeat}
 use Rattle.grammar.specs.Reading.{Stop as Unfit, read_repeat, read_on, read_in_turn}
-use Rattle.grammar.proofs.Laws.{Reads, repeat_reads, wider_reads}
+use Rattle.grammar.proofs.Laws.{Reads, turn_reads, repeat_reads, wider_reads}
 use Rattle.icl_syntax.specs.declared.words.Limit.{Limit}
 use Rattle.icl_syntax.specs.Tokens.{Tok, is_mark}
-use Rattle.icl_syntax.specs.Grammar.{Of, mark, appended, parted}
+use Rattle.icl_syntax.specs.Grammar.{Of, mark, appended, parted, ended_by}
 use Rattle.icl_parser.specs.declared.fault.Stop.{Stop}
 use Rattle.icl_parser.specs.Seen.{Fails}
-use Rattle.icl_parser.specs.Reading.{Reading, begins, gives, no_close, read_put, read_after, read_parted}
+use Rattle.icl_parser.specs.Reading.{Reading, begins, gives, any, no_close, read_mark, read_put, read_after, read_ended, read_parted}
 use Rattle.icl_parser.proofs.Tokens.{nothing, marks, both_false, left_false, right_false}
-use Rattle.icl_parser.proofs.Symbols.{then_reads, mark_reads}
+use Rattle.icl_parser.proofs.Symbols.{then_reads, mark_reads, made_reads}
 use Rattle.icl_parser.proofs.Steps.{Outcome, start, start_fails, go_on, round_fails, ends}
 
 -- ---- parts with a mark between them
@@ -49,3 +49,35 @@ module _ {A : Type 0} (c : ℕ) {S : Of A} {first more : Tok → Bool} {r : Read
       wider_reads
       (then_reads (λ a. repeat (λ (xs : List A). mark c >>= λ m. S) appended (a ∷ [])) (is_mark c) (λ t. is_mark c t || more t) true (λ a. more_parted c r (a ∷ [])) law (λ a. more_parted_reads (a ∷ [])) apart)
       first (λ t. is_mark c t || more t) (λ t h. h) (λ t h. both_false _ _ h (right_false (is_mark c t) (more t) h))
+
+-- ---- parts up to a `}`
+
+pub closed : (t : Tok) → is_mark 125 t ≡ true → no_close t || false ≡ false
+closed t h = rw h refl
+
+module _ {A S : Type 0} (part : S → Of A) (next : S → A → S) (r : S → Reading A) (law : (s : S) → Reads (part s) no_close nothing false (r s)) where
+  pub parts_reads : (s : S) → Reads (repeat part next s) no_close (λ t. no_close t || false) true (read_repeat no_close r next s)
+  parts_reads = repeat_reads part next no_close nothing r law (λ t h. refl)
+
+  pub parts_go_on : (s : S) (ts : List Tok) (x : S × List Tok) → begins no_close ts ≡ true → read_put (r s) next s ts ≡ Ok x → read_repeat no_close r next x.0 x.1 ≡ read_repeat no_close r next s ts
+  parts_go_on = go_on part next no_close nothing r law (λ t h. refl)
+
+  pub parts_fail : (s : S) (ts : List Tok) (stop : Stop) → begins no_close ts ≡ true → Fails stop (read_put (r s) next s ts) → Fails stop (read_repeat no_close r next s ts)
+  parts_fail = round_fails part next no_close nothing r law (λ t h. refl)
+
+  pub parts_end : (s : S) (ts : List Tok) → begins no_close ts ≡ false → read_repeat no_close r next s ts ≡ Ok (s, ts)
+  parts_end = ends part next no_close nothing r law (λ t h. refl)
+
+  -- parts, and what begins with their `}`
+  pub parts_then_reads : {B : Type 0} (s : S) (then' : S → Of B) (rt : S → Reading B) → ((s : S) → Reads (then' s) (is_mark 125) nothing false (rt s)) → Reads (repeat part next s >>= then') any nothing false (read_in_turn (read_repeat no_close r next s) rt)
+  parts_then_reads {B} s then' rt laws =
+      wider_reads
+      (turn_reads (repeat part next s) then' no_close (λ t. no_close t || false) (is_mark 125) nothing true false (read_repeat no_close r next s) rt (parts_reads s) laws closed)
+      any nothing (λ t h. refl) (λ t h. refl)
+
+-- a part in front of a mark
+pub ended_reads : {A : Type 0} (c : ℕ) {S : Of A} {first more : Tok → Bool} {r : Reading A} → Reads S first more false r → ((t : Tok) → is_mark c t ≡ true → more t ≡ false) → Reads (ended_by c S) any nothing false (read_ended c r)
+ended_reads {A} c {S} {first} {more} {r} law apart =
+    wider_reads
+    (then_reads (λ a. mark c >>= λ e. give a) (is_mark c) nothing false (λ a. read_in_turn (read_mark c) (λ e. gives a)) law (λ a. made_reads (λ e. a) (mark_reads c)) apart)
+    any nothing (λ t h. refl) (λ t h. refl)

@@ -1,6 +1,7 @@
 //! Reads ICL (IEEE 1687-2014, the part that this compiler reads): the design of a list of tokens.
 #![tactic(auto)]
 
+mod bodies;
 mod ends;
 mod expressions;
 mod fault;

@@ -10,9 +10,7 @@ ghost use Rattle.icl_parser.specs.Reading.{read_put, read_after, read_expr, read
 use crate::expressions::read_expr;
 use crate::fault::Stop;
 use crate::leaves::number_value;
-use crate::lexeme::{
-    Lexeme, Read, begins_mark, begins_name, copied, pushed, read_mark, read_name,
-};
+use crate::lexeme::{Lexeme, Read, begins_mark, begins_name, copied, pushed, read_mark, read_name};
 use icl_syntax::{Expr, Range, Sig, SigWhat};
 use ij_bits::List;
 use ij_text::{Name, Place};
