@@ -8,3 +8,6 @@ pub mod Lists
 pub mod SignalLaws
 pub mod SignalLoops
 pub mod BodyLaws
+pub mod ItemLaws
+pub mod DesignLaws
+pub mod ItemLoops

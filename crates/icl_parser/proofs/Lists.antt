@@ -6,10 +6,12 @@ use Rattle.grammar.specs.Reading.{Stop as Unfit, read_repeat, read_on, read_in_t
 use Rattle.grammar.proofs.Laws.{Reads, turn_reads, repeat_reads, wider_reads}
 use Rattle.icl_syntax.specs.declared.words.Limit.{Limit}
 use Rattle.icl_syntax.specs.Tokens.{Tok, is_mark}
+use Rattle.icl_syntax.specs.Values.{Block}
+use Rattle.icl_syntax.specs.Modules.{with_member}
 use Rattle.icl_syntax.specs.Grammar.{Of, mark, appended, parted, ended_by}
 use Rattle.icl_parser.specs.declared.fault.Stop.{Stop}
 use Rattle.icl_parser.specs.Seen.{Fails}
-use Rattle.icl_parser.specs.Reading.{Reading, begins, gives, any, no_close, read_mark, read_put, read_after, read_ended, read_parted}
+use Rattle.icl_parser.specs.Reading.{Reading, begins, gives, any, no_close, read_mark, read_put, read_after, read_ended, read_parted, read_member, read_module}
 use Rattle.icl_parser.proofs.Tokens.{nothing, marks, both_false, left_false, right_false}
 use Rattle.icl_parser.proofs.Symbols.{then_reads, mark_reads, made_reads}
 use Rattle.icl_parser.proofs.Steps.{Outcome, start, start_fails, go_on, round_fails, ends}
@@ -81,3 +83,17 @@ ended_reads {A} c {S} {first} {more} {r} law apart =
     wider_reads
     (then_reads (λ a. mark c >>= λ e. give a) (is_mark c) nothing false (λ a. read_in_turn (read_mark c) (λ e. gives a)) law (λ a. made_reads (λ e. a) (mark_reads c)) apart)
     any nothing (λ t h. refl) (λ t h. refl)
+
+-- what is read behind some parts
+abbrev pub more : {A : Type 0} → Reading A → List A → List Tok → Outcome (List A)
+more {A} r xs ts = read_repeat no_close (λ (ys : List A). r) appended xs ts
+
+abbrev pub more_members : List (List ℕ) → List Tok → Outcome (List (List ℕ))
+more_members ns ts = read_repeat no_close (λ (ys : List (List ℕ)). read_member) with_member ns ts
+
+abbrev pub more_modules : List Block → List Tok → Outcome (List Block)
+more_modules bs ts = read_repeat any (λ (ys : List Block). read_module) appended bs ts
+
+-- the first part, and where the others begin
+pub begun_more : {A : Type 0} (r : Reading A) (a : A) (xs : List A) (ts us : List Tok) (whole : Outcome (List A)) → xs ≡ a ∷ [] → us ≡ ts → more r (a ∷ []) ts ≡ whole → more r xs us ≡ whole
+begun_more r a xs ts us whole e f h = rw (e, f) h

@@ -278,8 +278,11 @@ read_bind_behind at BindsPort = read_bound_port at
 read_bind_behind at BindsParameter = read_bound_parameter at
 read_bind_behind at BindsAttribute = read_bound_attribute
 
+abbrev pub read_bind_begin : Reading BindBegin
+read_bind_begin = read_one bind_begin_at
+
 unfoldable pub read_bind : Reading Binding
-read_bind = read_in_turn (read_one bind_begin_at) (λ b. read_ended 59 (read_bind_behind b.at b.word))
+read_bind = read_in_turn read_bind_begin (λ b. read_ended 59 (read_bind_behind b.at b.word))
 
 unfoldable pub read_many_binds : Reading (List Binding)
 read_many_binds = read_many read_bind
@@ -306,8 +309,11 @@ abbrev pub read_member_behind : MemberWord → Reading (Option (List ℕ))
 read_member_behind MemberPort = read_in_turn read_name (λ n. gives (Some n))
 read_member_behind MemberAttribute = read_in_turn read_attribute_said (λ a. gives None)
 
+abbrev pub read_member_word : Reading MemberWord
+read_member_word = read_one member_word_at
+
 unfoldable pub read_member : Reading (Option (List ℕ))
-read_member = read_in_turn (read_one member_word_at) (λ w. read_ended 59 (read_member_behind w))
+read_member = read_in_turn read_member_word (λ w. read_ended 59 (read_member_behind w))
 
 unfoldable pub read_members : Reading (List (List ℕ))
 read_members = read_repeat no_close (λ (ns : List (List ℕ)). read_member) with_member []
@@ -348,8 +354,11 @@ read_meaning_behind OfAttribute = read_attribute
 read_meaning_behind OfInterface = read_interface
 read_meaning_behind OfLink = read_link
 
+abbrev pub read_item_begin : Reading ItemBegin
+read_item_begin = read_one item_begin_at
+
 unfoldable pub read_item : Reading Thing
-read_item = read_in_turn (read_one item_begin_at) (λ b. read_in_turn read_name (λ n. read_in_turn (read_meaning_behind b.word) (λ m. gives (record { at = b.at; name = n; what = m }))))
+read_item = read_in_turn read_item_begin (λ b. read_in_turn read_name (λ n. read_in_turn (read_meaning_behind b.word) (λ m. gives (record { at = b.at; name = n; what = m }))))
 
 unfoldable pub read_items : Reading (List Thing)
 read_items = read_many read_item

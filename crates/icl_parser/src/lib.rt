@@ -5,10 +5,15 @@ mod bodies;
 mod ends;
 mod expressions;
 mod fault;
+mod items;
 mod leaves;
 mod lexeme;
+mod links;
+mod modules;
+mod parsing;
 mod signals;
 mod signs;
 mod words;
 
 pub use fault::ParseFault;
+pub use parsing::parse;
