@@ -11,3 +11,4 @@ pub mod BodyLaws
 pub mod ItemLaws
 pub mod DesignLaws
 pub mod ItemLoops
+pub mod Verdicts

@@ -1,5 +1,6 @@
 -- The loops that read lists of parts.
 use Rattle.std.proofs.Common.{◌≡◌, ℕ, Bool, true, false, List, [], ◌∷◌, ◌++◌, map, Option, Result, Ok, refl}
+use Rattle.std.proofs.lemmas.List.{map-append}
 use Rattle.std.specs.Prelude.{◌||◌}
 use Rattle.grammar.specs.Symbol.{give, ◌>>=◌, repeat}
 use Rattle.grammar.specs.Reading.{Stop as Unfit, read_repeat, read_on, read_in_turn}
@@ -97,3 +98,7 @@ more_modules bs ts = read_repeat any (λ (ys : List Block). read_module) appende
 -- the first part, and where the others begin
 pub begun_more : {A : Type 0} (r : Reading A) (a : A) (xs : List A) (ts us : List Tok) (whole : Outcome (List A)) → xs ≡ a ∷ [] → us ≡ ts → more r (a ∷ []) ts ≡ whole → more r xs us ≡ whole
 begun_more r a xs ts us whole e f h = rw (e, f) h
+
+-- a part that was read and put at the end of a list
+pub put_pushed : {X A : Type 0} (view : X → A) (r : Reading A) (xs : List X) (ts : List Tok) (x : X) (rest : List Tok) (ys : List X) (us : List Tok) → r ts ≡ Ok (view x, rest) → ys ≡ xs ++ x ∷ [] → us ≡ rest → read_put r appended (map view xs) ts ≡ Ok (map view ys, us)
+put_pushed view r xs ts x rest ys us e f g = let k = map-append view xs (x ∷ []) in rw (e, f, g, k) refl
