@@ -1,0 +1,21 @@
+//! Reads ICL (IEEE 1687-2014, the part that this compiler reads): the design of a list of tokens.
+#![tactic(auto)]
+
+mod bodies;
+mod ends;
+mod expressions;
+mod fault;
+mod items;
+mod leaves;
+mod lexeme;
+mod links;
+mod modules;
+mod parsing;
+mod signals;
+mod signs;
+#[cfg(test)]
+mod tests;
+mod words;
+
+pub use fault::ParseFault;
+pub use parsing::parse;

@@ -1,0 +1,351 @@
+// Items of names: enumerations, scan interfaces and access links.
+ghost use Rattle.std.specs.Prelude.{◌≡◌, ◌<◌, ◌≤◌, IfOk, length};
+ghost use Rattle.std.specs.Option.{option_map};
+ghost use Rattle.icl_syntax.specs.Views.{bytes_of, seen_list, seen_instr, seen_enum_word, seen_what};
+ghost use Rattle.icl_syntax.specs.Grammar.{appended};
+ghost use Rattle.icl_syntax.specs.Modules.{with_member};
+ghost use Rattle.icl_parser.specs.Seen.{toks, seen_read, same, Gives};
+ghost use Rattle.icl_parser.specs.SeenParts.{seen_selected};
+ghost use Rattle.icl_parser.specs.Reading.{read_put, read_enum_word, read_many_words, read_words, read_member_word, read_member_behind, read_member, read_members, read_interface, read_selected, read_selecting, read_instruction, read_instructions, read_entity, read_link_kind, read_link};
+
+use crate::bodies::read_attribute_said;
+use crate::fault::Stop;
+use crate::lexeme::{Lexeme, Read, before_close, pushed, read_mark, read_name, read_word};
+use crate::signals::read_value;
+use crate::words::{link_kind, member_word};
+use icl_syntax::{EnumWord, LinkInstr, LinkKind, MemberWord, What};
+use ij_bits::{List, OutOfMemory};
+use ij_text::Name;
+use std::alloc::Global;
+
+// ---- enumerations
+
+/// A word of an enumeration up to its `;`.
+#[tactic(auto, unfolding(crate::specs::Reading::read_enum_word))]
+fn read_enum_word<'a>(alloc: Global, tokens: &'a [Lexeme<'a>]) -> Result<Read<'a, EnumWord>, Stop>
+    ensures shorter { IfOk result (λ r. length r.rest.now < length tokens.now) }
+    ensures gives { Gives (seen_read seen_enum_word) result (read_enum_word (toks tokens.now)) }
+{
+    let name = read_name(alloc, tokens)?;
+    let equals = read_mark(name.rest, b'=')?;
+    let value = read_value(alloc, equals.rest)?;
+    let end = read_mark(value.rest, b';')?;
+    Ok(Read {
+        value: EnumWord {
+            name: name.value,
+            value: value.value,
+        },
+        rest: end.rest,
+    })
+}
+
+/// Words with the next one.
+fn with_next_word<'a>(
+    alloc: Global,
+    words: Read<'a, List<EnumWord>>,
+) -> Result<Read<'a, List<EnumWord>>, Stop>
+    ensures shorter { IfOk result (λ r. length r.rest.now < length words.entry.rest.now) }
+    ensures gives { Gives (seen_read (seen_list seen_enum_word)) result (read_put read_enum_word appended (seen_list seen_enum_word words.entry.value) (toks words.entry.rest.now)) }
+{
+    let next = read_enum_word(alloc, words.rest)?;
+    Ok(pushed(words.value, next)?)
+}
+
+/// Words of an enumeration up to a `}`.
+fn read_many_words<'a>(
+    alloc: Global,
+    tokens: &'a [Lexeme<'a>],
+) -> Result<Read<'a, List<EnumWord>>, Stop>
+    ensures shorter { IfOk result (λ r. length r.rest.now ≤ length tokens.now) }
+    ensures gives { Gives (seen_read (seen_list seen_enum_word)) result (read_many_words (toks tokens.now)) }
+{
+    let mut words = Read {
+        value: List::new(alloc),
+        rest: tokens,
+    };
+    while before_close(words.rest) {
+        words = with_next_word(alloc, words)?;
+    }
+    Ok(words)
+}
+
+/// An enumeration behind its name.
+#[tactic(auto, unfolding(crate::specs::Reading::read_words))]
+pub(crate) fn read_words<'a>(
+    alloc: Global,
+    tokens: &'a [Lexeme<'a>],
+) -> Result<Read<'a, What>, Stop>
+    ensures shorter { IfOk result (λ r. length r.rest.now < length tokens.now) }
+    ensures gives { Gives (seen_read seen_what) result (read_words (toks tokens.now)) }
+{
+    let open = read_mark(tokens, b'{')?;
+    let words = read_many_words(alloc, open.rest)?;
+    let close = read_mark(words.rest, b'}')?;
+    Ok(Read {
+        value: What::Words { words: words.value },
+        rest: close.rest,
+    })
+}
+
+// ---- interfaces
+
+fn read_member_word<'a>(tokens: &'a [Lexeme<'a>]) -> Result<Read<'a, MemberWord>, Stop>
+    ensures shorter { IfOk result (λ r. length r.rest.now < length tokens.now) }
+    ensures gives { Gives (seen_read same) result (read_member_word (toks tokens.now)) }
+{
+    match tokens {
+        [t, rest @ ..] => match member_word(t) {
+            Some(value) => Ok(Read { value, rest }),
+            None => Err(Stop::At(tokens.len(), None)),
+        },
+        [] => Err(Stop::At(0, None)),
+    }
+}
+
+/// What stands behind the word of a member. An attribute isn't kept.
+fn read_member_behind<'a>(
+    alloc: Global,
+    word: MemberWord,
+    tokens: &'a [Lexeme<'a>],
+) -> Result<Read<'a, Option<Name>>, Stop>
+    ensures shorter { IfOk result (λ r. length r.rest.now < length tokens.now) }
+    ensures gives { Gives (seen_read (option_map bytes_of)) result (read_member_behind word (toks tokens.now)) }
+{
+    match word {
+        MemberWord::MemberPort => {
+            let name = read_name(alloc, tokens)?;
+            Ok(Read {
+                value: Some(name.value),
+                rest: name.rest,
+            })
+        }
+        MemberWord::MemberAttribute => {
+            let said = read_attribute_said(alloc, tokens)?;
+            Ok(Read {
+                value: None,
+                rest: said.rest,
+            })
+        }
+    }
+}
+
+/// A member of an interface up to its `;`.
+#[tactic(auto, unfolding(crate::specs::Reading::read_member))]
+fn read_member<'a>(alloc: Global, tokens: &'a [Lexeme<'a>]) -> Result<Read<'a, Option<Name>>, Stop>
+    ensures shorter { IfOk result (λ r. length r.rest.now < length tokens.now) }
+    ensures gives { Gives (seen_read (option_map bytes_of)) result (read_member (toks tokens.now)) }
+{
+    let word = read_member_word(tokens)?;
+    let name = read_member_behind(alloc, word.value, word.rest)?;
+    let end = read_mark(name.rest, b';')?;
+    Ok(Read {
+        value: name.value,
+        rest: end.rest,
+    })
+}
+
+/// Names with the next one behind them, if it is kept.
+fn with<'a>(
+    names: List<Name>,
+    next: Read<'a, Option<Name>>,
+) -> Result<Read<'a, List<Name>>, OutOfMemory>
+    ensures value { IfOk result (λ r. seen_list bytes_of r.value ≡ with_member (seen_list bytes_of names) (option_map bytes_of next.entry.value)) }
+    ensures rest { IfOk result (λ r. r.rest.now ≡ next.entry.rest.now) }
+{
+    let rest = next.rest;
+    match next.value {
+        Some(value) => pushed(names, Read { value, rest }),
+        None => Ok(Read { value: names, rest }),
+    }
+}
+
+/// Members of an interface with the next one.
+fn with_next_member<'a>(
+    alloc: Global,
+    names: Read<'a, List<Name>>,
+) -> Result<Read<'a, List<Name>>, Stop>
+    ensures shorter { IfOk result (λ r. length r.rest.now < length names.entry.rest.now) }
+    ensures gives { Gives (seen_read (seen_list bytes_of)) result (read_put read_member with_member (seen_list bytes_of names.entry.value) (toks names.entry.rest.now)) }
+{
+    let next = read_member(alloc, names.rest)?;
+    Ok(with(names.value, next)?)
+}
+
+/// Members of an interface up to a `}`.
+fn read_members<'a>(alloc: Global, tokens: &'a [Lexeme<'a>]) -> Result<Read<'a, List<Name>>, Stop>
+    ensures shorter { IfOk result (λ r. length r.rest.now ≤ length tokens.now) }
+    ensures gives { Gives (seen_read (seen_list bytes_of)) result (read_members (toks tokens.now)) }
+{
+    let mut names = Read {
+        value: List::new(alloc),
+        rest: tokens,
+    };
+    while before_close(names.rest) {
+        names = with_next_member(alloc, names)?;
+    }
+    Ok(names)
+}
+
+/// A scan interface behind its name.
+#[tactic(auto, unfolding(crate::specs::Reading::read_interface))]
+pub(crate) fn read_interface<'a>(
+    alloc: Global,
+    tokens: &'a [Lexeme<'a>],
+) -> Result<Read<'a, What>, Stop>
+    ensures shorter { IfOk result (λ r. length r.rest.now < length tokens.now) }
+    ensures gives { Gives (seen_read seen_what) result (read_interface (toks tokens.now)) }
+{
+    let open = read_mark(tokens, b'{')?;
+    let ports = read_members(alloc, open.rest)?;
+    let close = read_mark(ports.rest, b'}')?;
+    Ok(Read {
+        value: What::Interface { ports: ports.value },
+        rest: close.rest,
+    })
+}
+
+// ---- access links
+
+/// The instance and the interface that an instruction selects.
+#[derive(Drop)]
+pub(crate) struct Selected {
+    pub cell: Name,
+    pub interface: Name,
+}
+
+#[tactic(auto, unfolding(crate::specs::Reading::read_selected))]
+fn read_selected<'a>(alloc: Global, tokens: &'a [Lexeme<'a>]) -> Result<Read<'a, Selected>, Stop>
+    ensures shorter { IfOk result (λ r. length r.rest.now < length tokens.now) }
+    ensures gives { Gives (seen_read seen_selected) result (read_selected (toks tokens.now)) }
+{
+    let cell = read_name(alloc, tokens)?;
+    let dot = read_mark(cell.rest, b'.')?;
+    let interface = read_name(alloc, dot.rest)?;
+    let end = read_mark(interface.rest, b';')?;
+    Ok(Read {
+        value: Selected {
+            cell: cell.value,
+            interface: interface.value,
+        },
+        rest: end.rest,
+    })
+}
+
+/// The `ScanInterface` of an instruction.
+#[tactic(auto, unfolding(crate::specs::Reading::read_selecting))]
+fn read_selecting<'a>(alloc: Global, tokens: &'a [Lexeme<'a>]) -> Result<Read<'a, Selected>, Stop>
+    ensures shorter { IfOk result (λ r. length r.rest.now < length tokens.now) }
+    ensures gives { Gives (seen_read seen_selected) result (read_selecting (toks tokens.now)) }
+{
+    let word = read_word(tokens, b"ScanInterface")?;
+    let open = read_mark(word.rest, b'{')?;
+    let selected = read_selected(alloc, open.rest)?;
+    let close = read_mark(selected.rest, b'}')?;
+    Ok(Read {
+        value: selected.value,
+        rest: close.rest,
+    })
+}
+
+/// An instruction of an access link.
+#[tactic(auto, unfolding(crate::specs::Reading::read_instruction))]
+fn read_instruction<'a>(
+    alloc: Global,
+    tokens: &'a [Lexeme<'a>],
+) -> Result<Read<'a, LinkInstr>, Stop>
+    ensures shorter { IfOk result (λ r. length r.rest.now < length tokens.now) }
+    ensures gives { Gives (seen_read seen_instr) result (read_instruction (toks tokens.now)) }
+{
+    let name = read_name(alloc, tokens)?;
+    let open = read_mark(name.rest, b'{')?;
+    let selected = read_selecting(alloc, open.rest)?;
+    let close = read_mark(selected.rest, b'}')?;
+    Ok(Read {
+        value: LinkInstr {
+            name: name.value,
+            cell: selected.value.cell,
+            interface: selected.value.interface,
+        },
+        rest: close.rest,
+    })
+}
+
+/// Instructions with the next one.
+fn with_next_instruction<'a>(
+    alloc: Global,
+    instrs: Read<'a, List<LinkInstr>>,
+) -> Result<Read<'a, List<LinkInstr>>, Stop>
+    ensures shorter { IfOk result (λ r. length r.rest.now < length instrs.entry.rest.now) }
+    ensures gives { Gives (seen_read (seen_list seen_instr)) result (read_put read_instruction appended (seen_list seen_instr instrs.entry.value) (toks instrs.entry.rest.now)) }
+{
+    let next = read_instruction(alloc, instrs.rest)?;
+    Ok(pushed(instrs.value, next)?)
+}
+
+/// Instructions up to a `}`.
+fn read_instructions<'a>(
+    alloc: Global,
+    tokens: &'a [Lexeme<'a>],
+) -> Result<Read<'a, List<LinkInstr>>, Stop>
+    ensures shorter { IfOk result (λ r. length r.rest.now ≤ length tokens.now) }
+    ensures gives { Gives (seen_read (seen_list seen_instr)) result (read_instructions (toks tokens.now)) }
+{
+    let mut instrs = Read {
+        value: List::new(alloc),
+        rest: tokens,
+    };
+    while before_close(instrs.rest) {
+        instrs = with_next_instruction(alloc, instrs)?;
+    }
+    Ok(instrs)
+}
+
+/// The entity of an access link.
+#[tactic(auto, unfolding(crate::specs::Reading::read_entity))]
+fn read_entity<'a>(alloc: Global, tokens: &'a [Lexeme<'a>]) -> Result<Read<'a, Name>, Stop>
+    ensures shorter { IfOk result (λ r. length r.rest.now < length tokens.now) }
+    ensures gives { Gives (seen_read bytes_of) result (read_entity (toks tokens.now)) }
+{
+    let word = read_word(tokens, b"BSDLEntity")?;
+    let name = read_name(alloc, word.rest)?;
+    let end = read_mark(name.rest, b';')?;
+    Ok(Read {
+        value: name.value,
+        rest: end.rest,
+    })
+}
+
+fn read_link_kind<'a>(tokens: &'a [Lexeme<'a>]) -> Result<Read<'a, LinkKind>, Stop>
+    ensures shorter { IfOk result (λ r. length r.rest.now < length tokens.now) }
+    ensures gives { Gives (seen_read same) result (read_link_kind (toks tokens.now)) }
+{
+    match tokens {
+        [t, rest @ ..] => match link_kind(t) {
+            Some(value) => Ok(Read { value, rest }),
+            None => Err(Stop::At(tokens.len(), None)),
+        },
+        [] => Err(Stop::At(0, None)),
+    }
+}
+
+/// An access link behind its name.
+#[tactic(auto, unfolding(crate::specs::Reading::read_link))]
+pub(crate) fn read_link<'a>(alloc: Global, tokens: &'a [Lexeme<'a>]) -> Result<Read<'a, What>, Stop>
+    ensures shorter { IfOk result (λ r. length r.rest.now < length tokens.now) }
+    ensures gives { Gives (seen_read seen_what) result (read_link (toks tokens.now)) }
+{
+    let of = read_word(tokens, b"Of")?;
+    let kind = read_link_kind(of.rest)?;
+    let open = read_mark(kind.rest, b'{')?;
+    let entity = read_entity(alloc, open.rest)?;
+    let instrs = read_instructions(alloc, entity.rest)?;
+    let close = read_mark(instrs.rest, b'}')?;
+    Ok(Read {
+        value: What::Link {
+            kind: kind.value,
+            entity: entity.value,
+            instrs: instrs.value,
+        },
+        rest: close.rest,
+    })
+}

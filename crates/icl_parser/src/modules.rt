@@ -1,0 +1,159 @@
+// Items, modules and designs.
+ghost use Rattle.std.specs.Prelude.{◌≡◌, ◌<◌, ◌≤◌, IfOk, length};
+ghost use Rattle.icl_syntax.specs.Views.{seen_list, seen_item, seen_module, seen_what};
+ghost use Rattle.icl_syntax.specs.Grammar.{appended};
+ghost use Rattle.icl_parser.specs.Seen.{toks, seen_read, Gives};
+ghost use Rattle.icl_parser.specs.SeenParts.{seen_item_begin};
+ghost use Rattle.icl_parser.specs.Reading.{read_put, read_item_begin, read_meaning_behind, read_item, read_items, read_module, whole_design};
+
+use crate::fault::Stop;
+use crate::items::{
+    read_alias, read_attribute, read_child, read_mux, read_parameter, read_port, read_register,
+};
+use crate::lexeme::{Lexeme, Read, before_close, pushed, read_mark, read_name, read_word};
+use crate::links::{read_interface, read_link, read_words};
+use crate::words::item_word;
+use icl_syntax::{Item, ItemWord, Module, What};
+use ij_bits::List;
+use ij_text::Place;
+use std::alloc::Global;
+
+/// The word of an item at its place.
+#[derive(Clone, Copy, Debug, Drop)]
+pub(crate) struct ItemBegin {
+    pub at: Place,
+    pub word: ItemWord,
+}
+
+fn read_item_begin<'a>(tokens: &'a [Lexeme<'a>]) -> Result<Read<'a, ItemBegin>, Stop>
+    ensures shorter { IfOk result (λ r. length r.rest.now < length tokens.now) }
+    ensures gives { Gives (seen_read seen_item_begin) result (read_item_begin (toks tokens.now)) }
+{
+    match tokens {
+        [t, rest @ ..] => match item_word(t) {
+            Some(word) => Ok(Read {
+                value: ItemBegin { at: t.at, word },
+                rest,
+            }),
+            None => Err(Stop::At(tokens.len(), None)),
+        },
+        [] => Err(Stop::At(0, None)),
+    }
+}
+
+/// What stands behind the word and the name of an item.
+#[tactic(auto, unfolding(crate::specs::Reading::read_meaning_behind))]
+fn read_meaning_behind<'a>(
+    alloc: Global,
+    word: ItemWord,
+    tokens: &'a [Lexeme<'a>],
+) -> Result<Read<'a, What>, Stop>
+    ensures shorter { IfOk result (λ r. length r.rest.now < length tokens.now) }
+    ensures gives { Gives (seen_read seen_what) result (read_meaning_behind word (toks tokens.now)) }
+{
+    match word {
+        ItemWord::OfPort(kind) => read_port(alloc, kind, tokens),
+        ItemWord::OfRegister => read_register(alloc, tokens),
+        ItemWord::OfMux => read_mux(alloc, tokens),
+        ItemWord::OfChild => read_child(alloc, tokens),
+        ItemWord::OfAlias => read_alias(alloc, tokens),
+        ItemWord::OfEnum => read_words(alloc, tokens),
+        ItemWord::OfParameter(local) => read_parameter(alloc, local, tokens),
+        ItemWord::OfAttribute => read_attribute(alloc, tokens),
+        ItemWord::OfInterface => read_interface(alloc, tokens),
+        ItemWord::OfLink => read_link(alloc, tokens),
+    }
+}
+
+/// An item.
+#[tactic(auto, unfolding(crate::specs::Reading::read_item))]
+fn read_item<'a>(alloc: Global, tokens: &'a [Lexeme<'a>]) -> Result<Read<'a, Item>, Stop>
+    ensures shorter { IfOk result (λ r. length r.rest.now < length tokens.now) }
+    ensures gives { Gives (seen_read seen_item) result (read_item (toks tokens.now)) }
+{
+    let begin = read_item_begin(tokens)?;
+    let name = read_name(alloc, begin.rest)?;
+    let what = read_meaning_behind(alloc, begin.value.word, name.rest)?;
+    Ok(Read {
+        value: Item {
+            at: begin.value.at,
+            name: name.value,
+            what: what.value,
+        },
+        rest: what.rest,
+    })
+}
+
+/// Items with the next one.
+fn with_next_item<'a>(
+    alloc: Global,
+    items: Read<'a, List<Item>>,
+) -> Result<Read<'a, List<Item>>, Stop>
+    ensures shorter { IfOk result (λ r. length r.rest.now < length items.entry.rest.now) }
+    ensures gives { Gives (seen_read (seen_list seen_item)) result (read_put read_item appended (seen_list seen_item items.entry.value) (toks items.entry.rest.now)) }
+{
+    let next = read_item(alloc, items.rest)?;
+    Ok(pushed(items.value, next)?)
+}
+
+/// Items up to a `}`.
+fn read_items<'a>(alloc: Global, tokens: &'a [Lexeme<'a>]) -> Result<Read<'a, List<Item>>, Stop>
+    ensures shorter { IfOk result (λ r. length r.rest.now ≤ length tokens.now) }
+    ensures gives { Gives (seen_read (seen_list seen_item)) result (read_items (toks tokens.now)) }
+{
+    let mut items = Read {
+        value: List::new(alloc),
+        rest: tokens,
+    };
+    while before_close(items.rest) {
+        items = with_next_item(alloc, items)?;
+    }
+    Ok(items)
+}
+
+/// A module.
+#[tactic(auto, unfolding(crate::specs::Reading::read_module))]
+fn read_module<'a>(alloc: Global, tokens: &'a [Lexeme<'a>]) -> Result<Read<'a, Module>, Stop>
+    ensures shorter { IfOk result (λ r. length r.rest.now < length tokens.now) }
+    ensures gives { Gives (seen_read seen_module) result (read_module (toks tokens.now)) }
+{
+    let word = read_word(tokens, b"Module")?;
+    let name = read_name(alloc, word.rest)?;
+    let open = read_mark(name.rest, b'{')?;
+    let items = read_items(alloc, open.rest)?;
+    let close = read_mark(items.rest, b'}')?;
+    Ok(Read {
+        value: Module {
+            name: name.value,
+            at: word.value,
+            items: items.value,
+        },
+        rest: close.rest,
+    })
+}
+
+/// Modules with the next one.
+fn with_next_module<'a>(
+    alloc: Global,
+    modules: Read<'a, List<Module>>,
+) -> Result<Read<'a, List<Module>>, Stop>
+    ensures shorter { IfOk result (λ r. length r.rest.now < length modules.entry.rest.now) }
+    ensures gives { Gives (seen_read (seen_list seen_module)) result (read_put read_module appended (seen_list seen_module modules.entry.value) (toks modules.entry.rest.now)) }
+{
+    let next = read_module(alloc, modules.rest)?;
+    Ok(pushed(modules.value, next)?)
+}
+
+/// Modules up to the end.
+pub(crate) fn read_design<'a>(alloc: Global, tokens: &'a [Lexeme<'a>]) -> Result<List<Module>, Stop>
+    ensures { Gives (seen_list seen_module) result (whole_design (toks tokens.now)) }
+{
+    let mut modules = Read {
+        value: List::new(alloc),
+        rest: tokens,
+    };
+    while !modules.rest.is_empty() {
+        modules = with_next_module(alloc, modules)?;
+    }
+    Ok(modules.value)
+}

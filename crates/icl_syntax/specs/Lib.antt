@@ -1,0 +1,6 @@
+pub mod Tokens
+pub mod Words
+pub mod Values
+pub mod Grammar
+pub mod Modules
+pub mod Views

@@ -1,0 +1,136 @@
+-- The words by which the parts of a text are told apart.
+use Rattle.std.specs.Prelude.{ℕ, true, false, cond, List, [], ◌∷◌, Option, Some, None, codes}
+use Rattle.std.specs.Str.{bytes_eq}
+use Rattle.icl_syntax.specs.declared.tree.PortKind.{PortKind}
+use Rattle.icl_syntax.specs.declared.tree.PortKind.TheVariants.{ScanInPort, ScanOutPort, DataInPort, DataOutPort, SelectPort, CaptureEnPort, ShiftEnPort, UpdateEnPort, ResetPort, TCKPort, TMSPort, TRSTPort, ClockPort, ToSelectPort, ToCaptureEnPort, ToShiftEnPort, ToUpdateEnPort, ToResetPort, ToTCKPort, ToTMSPort, ToTRSTPort, ToClockPort, ToIRSelectPort}
+use Rattle.icl_syntax.specs.declared.tree.LinkKind.{LinkKind}
+use Rattle.icl_syntax.specs.declared.tree.LinkKind.TheVariants.{Std2001, Std2013}
+use Rattle.icl_syntax.specs.declared.words.ItemWord.{ItemWord}
+use Rattle.icl_syntax.specs.declared.words.ItemWord.TheVariants.{OfPort, OfRegister, OfMux, OfChild, OfAlias, OfEnum, OfParameter, OfAttribute, OfInterface, OfLink}
+use Rattle.icl_syntax.specs.declared.words.PropWord.{PropWord}
+use Rattle.icl_syntax.specs.declared.words.PropWord.TheVariants.{Source, LaunchEdge, DefaultLoadValue, RefEnum, ActivePolarity, ScanInSource, CaptureSource, ResetValue, AccessTogether, Attribute}
+use Rattle.icl_syntax.specs.declared.words.BindWord.{BindWord}
+use Rattle.icl_syntax.specs.declared.words.BindWord.TheVariants.{BindsPort, BindsParameter, BindsAttribute}
+use Rattle.icl_syntax.specs.declared.words.MemberWord.{MemberWord}
+use Rattle.icl_syntax.specs.declared.words.MemberWord.TheVariants.{MemberPort, MemberAttribute}
+
+pub record Entry (A : Type 0) : Type 0 where
+  pub word : List ℕ
+  pub meaning : A
+
+-- what a table has for a word
+abbrev pub found_in : {A : Type 0} → List (Entry A) → List ℕ → Option A
+found_in [] text = None
+found_in (entry ∷ entries) text = cond (bytes_eq text entry.word) (Some entry.meaning) (found_in entries text)
+
+-- the first of two answers that is one
+abbrev pub or_else : {A : Type 0} → Option A → Option A → Option A
+or_else None b = b
+or_else (Some a) b = Some a
+
+-- the word of a kind of port
+abbrev pub port_word : PortKind → List ℕ
+port_word ScanInPort = codes "ScanInPort"
+port_word ScanOutPort = codes "ScanOutPort"
+port_word DataInPort = codes "DataInPort"
+port_word DataOutPort = codes "DataOutPort"
+port_word SelectPort = codes "SelectPort"
+port_word CaptureEnPort = codes "CaptureEnPort"
+port_word ShiftEnPort = codes "ShiftEnPort"
+port_word UpdateEnPort = codes "UpdateEnPort"
+port_word ResetPort = codes "ResetPort"
+port_word TCKPort = codes "TCKPort"
+port_word TMSPort = codes "TMSPort"
+port_word TRSTPort = codes "TRSTPort"
+port_word ClockPort = codes "ClockPort"
+port_word ToSelectPort = codes "ToSelectPort"
+port_word ToCaptureEnPort = codes "ToCaptureEnPort"
+port_word ToShiftEnPort = codes "ToShiftEnPort"
+port_word ToUpdateEnPort = codes "ToUpdateEnPort"
+port_word ToResetPort = codes "ToResetPort"
+port_word ToTCKPort = codes "ToTCKPort"
+port_word ToTMSPort = codes "ToTMSPort"
+port_word ToTRSTPort = codes "ToTRSTPort"
+port_word ToClockPort = codes "ToClockPort"
+port_word ToIRSelectPort = codes "ToIRSelectPort"
+
+abbrev pub port_entry : PortKind → Entry PortKind
+port_entry k = record { word = port_word k; meaning = k }
+
+unfoldable pub data_port_named : List ℕ → Option PortKind
+data_port_named = found_in (port_entry ScanInPort ∷ port_entry ScanOutPort ∷ port_entry DataInPort ∷ port_entry DataOutPort ∷ [])
+
+unfoldable pub control_port_named : List ℕ → Option PortKind
+control_port_named =
+    found_in (port_entry SelectPort ∷ port_entry CaptureEnPort ∷ port_entry ShiftEnPort ∷ port_entry UpdateEnPort ∷ port_entry ResetPort
+    ∷ port_entry TCKPort ∷ port_entry TMSPort ∷ port_entry TRSTPort ∷ port_entry ClockPort ∷ [])
+
+unfoldable pub to_port_named : List ℕ → Option PortKind
+to_port_named =
+    found_in (port_entry ToSelectPort ∷ port_entry ToCaptureEnPort ∷ port_entry ToShiftEnPort ∷ port_entry ToUpdateEnPort ∷ port_entry ToResetPort
+    ∷ port_entry ToTCKPort ∷ port_entry ToTMSPort ∷ port_entry ToTRSTPort ∷ port_entry ToClockPort ∷ port_entry ToIRSelectPort ∷ [])
+
+unfoldable pub port_named : List ℕ → Option PortKind
+port_named text = or_else (data_port_named text) (or_else (control_port_named text) (to_port_named text))
+
+abbrev pub item_entry : List ℕ → ItemWord → Entry ItemWord
+item_entry w i = record { word = w; meaning = i }
+
+unfoldable pub other_item_named : List ℕ → Option ItemWord
+other_item_named =
+    found_in (item_entry (codes "ScanRegister") OfRegister ∷ item_entry (codes "ScanMux") OfMux ∷ item_entry (codes "Instance") OfChild
+    ∷ item_entry (codes "Alias") OfAlias ∷ item_entry (codes "Enum") OfEnum ∷ item_entry (codes "Parameter") (OfParameter false)
+    ∷ item_entry (codes "LocalParameter") (OfParameter true) ∷ item_entry (codes "Attribute") OfAttribute
+    ∷ item_entry (codes "ScanInterface") OfInterface ∷ item_entry (codes "AccessLink") OfLink ∷ [])
+
+abbrev pub port_item : Option PortKind → Option ItemWord
+port_item None = None
+port_item (Some k) = Some (OfPort k)
+
+-- the items, by their first words
+unfoldable pub item_named : List ℕ → Option ItemWord
+item_named text = or_else (port_item (port_named text)) (other_item_named text)
+
+-- the word of a property
+abbrev pub prop_word : PropWord → List ℕ
+prop_word Source = codes "Source"
+prop_word LaunchEdge = codes "LaunchEdge"
+prop_word DefaultLoadValue = codes "DefaultLoadValue"
+prop_word RefEnum = codes "RefEnum"
+prop_word ActivePolarity = codes "ActivePolarity"
+prop_word ScanInSource = codes "ScanInSource"
+prop_word CaptureSource = codes "CaptureSource"
+prop_word ResetValue = codes "ResetValue"
+prop_word AccessTogether = codes "AccessTogether"
+prop_word Attribute = codes "Attribute"
+
+abbrev pub prop_entry : PropWord → Entry PropWord
+prop_entry w = record { word = prop_word w; meaning = w }
+
+unfoldable pub prop_named : List ℕ → Option PropWord
+prop_named =
+    found_in (prop_entry Source ∷ prop_entry LaunchEdge ∷ prop_entry DefaultLoadValue ∷ prop_entry RefEnum ∷ prop_entry ActivePolarity
+    ∷ prop_entry ScanInSource ∷ prop_entry CaptureSource ∷ prop_entry ResetValue ∷ prop_entry AccessTogether ∷ prop_entry Attribute ∷ [])
+
+abbrev pub bind_entry : List ℕ → BindWord → Entry BindWord
+bind_entry w b = record { word = w; meaning = b }
+
+unfoldable pub bind_named : List ℕ → Option BindWord
+bind_named = found_in (bind_entry (codes "InputPort") BindsPort ∷ bind_entry (codes "Parameter") BindsParameter ∷ bind_entry (codes "Attribute") BindsAttribute ∷ [])
+
+abbrev pub member_entry : List ℕ → MemberWord → Entry MemberWord
+member_entry w m = record { word = w; meaning = m }
+
+unfoldable pub member_named : List ℕ → Option MemberWord
+member_named = found_in (member_entry (codes "Port") MemberPort ∷ member_entry (codes "Attribute") MemberAttribute ∷ [])
+
+-- the word of an access standard
+abbrev pub link_word : LinkKind → List ℕ
+link_word Std2001 = codes "STD_1149_1_2001"
+link_word Std2013 = codes "STD_1149_1_2013"
+
+abbrev pub link_entry : LinkKind → Entry LinkKind
+link_entry k = record { word = link_word k; meaning = k }
+
+unfoldable pub link_named : List ℕ → Option LinkKind
+link_named = found_in (link_entry Std2001 ∷ link_entry Std2013 ∷ [])

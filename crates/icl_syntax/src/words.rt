@@ -1,0 +1,82 @@
+// The words by which the parts of an ICL text are told apart, and the limits that bar a token.
+use crate::tree::PortKind;
+
+/// Why a token that the grammar wants is barred.
+#[derive(Clone, Copy, Debug, PartialEq, Eq)]
+pub enum Limit {
+    /// It would be the 65th parenthesis inside one another, or the 257th operator of one expression.
+    OfExpression,
+}
+
+/// The word by which an item of a module begins.
+#[derive(Clone, Copy, Debug, PartialEq, Eq)]
+pub enum ItemWord {
+    /// The word of a kind of port.
+    OfPort(PortKind),
+    /// `ScanRegister`
+    OfRegister,
+    /// `ScanMux`
+    OfMux,
+    /// `Instance`
+    OfChild,
+    /// `Alias`
+    OfAlias,
+    /// `Enum`
+    OfEnum,
+    /// `Parameter`, or `LocalParameter` where it is local.
+    OfParameter(bool),
+    /// `Attribute`
+    OfAttribute,
+    /// `ScanInterface`
+    OfInterface,
+    /// `AccessLink`
+    OfLink,
+}
+
+/// What has a body.
+#[derive(Clone, Copy, Debug, PartialEq, Eq)]
+pub enum Owner {
+    ScanIn,
+    ScanOut,
+    DataIn,
+    DataOut,
+    /// A port that is neither a scan port nor a data port.
+    Control,
+    Register,
+    Alias,
+}
+
+/// The word by which a property begins, each named as it is written.
+#[derive(Clone, Copy, Debug, PartialEq, Eq)]
+pub enum PropWord {
+    Source,
+    LaunchEdge,
+    DefaultLoadValue,
+    RefEnum,
+    ActivePolarity,
+    ScanInSource,
+    CaptureSource,
+    ResetValue,
+    AccessTogether,
+    Attribute,
+}
+
+/// The word by which a binding of an instance begins.
+#[derive(Clone, Copy, Debug, PartialEq, Eq)]
+pub enum BindWord {
+    /// `InputPort`
+    BindsPort,
+    /// `Parameter`
+    BindsParameter,
+    /// `Attribute`
+    BindsAttribute,
+}
+
+/// The word by which a member of a scan interface begins.
+#[derive(Clone, Copy, Debug, PartialEq, Eq)]
+pub enum MemberWord {
+    /// `Port`
+    MemberPort,
+    /// `Attribute`
+    MemberAttribute,
+}
