@@ -8,17 +8,19 @@ use Rattle.register_compiler.specs.Meaning.{DoesProcedure}
 use Rattle.register_compiler.specs.Svf.{svf_text}
 use Rattle.ijtag_core.specs.Accepted.{AreOf, AreAccepted}
 use Rattle.ijtag_core.specs.Command.{Compile, compile_loads}
+use Rattle.ijtag_core.specs.IclText.{IsIclText}
 use Rattle.ijtag_core.specs.Loaded.{first_long}
 use Rattle.ijtag_core.specs.Compiled.{IsCompiled, IsPartOfSvf}
 use Rattle.ijtag_core.specs.Outcome.{IsPart}
 
 -- what was loaded is accepted
 pub accepted_now : (files : Option Files) (command : Compile) (form : SeenForm) (icl pdl device : List ℕ) → IfSome files (λ f. icl ≡ bytes_of f command.icl) → IfSome files (λ f. pdl ≡ bytes_of f command.pdl) → IfSome files (λ f. device ≡ bytes_of f command.device)
-    → IfSome files (λ f. first_long f (compile_loads command) ≡ None) → AreOf form icl pdl device command → unapplied_line form.lines ≡ None → IfSome files (λ f. AreAccepted f command form)
-accepted_now None command form icl pdl device icl_is pdl_is device_is short of applied = tt
-accepted_now (Some f) command form icl pdl device icl_is pdl_is device_is short of applied = record {
+    → IfSome files (λ f. first_long f (compile_loads command) ≡ None) → IsIclText icl → AreOf form icl pdl device command → unapplied_line form.lines ≡ None → IfSome files (λ f. AreAccepted f command form)
+accepted_now None command form icl pdl device icl_is pdl_is device_is short text of applied = tt
+accepted_now (Some f) command form icl pdl device icl_is pdl_is device_is short text of applied = record {
   of_form = record {
     short = short;
+    icl = subst IsIclText icl_is text;
     of = subst (λ (text : List ℕ). AreOf form (bytes_of f command.icl) (bytes_of f command.pdl) text command) device_is
         (subst (λ (text : List ℕ). AreOf form (bytes_of f command.icl) text device command) pdl_is (subst (λ (text : List ℕ). AreOf form text pdl device command) icl_is of));
   };

@@ -7,7 +7,7 @@ use Rattle.register_compiler.specs.Procedure.{unapplied_line}
 use Rattle.ijtag_core.specs.Command.{Command, Compiles, Plays, loads, names_of}
 use Rattle.ijtag_core.specs.Outcome.{SomeRose}
 use Rattle.ijtag_core.specs.Runs.{Run, IsAccepted, IsFirstRefusal, WriteRose, IsStop, IsRunStop, IsDone}
-use Rattle.ijtag_core.specs.Stops.{Stop, Refusal, Usage, Refuses, ReadFault, WriteFault, OutputFault, NoMemory, Long, FirstForm, Unapplied, Svf, status_of}
+use Rattle.ijtag_core.specs.Stops.{Stop, Refusal, Usage, Refuses, ReadFault, WriteFault, OutputFault, NoMemory, Long, FirstForm, Unapplied, Icl, Svf, status_of}
 use Rattle.ijtag_core.specs.declared.status.Status.{Status}
 use Rattle.ijtag_core.specs.declared.status.Status.TheVariants.{Good, Differs, Refused, OutOfMemory}
 
@@ -20,14 +20,16 @@ some_rose before now (n ∷ names) name (suc k) within at rose = inr (some_rose 
 -- what meets a refusal isn't accepted
 not_accepted : (f : Files) (command : Command) (refusal : Refusal) → IsFirstRefusal f command refusal → IsAccepted f command → ⊥
 not_accepted f (Compiles command) (Long name) is accepted = let short = accepted.1.of_form.short in cc
-not_accepted f (Compiles command) FirstForm is accepted = is.1 accepted.0 accepted.1.of_form
+not_accepted f (Compiles command) (Icl cause at) is accepted = is.1.no_design accepted.1.of_form.icl
+not_accepted f (Compiles command) FirstForm is accepted = is.2 accepted.0 accepted.1.of_form
 not_accepted f (Compiles command) (Unapplied line) is accepted =
     let pending : unapplied_line accepted.0.lines ≡ Some line = is.1 accepted.0 accepted.1.of_form in let applied = accepted.1.applied in cc
 not_accepted f (Compiles command) (Svf cause at) is accepted = is
 not_accepted f (Plays command) (Long name) is accepted = let short = accepted.2.short in cc
-not_accepted f (Plays command) FirstForm is accepted = is.2 accepted.0 accepted.2.of
+not_accepted f (Plays command) (Icl cause at) is accepted = is.1.no_design accepted.2.icl
+not_accepted f (Plays command) FirstForm is accepted = is.3 accepted.0 accepted.2.of
 not_accepted f (Plays command) (Unapplied line) is accepted = is
-not_accepted f (Plays command) (Svf cause at) is accepted = let refused = is.1.1 in let read = accepted.2.read in cc
+not_accepted f (Plays command) (Svf cause at) is accepted = let refused = is.2.1 in let read = accepted.2.read in cc
 
 -- a stop of what is accepted
 accepted_stops : (f : Files) (command : Command) (run : Run) (stop : Stop) (result : Status) → IsAccepted f command → (SomeRose run.load.before run.load.now (names_of (loads command)) → ⊥) → (WriteRose command run → ⊥)

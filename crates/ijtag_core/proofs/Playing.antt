@@ -11,9 +11,10 @@ use Rattle.play_report.specs.Report.{differs_of, play_report}
 use Rattle.register_compiler.specs.Procedure.{device_of}
 use Rattle.ijtag_core.specs.Command.{Play, play_loads}
 use Rattle.ijtag_core.specs.Compiled.{Counts}
+use Rattle.ijtag_core.specs.IclText.{IsIclText, IsNoIcl}
 use Rattle.ijtag_core.specs.Loaded.{first_long}
 use Rattle.ijtag_core.specs.Played.{Faults, AreOfDesign, FilesAreOfDesign, ArePlayable, IsPlayable, IsPlayed, IsPartOfReport, IsPlayStop, verdict_of}
-use Rattle.ijtag_core.specs.Stops.{Stop, Usage, Refuses, ReadFault, WriteFault, OutputFault, NoMemory, Long, FirstForm, Unapplied, Svf}
+use Rattle.ijtag_core.specs.Stops.{Stop, Usage, Refuses, ReadFault, WriteFault, OutputFault, NoMemory, Long, FirstForm, Unapplied, Icl, Svf}
 use Rattle.ijtag_core.specs.Texts.{IsPlayTextStop}
 use Rattle.ijtag_core.specs.declared.status.Status.{Status}
 
@@ -34,10 +35,10 @@ of_texts design f command icl device tables icl_is device_is tables_is of =
     (subst (λ (text : List ℕ). AreOfDesign design icl text (bytes_of f command.tables) command) (sym device_is) (subst (λ (text : List ℕ). AreOfDesign design text (bytes_of f command.device) (bytes_of f command.tables) command) (sym icl_is) of))
 
 -- what was loaded is playable
-pub playable_now : (files : Option Files) (command : Play) (design : Design) (commands : List SeenCommand) (text icl device tables : List ℕ) → AreLoaded files command text icl device tables → svf text ≡ Ok commands → AreOfDesign design icl device tables command → IfSome files (λ f. ArePlayable f command design commands)
-playable_now None command design commands text icl device tables loaded read of = tt
-playable_now (Some f) command design commands text icl device tables loaded read of =
-    record { short = loaded.4; read = subst (λ (t : List ℕ). svf t ≡ Ok commands) loaded.0 read; of = of_files design f command icl device tables loaded.1 loaded.2 loaded.3 of }
+pub playable_now : (files : Option Files) (command : Play) (design : Design) (commands : List SeenCommand) (text icl device tables : List ℕ) → AreLoaded files command text icl device tables → IsIclText icl → svf text ≡ Ok commands → AreOfDesign design icl device tables command → IfSome files (λ f. ArePlayable f command design commands)
+playable_now None command design commands text icl device tables loaded design_of read of = tt
+playable_now (Some f) command design commands text icl device tables loaded design_of read of =
+    record { short = loaded.4; icl = subst IsIclText loaded.1 design_of; read = subst (λ (t : List ℕ). svf t ≡ Ok commands) loaded.0 read; of = of_files design f command icl device tables loaded.1 loaded.2 loaded.3 of }
 
 pub some_playable : (files : Option Files) (command : Play) (design : Design) (commands : List SeenCommand) → IfSome files (λ f. ArePlayable f command design commands) → IfSome files (λ f. IsPlayable f command)
 some_playable None command design commands playable = tt
@@ -57,11 +58,14 @@ part_played (Some f) command design commands old new playable part = inr (design
 
 -- the texts were refused
 pub texts_stop : (files : Option Files) (command : Play) (load : Counts) (output : Faults) (text icl device tables : List ℕ) (stop : Stop) → AreLoaded files command text icl device tables → IsPlayTextStop text icl device tables command stop → IsPlayStop files command load output stop
+texts_stop None command load output text icl device tables (Refuses (Icl cause at)) loaded is = tt
+texts_stop (Some f) command load output text icl device tables (Refuses (Icl cause at)) loaded is = (loaded.4, subst (λ (t : List ℕ). IsNoIcl t cause at) loaded.1 is)
 texts_stop None command load output text icl device tables (Refuses (Svf cause at)) loaded is = tt
-texts_stop (Some f) command load output text icl device tables (Refuses (Svf cause at)) loaded is = (loaded.4, subst (λ (t : List ℕ). IsRefused t cause at) loaded.0 is)
+texts_stop (Some f) command load output text icl device tables (Refuses (Svf cause at)) loaded is =
+    (loaded.4, subst IsIclText loaded.1 is.0, subst (λ (t : List ℕ). IsRefused t cause at) loaded.0 is.1)
 texts_stop None command load output text icl device tables (Refuses FirstForm) loaded is = tt
 texts_stop (Some f) command load output text icl device tables (Refuses FirstForm) loaded is =
-    (loaded.4, (is.0.0, subst (λ (t : List ℕ). svf t ≡ Ok is.0.0) loaded.0 is.0.1), λ design of. is.1 design (of_texts design f command icl device tables loaded.1 loaded.2 loaded.3 of))
+    (loaded.4, subst IsIclText loaded.1 is.0, (is.1.0, subst (λ (t : List ℕ). svf t ≡ Ok is.1.0) loaded.0 is.1.1), λ design of. is.2 design (of_texts design f command icl device tables loaded.1 loaded.2 loaded.3 of))
 texts_stop files command load output text icl device tables NoMemory loaded is = tt
 texts_stop files command load output text icl device tables (Refuses (Long name)) loaded is = absurd is
 texts_stop files command load output text icl device tables (Refuses (Unapplied line)) loaded is = absurd is

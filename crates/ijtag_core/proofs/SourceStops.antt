@@ -6,7 +6,7 @@ use Rattle.ij_io.specs.Files.{Files, bytes_of}
 use Rattle.ijtag_core.specs.Command.{Load}
 use Rattle.ijtag_core.specs.Loaded.{first_long, IsReached}
 use Rattle.ijtag_core.specs.Sources.{IsSourceStop}
-use Rattle.ijtag_core.specs.Stops.{Stop, Usage, Refuses, ReadFault, WriteFault, OutputFault, NoMemory, Long, FirstForm, Unapplied, Svf}
+use Rattle.ijtag_core.specs.Stops.{Stop, Usage, Refuses, ReadFault, WriteFault, OutputFault, NoMemory, Long, FirstForm, Unapplied, Icl, Svf}
 
 passed : {A : Type 0} (test : Bool) (x : A) (rest : Option A) → cond test (Some x) None ≡ None → cond test (Some x) rest ≡ rest
 passed true x rest none = absurd (cc)
@@ -48,6 +48,7 @@ stop_first files load rest before now (ReadFault found) is =
 stop_first files load rest before now NoMemory is = is
 stop_first files load rest before now (Refuses FirstForm) is = is
 stop_first files load rest before now (Refuses (Unapplied line)) is = is
+stop_first files load rest before now (Refuses (Icl cause at)) is = is
 stop_first files load rest before now (Refuses (Svf cause at)) is = is
 stop_first files load rest before now Usage is = is
 stop_first files load rest before now OutputFault is = is
@@ -67,6 +68,7 @@ stop_later files load rest before mid now (ReadFault found) short later is =
 stop_later files load rest before mid now NoMemory short later is = is
 stop_later files load rest before mid now (Refuses FirstForm) short later is = is
 stop_later files load rest before mid now (Refuses (Unapplied line)) short later is = is
+stop_later files load rest before mid now (Refuses (Icl cause at)) short later is = is
 stop_later files load rest before mid now (Refuses (Svf cause at)) short later is = is
 stop_later files load rest before mid now Usage short later is = is
 stop_later files load rest before mid now OutputFault short later is = is

@@ -1,6 +1,7 @@
 pub mod Command
 pub mod Stops
 pub mod Loaded
+pub mod IclText
 pub mod Accepted
 pub mod Outcome
 pub mod Codes

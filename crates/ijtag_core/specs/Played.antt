@@ -13,8 +13,9 @@ use Rattle.first_form.specs.declared.form.Design.{Design}
 use Rattle.register_compiler.specs.Procedure.{device_of}
 use Rattle.ijtag_core.specs.Command.{Play, play_loads, names_of}
 use Rattle.ijtag_core.specs.Compiled.{Counts}
+use Rattle.ijtag_core.specs.IclText.{IsIclText, IsNoIcl}
 use Rattle.ijtag_core.specs.Loaded.{first_long, IsReached}
-use Rattle.ijtag_core.specs.Stops.{Stop, Usage, Refuses, ReadFault, WriteFault, OutputFault, NoMemory, Refusal, Long, FirstForm, Unapplied, Svf}
+use Rattle.ijtag_core.specs.Stops.{Stop, Usage, Refuses, ReadFault, WriteFault, OutputFault, NoMemory, Refusal, Long, FirstForm, Unapplied, Icl, Svf}
 use Rattle.ijtag_core.specs.declared.status.Status.{Status}
 use Rattle.ijtag_core.specs.declared.status.Status.TheVariants.{Good, Differs}
 
@@ -28,19 +29,23 @@ pub record AreOfDesign (design : Design) (icl device tables : List ℕ) (command
 abbrev pub FilesAreOfDesign : Files → Play → Design → Type 0
 FilesAreOfDesign files command design = AreOfDesign design (bytes_of files command.icl) (bytes_of files command.device) (bytes_of files command.tables) command
 
--- and none of them is long, and the SVF file has these commands
+-- and none of them is long, the ICL text is one, and the SVF file has these commands
 pub record ArePlayable (files : Files) (command : Play) (design : Design) (commands : List SeenCommand) : Type 0 where
   pub short : first_long files (play_loads command) ≡ None
+  pub icl : IsIclText (bytes_of files command.icl)
   pub read : svf (bytes_of files command.svf) ≡ Ok commands
   pub of : FilesAreOfDesign files command design
 
--- the first refusal that the files meet: a long file, then a command of the SVF file, then texts or a top module that aren't
--- of the first form
+-- the first refusal that the files meet: a long file, then an ICL text that isn't one, then a command of the SVF file, then texts or
+-- a top module that aren't of the first form
 abbrev pub IsPlayRefusal : Files → Play → Refusal → Type 0
 IsPlayRefusal files command (Long name) = first_long files (play_loads command) ≡ Some name
-IsPlayRefusal files command (Svf cause at) = (first_long files (play_loads command) ≡ None) × IsRefused (bytes_of files command.svf) cause at
+IsPlayRefusal files command (Icl cause at) = (first_long files (play_loads command) ≡ None) × IsNoIcl (bytes_of files command.icl) cause at
+IsPlayRefusal files command (Svf cause at) =
+    (first_long files (play_loads command) ≡ None) × IsIclText (bytes_of files command.icl) × IsRefused (bytes_of files command.svf) cause at
 IsPlayRefusal files command FirstForm =
-    (first_long files (play_loads command) ≡ None) × ((commands : List SeenCommand) × (svf (bytes_of files command.svf) ≡ Ok commands)) × ((design : Design) → ¬ FilesAreOfDesign files command design)
+    (first_long files (play_loads command) ≡ None) × IsIclText (bytes_of files command.icl) × ((commands : List SeenCommand) × (svf (bytes_of files command.svf) ≡ Ok commands))
+    × ((design : Design) → ¬ FilesAreOfDesign files command design)
 IsPlayRefusal files command (Unapplied line) = ⊥
 
 -- how a play ends, by its compares that differ

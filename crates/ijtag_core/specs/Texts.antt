@@ -7,14 +7,16 @@ use Rattle.first_form.specs.declared.form.Design.{Design}
 use Rattle.first_form.specs.Texts.{SeenForm}
 use Rattle.register_compiler.specs.Procedure.{unapplied_line}
 use Rattle.ijtag_core.specs.Accepted.{AreOf}
+use Rattle.ijtag_core.specs.IclText.{IsIclText, IsNoIcl}
 use Rattle.ijtag_core.specs.Played.{AreOfDesign}
 use Rattle.ijtag_core.specs.Command.{Compile, Play}
-use Rattle.ijtag_core.specs.Stops.{Stop, Usage, Refuses, ReadFault, WriteFault, OutputFault, NoMemory, Long, FirstForm, Unapplied, Svf}
+use Rattle.ijtag_core.specs.Stops.{Stop, Usage, Refuses, ReadFault, WriteFault, OutputFault, NoMemory, Long, FirstForm, Unapplied, Icl, Svf}
 
--- they aren't those of any form, or a command has no iApply behind it, or memory was wanting
+-- the ICL text isn't one, or they aren't those of any form, or a command has no iApply behind it, or memory was wanting
 abbrev pub IsTextStop : List ℕ → List ℕ → List ℕ → Compile → Stop → Type 0
-IsTextStop icl pdl device command (Refuses FirstForm) = (form : SeenForm) → ¬ AreOf form icl pdl device command
-IsTextStop icl pdl device command (Refuses (Unapplied line)) = ((form : SeenForm) × AreOf form icl pdl device command) × ((form : SeenForm) → AreOf form icl pdl device command → unapplied_line form.lines ≡ Some line)
+IsTextStop icl pdl device command (Refuses (Icl cause at)) = IsNoIcl icl cause at
+IsTextStop icl pdl device command (Refuses FirstForm) = IsIclText icl × ((form : SeenForm) → ¬ AreOf form icl pdl device command)
+IsTextStop icl pdl device command (Refuses (Unapplied line)) = IsIclText icl × ((form : SeenForm) × AreOf form icl pdl device command) × ((form : SeenForm) → AreOf form icl pdl device command → unapplied_line form.lines ≡ Some line)
 IsTextStop icl pdl device command NoMemory = Unit {0}
 IsTextStop icl pdl device command (Refuses (Long name)) = ⊥
 IsTextStop icl pdl device command (Refuses (Svf cause at)) = ⊥
@@ -23,10 +25,24 @@ IsTextStop icl pdl device command (WriteFault name) = ⊥
 IsTextStop icl pdl device command OutputFault = ⊥
 IsTextStop icl pdl device command Usage = ⊥
 
+-- an ICL text isn't one, or memory was wanting
+abbrev pub IsIclStop : List ℕ → Stop → Type 0
+IsIclStop text (Refuses (Icl cause at)) = IsNoIcl text cause at
+IsIclStop text NoMemory = Unit {0}
+IsIclStop text (Refuses (Svf cause at)) = ⊥
+IsIclStop text (Refuses FirstForm) = ⊥
+IsIclStop text (Refuses (Unapplied line)) = ⊥
+IsIclStop text (Refuses (Long name)) = ⊥
+IsIclStop text (ReadFault name) = ⊥
+IsIclStop text (WriteFault name) = ⊥
+IsIclStop text OutputFault = ⊥
+IsIclStop text Usage = ⊥
+
 -- the SVF text is refused, or memory was wanting
 abbrev pub IsSvfStop : List ℕ → Stop → Type 0
 IsSvfStop text (Refuses (Svf cause at)) = IsRefused text cause at
 IsSvfStop text NoMemory = Unit {0}
+IsSvfStop text (Refuses (Icl cause at)) = ⊥
 IsSvfStop text (Refuses FirstForm) = ⊥
 IsSvfStop text (Refuses (Unapplied line)) = ⊥
 IsSvfStop text (Refuses (Long name)) = ⊥
@@ -39,6 +55,7 @@ IsSvfStop text Usage = ⊥
 abbrev pub IsChipStop : List ℕ → List ℕ → List ℕ → Play → Stop → Type 0
 IsChipStop icl device tables command (Refuses FirstForm) = (design : Design) → ¬ AreOfDesign design icl device tables command
 IsChipStop icl device tables command NoMemory = Unit {0}
+IsChipStop icl device tables command (Refuses (Icl cause at)) = ⊥
 IsChipStop icl device tables command (Refuses (Svf cause at)) = ⊥
 IsChipStop icl device tables command (Refuses (Unapplied line)) = ⊥
 IsChipStop icl device tables command (Refuses (Long name)) = ⊥
@@ -47,11 +64,12 @@ IsChipStop icl device tables command (WriteFault name) = ⊥
 IsChipStop icl device tables command OutputFault = ⊥
 IsChipStop icl device tables command Usage = ⊥
 
--- the SVF text is refused, or it is read and the other texts aren't those of any design, or memory was wanting
+-- the ICL text isn't one, or the SVF text is refused, or both are read and the texts aren't those of any design, or memory was wanting
 abbrev pub IsPlayTextStop : List ℕ → List ℕ → List ℕ → List ℕ → Play → Stop → Type 0
-IsPlayTextStop text icl device tables command (Refuses (Svf cause at)) = IsRefused text cause at
+IsPlayTextStop text icl device tables command (Refuses (Icl cause at)) = IsNoIcl icl cause at
+IsPlayTextStop text icl device tables command (Refuses (Svf cause at)) = IsIclText icl × IsRefused text cause at
 IsPlayTextStop text icl device tables command (Refuses FirstForm) =
-    ((commands : List SeenCommand) × (svf text ≡ Ok commands)) × ((design : Design) → ¬ AreOfDesign design icl device tables command)
+    IsIclText icl × ((commands : List SeenCommand) × (svf text ≡ Ok commands)) × ((design : Design) → ¬ AreOfDesign design icl device tables command)
 IsPlayTextStop text icl device tables command NoMemory = Unit {0}
 IsPlayTextStop text icl device tables command (Refuses (Unapplied line)) = ⊥
 IsPlayTextStop text icl device tables command (Refuses (Long name)) = ⊥

@@ -3,6 +3,7 @@
 
 mod accept;
 mod compile;
+mod icl;
 mod limits;
 mod memory;
 mod play;

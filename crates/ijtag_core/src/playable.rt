@@ -1,10 +1,12 @@
 // What the texts of a play are accepted as.
-ghost use Rattle.std.specs.Prelude.{◌≡◌, ◌≤◌, length, IfOk, IfErr, Ok};
+ghost use Rattle.std.specs.Prelude.{◌≡◌, ◌≤◌, length, OnOk, IfOk, IfErr, Ok};
 ghost use Rattle.svf_reader.specs.Meaning.{svf};
+ghost use Rattle.ijtag_core.specs.IclText.{IsIclText};
 ghost use Rattle.ijtag_core.specs.Played.{AreOfDesign};
 ghost use Rattle.ijtag_core.specs.Seen.{seen_play, seen_stop};
 ghost use Rattle.ijtag_core.specs.Texts.{IsSvfStop, IsChipStop, IsPlayTextStop};
 
+use crate::icl::check_icl;
 use crate::refusal::{Refusal, SvfCause};
 use crate::sources::PlaySources;
 use crate::stop::Stop;
@@ -61,17 +63,20 @@ fn read_chip<'a>(
     Ok(design)
 }
 
-/// The commands and the design of the texts: the SVF text is read first, then the others are recognized.
+/// The commands and the design of the texts: the ICL text is checked first, then the SVF text is read, then the others are recognized.
 pub(crate) fn accept_play<'a>(
     alloc: Global,
     words: &PlayWords<'a>,
     sources: &PlaySources,
 ) -> Result<Playable, Stop<'a>>
-    requires { length sources.now.svf.items ≤ 134217728 }
+    requires svf { length sources.now.svf.items ≤ 134217728 }
+    requires icl { length sources.now.icl.items ≤ 134217728 }
+    ensures icl { OnOk result (IsIclText sources.now.icl.items) }
     ensures read { IfOk result (λ playable. svf sources.now.svf.items ≡ Ok playable.commands) }
     ensures design { IfOk result (λ playable. AreOfDesign playable.design sources.now.icl.items sources.now.device.items sources.now.tables.items (seen_play words.now)) }
     ensures stop { IfErr result (λ stop. IsPlayTextStop sources.now.svf.items sources.now.icl.items sources.now.device.items sources.now.tables.items (seen_play words.now) (seen_stop stop)) }
 {
+    check_icl(alloc, &sources.icl)?;
     let commands = read_commands(alloc, &sources.svf)?;
     let design = read_chip(alloc, words, sources)?;
     Ok(Playable { design, commands })

@@ -69,6 +69,7 @@ pub(crate) fn load_sources<'a, S: Shelf>(
     shelf: &mut S,
 ) -> Result<Sources, Stop<'a>>
     ensures icl { IfOk result (λ sources. IfSome (S.files shelf.old) (λ f. sources.icl.items ≡ bytes_of f words.now.icl.now)) }
+    ensures fits { IfOk result (λ sources. length sources.icl.items ≤ SOURCE_LIMIT) }
     ensures pdl { IfOk result (λ sources. IfSome (S.files shelf.old) (λ f. sources.pdl.items ≡ bytes_of f words.now.pdl.now)) }
     ensures device { IfOk result (λ sources. IfSome (S.files shelf.old) (λ f. sources.device.items ≡ bytes_of f words.now.device.now)) }
     ensures short { IfOk result (λ _. IfSome (S.files shelf.old) (λ f. first_long f (compile_loads (seen_words words.now)) ≡ None)) }
@@ -91,6 +92,7 @@ pub(crate) fn load_play<'a, S: Shelf>(
     ensures svf { IfOk result (λ sources. IfSome (S.files shelf.old) (λ f. sources.svf.items ≡ bytes_of f words.now.svf.now)) }
     ensures fits { IfOk result (λ sources. length sources.svf.items ≤ SVF_LIMIT) }
     ensures icl { IfOk result (λ sources. IfSome (S.files shelf.old) (λ f. sources.icl.items ≡ bytes_of f words.now.icl.now)) }
+    ensures icl_fits { IfOk result (λ sources. length sources.icl.items ≤ SOURCE_LIMIT) }
     ensures device { IfOk result (λ sources. IfSome (S.files shelf.old) (λ f. sources.device.items ≡ bytes_of f words.now.device.now)) }
     ensures tables { IfOk result (λ sources. IfSome (S.files shelf.old) (λ f. sources.tables.items ≡ bytes_of f words.now.tables.now)) }
     ensures short { IfOk result (λ _. IfSome (S.files shelf.old) (λ f. first_long f (play_loads (seen_play words.now)) ≡ None)) }

@@ -17,7 +17,7 @@ returns-in-Ok-clause-done g c =
     let command : Compile = seen_words c.args.words.now in
     let form : SeenForm = seen_form c.in_ok-form.form in
     let loaded = c.in_ok-sources.ensures in
-    let accepted = accepted_now files command form _ _ _ loaded.icl loaded.pdl loaded.device loaded.short c.in_ok-form.ensures.form c.in_ok-form.ensures.applied in
+    let accepted = accepted_now files command form _ _ _ loaded.icl loaded.pdl loaded.device loaded.short c.in_ok-form.ensures.icl c.in_ok-form.ensures.form c.in_ok-form.ensures.applied in
     let written = c.in-Ok.ensures.whole ∙ ap (λ (fs : Option Files). option_map (λ _. Some (svf_text form)) fs) loaded.files in
     compiled files command form _ accepted written c.in-Ok.ensures.right
 
@@ -28,7 +28,7 @@ returns-in-Err-Failed-clause-stop g c =
     let form : SeenForm = seen_form c.in_ok-form.form in
     let name : List ℕ = c.args.words.now.svf.now in
     let loaded = c.in_ok-sources.ensures in
-    let accepted = accepted_now files command form _ _ _ loaded.icl loaded.pdl loaded.device loaded.short c.in_ok-form.ensures.form c.in_ok-form.ensures.applied in
+    let accepted = accepted_now files command form _ _ _ loaded.icl loaded.pdl loaded.device loaded.short c.in_ok-form.ensures.icl c.in_ok-form.ensures.form c.in_ok-form.ensures.applied in
     let rose : Rose (g.S.Shelf.store_faults c.load_sources.new.shelf name) (g.S.Shelf.store_faults c.write_svf.new.shelf name) = c.write_svf.ensures.cause.failed (search rules) in
     (refl, subst (λ (n : ℕ). Rose n (g.S.Shelf.store_faults c.write_svf.new.shelf name)) (loaded.stores name) rose, some_accepted files command form accepted)
 
@@ -39,7 +39,7 @@ returns-in-Err-Failed-clause-part g c =
     let form : SeenForm = seen_form c.in_ok-form.form in
     let name : List ℕ = c.args.words.now.svf.now in
     let loaded = c.in_ok-sources.ensures in
-    let accepted = accepted_now files command form _ _ _ loaded.icl loaded.pdl loaded.device loaded.short c.in_ok-form.ensures.form c.in_ok-form.ensures.applied in
+    let accepted = accepted_now files command form _ _ _ loaded.icl loaded.pdl loaded.device loaded.short c.in_ok-form.ensures.icl c.in_ok-form.ensures.form c.in_ok-form.ensures.applied in
     let part : IsPart files (file_at files name) (file_at (g.S.Shelf.files c.write_svf.new.shelf) name) (svf_text form) =
     subst (λ (fs : Option Files). IsPart fs (file_at fs name) (file_at (g.S.Shelf.files c.write_svf.new.shelf) name) (svf_text form)) loaded.files c.in-Err-Failed.ensures.part in
     part_compiled files command form (file_at files name) (file_at (g.S.Shelf.files c.write_svf.new.shelf) name) accepted part
@@ -51,7 +51,7 @@ returns-clause-part g c =
     let form : SeenForm = seen_form c.in_ok-form.form in
     let name : List ℕ = c.args.words.now.svf.now in
     let loaded = c.in_ok-sources.ensures in
-    let accepted = accepted_now files command form _ _ _ loaded.icl loaded.pdl loaded.device loaded.short c.in_ok-form.ensures.form c.in_ok-form.ensures.applied in
+    let accepted = accepted_now files command form _ _ _ loaded.icl loaded.pdl loaded.device loaded.short c.in_ok-form.ensures.icl c.in_ok-form.ensures.form c.in_ok-form.ensures.applied in
     let part : IsPart files (file_at files name) (file_at (g.S.Shelf.files c.write_svf.new.shelf) name) (svf_text form) =
     subst (λ (fs : Option Files). IsPart fs (file_at fs name) (file_at (g.S.Shelf.files c.write_svf.new.shelf) name) (svf_text form)) loaded.files c.in-Err-OutOfMemory.ensures.part in
     part_compiled files command form (file_at files name) (file_at (g.S.Shelf.files c.write_svf.new.shelf) name) accepted part

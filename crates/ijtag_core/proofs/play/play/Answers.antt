@@ -35,7 +35,7 @@ returns-in-Ok-clause-done g c =
     let command : Play = seen_play c.args.words.now in
     let p = c.in_ok-playable.playable in
     let l = c.in_ok-sources.ensures in
-    let playable = playable_now files command p.design p.commands _ _ _ _ (l.svf, l.icl, l.device, l.tables, l.short) c.in_ok-playable.ensures.read c.in_ok-playable.ensures.design in
+    let playable = playable_now files command p.design p.commands _ _ _ _ (l.svf, l.icl, l.device, l.tables, l.short) c.in_ok-playable.ensures.icl c.in_ok-playable.ensures.read c.in_ok-playable.ensures.design in
     played files command p.design p.commands (seen_verdict c.in-Ok.verdict) (g.O.Sink.taken c.args.out.now) (g.O.Sink.taken c.put_report.new.out) playable c.in-Ok.ensures.printed c.in-Ok.ensures.verdict
 
 pub returns-in-Err-Failed-clause-stop : goal.returns-in-Err-Failed-clause-stop
@@ -44,7 +44,7 @@ returns-in-Err-Failed-clause-stop g c =
     let command : Play = seen_play c.args.words.now in
     let p = c.in_ok-playable.playable in
     let l = c.in_ok-sources.ensures in
-    let playable = playable_now files command p.design p.commands _ _ _ _ (l.svf, l.icl, l.device, l.tables, l.short) c.in_ok-playable.ensures.read c.in_ok-playable.ensures.design in
+    let playable = playable_now files command p.design p.commands _ _ _ _ (l.svf, l.icl, l.device, l.tables, l.short) c.in_ok-playable.ensures.icl c.in_ok-playable.ensures.read c.in_ok-playable.ensures.design in
     let rose : Rose (g.O.Sink.faults c.args.out.now) (g.O.Sink.faults c.put_report.new.out) = c.put_report.ensures.cause.failed (search rules) in
     (rose, some_playable files command p.design p.commands playable)
 
@@ -54,7 +54,7 @@ returns-in-Err-Failed-clause-part g c =
     let command : Play = seen_play c.args.words.now in
     let p = c.in_ok-playable.playable in
     let l = c.in_ok-sources.ensures in
-    let playable = playable_now files command p.design p.commands _ _ _ _ (l.svf, l.icl, l.device, l.tables, l.short) c.in_ok-playable.ensures.read c.in_ok-playable.ensures.design in
+    let playable = playable_now files command p.design p.commands _ _ _ _ (l.svf, l.icl, l.device, l.tables, l.short) c.in_ok-playable.ensures.icl c.in_ok-playable.ensures.read c.in_ok-playable.ensures.design in
     part_played files command p.design p.commands (g.O.Sink.taken c.args.out.now) (g.O.Sink.taken c.put_report.new.out) playable c.in-Err-Failed.ensures.part
 
 pub returns-clause-part : goal.returns-clause-part
@@ -63,5 +63,5 @@ returns-clause-part g c =
     let command : Play = seen_play c.args.words.now in
     let p = c.in_ok-playable.playable in
     let l = c.in_ok-sources.ensures in
-    let playable = playable_now files command p.design p.commands _ _ _ _ (l.svf, l.icl, l.device, l.tables, l.short) c.in_ok-playable.ensures.read c.in_ok-playable.ensures.design in
+    let playable = playable_now files command p.design p.commands _ _ _ _ (l.svf, l.icl, l.device, l.tables, l.short) c.in_ok-playable.ensures.icl c.in_ok-playable.ensures.read c.in_ok-playable.ensures.design in
     part_played files command p.design p.commands (g.O.Sink.taken c.args.out.now) (g.O.Sink.taken c.put_report.new.out) playable c.in-Err-OutOfMemory.ensures.part
