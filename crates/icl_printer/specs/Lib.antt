@@ -1,0 +1,3 @@
+pub mod Layout
+pub mod Canonical
+pub mod Pieces
