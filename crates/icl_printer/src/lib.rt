@@ -12,6 +12,8 @@ mod parts;
 mod properties;
 mod put;
 mod signals;
+#[cfg(test)]
+mod tests;
 mod token;
 
 pub use design::put_design;
