@@ -1,3 +1,4 @@
 pub mod Layout
 pub mod Canonical
 pub mod Pieces
+pub mod Again
