@@ -17,11 +17,11 @@ pub all_append : (x y : List Spelling) → AllSpelled x → AllSpelled y → All
 all_append [] y p q = q
 all_append (s ∷ x) y p q = (p.0, all_append x y p.1 q)
 
-all_front : (x y : List Tok) → AllSpelled (spellings (x ++ y)) → AllSpelled (spellings x)
+pub all_front : (x y : List Tok) → AllSpelled (spellings (x ++ y)) → AllSpelled (spellings x)
 all_front [] y p = tt
 all_front (t ∷ x) y p = (p.0, all_front x y p.1)
 
-all_back : (x y : List Tok) → AllSpelled (spellings (x ++ y)) → AllSpelled (spellings y)
+pub all_back : (x y : List Tok) → AllSpelled (spellings (x ++ y)) → AllSpelled (spellings y)
 all_back [] y p = p
 all_back (t ∷ x) y p = all_back x y p.1
 
@@ -62,7 +62,7 @@ p_turn {A} {A'} {B} {B'} {S} {next} {bare} {bare'} {x} {y} {a} {b} p q = record 
       (second.0, (c.front, c.back, first.0, c.whole, first.1, second.1), second.2);
 }
 
-nothing_spelled : (us : List Tok) → spellings us ≡ [] → us ≡ []
+pub nothing_spelled : (us : List Tok) → spellings us ≡ [] → us ≡ []
 nothing_spelled [] e = refl
 nothing_spelled (t ∷ us) e = absurd (cc)
 
@@ -159,3 +159,11 @@ pub turned : {A B : Type 0} (S : Of A) (next : A → Of B) (ts : List Tok) (b : 
 turned S next ts b good h =
     let both : AllSpelled (spellings (h.0 ++ h.1)) = subst (λ (us : List Tok). AllSpelled (spellings us)) h.3 good in
     record { front = h.0; back = h.1; value = h.2; derived = h.4; good = all_front h.0 h.1 both; rest = h.5; good_rest = all_back h.0 h.1 both }
+
+-- a token that is spelled so
+abbrev pub placed : Spelling → Place → Tok
+placed s at = record { kind = s.kind; at = at; text = s.text }
+
+pub p_token : {A A' : Type 0} {f : Tok → Option A} {bare : A → A'} (s : Spelling) (a : A) (x : Place → A) → IsSpelled s → ((at : Place) → f (placed s at) ≡ Some (x at)) → ((at : Place) → bare (x at) ≡ bare a)
+    → Printed (one f) bare (s ∷ []) a
+p_token {A} {A'} {f} s a x ok takes same = p_one s a ok (λ t e. (x t.at, ap (λ (r : Spelling). f (placed r t.at)) e ∙ takes t.at, same t.at))
