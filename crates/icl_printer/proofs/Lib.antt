@@ -6,3 +6,4 @@ pub mod Chains
 pub mod Bytes
 pub mod Leaves
 pub mod Formulas
+pub mod Derived
