@@ -7,3 +7,4 @@ pub mod Bytes
 pub mod Leaves
 pub mod Formulas
 pub mod Derived
+pub mod SignalLaws

@@ -167,3 +167,9 @@ placed s at = record { kind = s.kind; at = at; text = s.text }
 pub p_token : {A A' : Type 0} {f : Tok → Option A} {bare : A → A'} (s : Spelling) (a : A) (x : Place → A) → IsSpelled s → ((at : Place) → f (placed s at) ≡ Some (x at)) → ((at : Place) → bare (x at) ≡ bare a)
     → Printed (one f) bare (s ∷ []) a
 p_token {A} {A'} {f} s a x ok takes same = p_one s a ok (λ t e. (x t.at, ap (λ (r : Spelling). f (placed r t.at)) e ∙ takes t.at, same t.at))
+
+-- the tokens of both parts are pieces
+pub halves : (front back ts : List Tok) → ts ≡ front ++ back → AllSpelled (spellings ts) → (AllSpelled (spellings front)) × (AllSpelled (spellings back))
+halves front back ts is good =
+    let both : AllSpelled (spellings (front ++ back)) = subst (λ (us : List Tok). AllSpelled (spellings us)) is good in
+    (all_front front back both, all_back front back both)
