@@ -8,3 +8,5 @@ pub mod Leaves
 pub mod Formulas
 pub mod Derived
 pub mod SignalLaws
+pub mod KeptLoops
+pub mod BodyLaws
