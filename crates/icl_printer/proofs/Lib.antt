@@ -10,3 +10,4 @@ pub mod Derived
 pub mod SignalLaws
 pub mod KeptLoops
 pub mod BodyLaws
+pub mod ItemLaws
