@@ -133,7 +133,7 @@ mux_law ts m good h =
 -- ---- instances
 
 
-attribute_said_law : (ts : List Tok) (a : AttributeSaid) → AllSpelled (spellings ts) → attribute_said.derives ts a
+pub attribute_said_law : (ts : List Tok) (a : AttributeSaid) → AllSpelled (spellings ts) → attribute_said.derives ts a
     → Printed attribute_said (λ z. let b : AttributeSaid = record { name = z.name; value = option_map bare_formula z.value } in b) (word a.name ∷ if_there (behind 61 formula_tokens) a.value) a
 unfolding attribute_said
 attribute_said_law ts a good h =

@@ -11,3 +11,5 @@ pub mod SignalLaws
 pub mod KeptLoops
 pub mod BodyLaws
 pub mod ItemLaws
+pub mod InstanceLaws
+pub mod DesignLaws
