@@ -113,7 +113,7 @@ inside_quotes t =
 
 -- ---- which piece it can be
 
-abbrev is_of : (Kind → Bool) → Option Kind → Bool
+abbrev pub is_of : (Kind → Bool) → Option Kind → Bool
 is_of p None = false
 is_of p (Some k) = p k
 
@@ -122,7 +122,7 @@ module _ (p : Kind → Bool) where
   cond_never true x y a b = a
   cond_never false x y a b = b
 
-  run_never : (class : ℕ → Bool) (k : Kind) → p k ≡ false → (bs : List ℕ) → is_of p (run class k bs) ≡ false
+  pub run_never : (class : ℕ → Bool) (k : Kind) → p k ≡ false → (bs : List ℕ) → is_of p (run class k bs) ≡ false
   run_never class k never [] = never
   run_never class k never (b ∷ bs) = cond_never (class b) (run class k bs) None (run_never class k never bs) refl
 
@@ -152,7 +152,7 @@ module _ (p : Kind → Bool) where
   quoted_never never true (b ∷ bs) = quoted_never never false bs
   quoted_never never false (b ∷ bs) = cond_never (b == 34) (ends (Is Quoted) bs) (quoted (b == 92) bs) (ends_never (Is Quoted) never bs) (quoted_never never (b == 92) bs)
 
-  block_never : p Gap ≡ false → (star : Bool) (bs : List ℕ) → is_of p (block star bs) ≡ false
+  pub block_never : p Gap ≡ false → (star : Bool) (bs : List ℕ) → is_of p (block star bs) ≡ false
   block_never never star [] = refl
   block_never never true (b ∷ bs) = cond_never (b == 47) (ends Gap bs) (block (b == 42) bs) (ends_never Gap never bs) (block_never never (b == 42) bs)
   block_never never false (b ∷ bs) = block_never never (b == 42) bs

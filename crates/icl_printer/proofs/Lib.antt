@@ -13,3 +13,5 @@ pub mod BodyLaws
 pub mod ItemLaws
 pub mod InstanceLaws
 pub mod DesignLaws
+pub mod Stops
+pub mod Layouts

@@ -8,6 +8,7 @@ mod bodies;
 mod design;
 mod expressions;
 mod items;
+pub mod laws;
 mod parts;
 mod properties;
 mod put;
