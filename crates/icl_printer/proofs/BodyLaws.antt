@@ -2,7 +2,6 @@
 use Rattle.std.proofs.Common.{◌≡◌, ◌==◌, ◌≤◌, ℕ, Bool, true, false, not, cond, List, [], ◌∷◌, ◌++◌, map, Option, Some, None, refl, sym, ap, ◌∙◌, subst, append-nil, inl, inr, decimal}
 use Rattle.std.specs.Prelude.{◌&&◌}
 use Rattle.std.specs.Option.{option_map}
-use Rattle.ij_text.specs.declared.Place.{Place}
 use Rattle.grammar.specs.Symbol.{one, ◌>>=◌, give, none, repeat}
 use Rattle.icl_lexer.specs.declared.token.TokenKind.{TokenKind}
 use Rattle.icl_lexer.specs.declared.token.TokenKind.TheVariants.{Word, Decimal, Sized, Quoted, Param, Mark}
@@ -10,14 +9,14 @@ use Rattle.icl_syntax.specs.declared.words.Owner.{Owner}
 use Rattle.icl_syntax.specs.declared.words.Owner.TheVariants.{ScanIn, ScanOut, DataIn, DataOut, Control, Register, Alias}
 use Rattle.icl_syntax.specs.declared.words.PropWord.{PropWord}
 use Rattle.icl_syntax.specs.declared.words.PropWord.TheVariants.{Source, LaunchEdge, DefaultLoadValue, RefEnum, ActivePolarity, ScanInSource, CaptureSource, ResetValue, AccessTogether, Attribute}
-use Rattle.icl_syntax.specs.Tokens.{Tok, if_word, decimal_of, decimal_from, decimal_at}
+use Rattle.icl_syntax.specs.Tokens.{Tok, decimal_from, decimal_at}
 use Rattle.icl_syntax.specs.Words.{prop_word, prop_named}
-use Rattle.icl_syntax.specs.Values.{Formula, Signal, Property, ASource, ALaunchEdge, ALoadValue, ARefEnum, APolarity, AScanInSource, ACaptureSource, AResetValue, ATogether}
-use Rattle.icl_syntax.specs.Grammar.{Of, name, value, sig, sigs, sources, prop_behind, property, with_property, body, body_end, lacks, takes, stands, is_prop, free_word, free_prop_at, prop_word_at, decimal_token, attribute_said, mark as a_mark}
+use Rattle.icl_syntax.specs.Values.{Property, ASource, ALaunchEdge, ALoadValue, ARefEnum, APolarity, AScanInSource, ACaptureSource, AResetValue, ATogether}
+use Rattle.icl_syntax.specs.Grammar.{Of, name, value, sig, sigs, sources, prop_behind, property, with_property, body, body_end, lacks, takes, stands, is_prop, free_word, free_prop_at, prop_word_at, decimal_token, mark as a_mark}
 use Rattle.icl_printer.specs.Layout.{Spelling, word, mark}
 use Rattle.icl_printer.specs.Canonical.{in_turn, braced, value_tokens, signal_tokens, signals_tokens, name_tokens, property_tokens}
-use Rattle.icl_printer.specs.Again.{spelling_of, spellings, IsSpelled, AllSpelled, nowhere, bare_value, bare_signal, bare_signals, bare_property}
-use Rattle.icl_printer.proofs.Printed.{Printed, Law, p_turn, p_last, p_give, p_left, p_right, p_mark, p_token, itself, no_place, name_law, single, halves}
+use Rattle.icl_printer.specs.Again.{spellings, IsSpelled, AllSpelled, nowhere, bare_value, bare_signal, bare_signals, bare_property}
+use Rattle.icl_printer.proofs.Printed.{Printed, Law, p_turn, p_last, p_give, p_left, p_right, p_mark, p_token, itself, name_law, single, halves}
 use Rattle.icl_printer.proofs.Bytes.{decimal_kind, decimal_again, small_is}
 use Rattle.icl_printer.proofs.SignalLaws.{value_law, sig_law, sigs_law}
 use Rattle.icl_printer.proofs.KeptLoops.{keeps}

@@ -1,17 +1,17 @@
 -- Expressions that are printed, derived again: chains of operators, and parentheses.
-use Rattle.std.proofs.Common.{◌≡◌, ◌<◌, ◌≤◌, ◌+◌, ◌-◌, ℕ, zero, suc, Bool, true, false, nat_lt, List, [], ◌∷◌, ◌++◌, Option, Some, None, refl, sym, ap, ◌∙◌, subst, append_assoc, append-nil, arith, inl, inr}
+use Rattle.std.proofs.Common.{◌≡◌, ◌<◌, ◌+◌, ◌-◌, ℕ, zero, suc, Bool, true, false, nat_lt, List, [], ◌∷◌, ◌++◌, Option, Some, refl, sym, ap, ◌∙◌, subst, append_assoc, append-nil, arith, inl, inr}
 use Rattle.std.specs.Prelude.{max}
 use Rattle.ij_text.specs.declared.Place.{Place}
-use Rattle.grammar.specs.Symbol.{Parts, one, ◌>>=◌, give}
+use Rattle.grammar.specs.Symbol.{Parts, one}
 use Rattle.icl_syntax.specs.Tokens.{Tok}
 use Rattle.icl_syntax.specs.declared.tree.Sign.{Sign}
 use Rattle.icl_syntax.specs.declared.tree.Sign.TheVariants.{Plus, Minus, Times, Over, Rest}
 use Rattle.icl_syntax.specs.Values.{Formula, ADecimal, ASized, AQuoted, AParam, AnOp}
-use Rattle.icl_syntax.specs.Grammar.{Of, Counted, Signed, Operand, operator, operand, with_operand, chain, sum_sign, product_sign, in_parentheses, factor, term, sum_of, leaf_at}
+use Rattle.icl_syntax.specs.Grammar.{Of, Counted, Signed, Operand, operator, operand, with_operand, chain, sum_sign, product_sign, in_parentheses, factor, sum_of, leaf_at}
 use Rattle.icl_printer.specs.Layout.{Spelling, mark}
-use Rattle.icl_printer.specs.Canonical.{sign_mark, binding, binding_of, formula_tokens}
-use Rattle.icl_printer.specs.Again.{spellings, IsSpelled, nowhere, bare_formula}
-use Rattle.icl_printer.proofs.Printed.{Cut, cut, all_append, Printed, p_turn, p_last, p_give, p_mark, p_token}
+use Rattle.icl_printer.specs.Canonical.{sign_mark, binding, binding_of}
+use Rattle.icl_printer.specs.Again.{IsSpelled, nowhere, bare_formula}
+use Rattle.icl_printer.proofs.Printed.{cut, all_append, Printed, p_turn, p_last, p_mark, p_token}
 
 -- ---- what counts of a formula
 
@@ -84,10 +84,11 @@ p_more first part sign used {x} {y} {a} {o} p q = record {
       let c = cut us x y e in
       let left = p.again c.front c.front_is in
       let right = (q left.0 left.2).again c.back c.back_is in
-      let d = left.1 in
-      (with_operand left.0 right.0,
-      (d.0, d.1 ++ c.back, d.2, c.whole ∙ ap (λ (z : List Tok). z ++ c.back) d.3 ∙ append_assoc d.0 d.1 c.back, d.4, (suc d.5.0, parts_snoc part sign d.5.0 d.2 left.0 d.1 c.back right.0 d.5.1 right.1)),
-      same_operation left.0 a right.0 o left.2 right.2);
+      let d = left.1 in (
+        with_operand left.0 right.0,
+        (d.0, d.1 ++ c.back, d.2, c.whole ∙ ap (λ (z : List Tok). z ++ c.back) d.3 ∙ append_assoc d.0 d.1 c.back, d.4, (suc d.5.0, parts_snoc part sign d.5.0 d.2 left.0 d.1 c.back right.0 d.5.1 right.1)),
+        same_operation left.0 a right.0 o left.2 right.2,
+      );
 }
   where
     same_operation : (l a : Counted) (r o : Operand) → bare_counted l ≡ bare_counted a → bare_operand r ≡ bare_operand o → bare_counted (with_operand l r) ≡ bare_counted (with_operand a o)

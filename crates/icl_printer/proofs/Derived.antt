@@ -1,7 +1,7 @@
 -- What formulas that are derived have: sound leaves, few operators, and few levels of parentheses.
 use Rattle.std.proofs.Common.{◌≡◌, ◌<◌, ◌≤◌, ◌+◌, ◌-◌, ℕ, zero, suc, Bool, true, false, nat_lt, cond, List, [], ◌∷◌, ◌++◌, Option, Some, None, refl, sym, ap, ◌∙◌, subst, arith, inl, inr}
 use Rattle.std.specs.Prelude.{max}
-use Rattle.std.proofs.lemmas.Bool.{ltb-true, ltb-false, le-ltb, lt-ltb}
+use Rattle.std.proofs.lemmas.Bool.{ltb-true, ltb-false, le-ltb}
 use Rattle.ij_text.specs.declared.Place.{Place}
 use Rattle.grammar.specs.Symbol.{Parts, IsOne, ◌>>=◌, give, repeat}
 use Rattle.icl_syntax.specs.declared.tree.Sign.{Sign}
@@ -9,12 +9,11 @@ use Rattle.icl_syntax.specs.declared.tree.Sign.TheVariants.{Plus, Minus, Times, 
 use Rattle.icl_syntax.specs.Tokens.{Tok, is_mark}
 use Rattle.icl_syntax.specs.Values.{Formula, ADecimal, ASized, AQuoted, AParam, AnOp}
 use Rattle.icl_syntax.specs.Grammar.{Of, Counted, Signed, Operand, operator, operand, with_operand, chain, sum_sign, product_sign, in_parentheses, factor, term, sum_of, leaf_at, expr, mark as a_mark}
-use Rattle.icl_printer.specs.Layout.{Spelling}
 use Rattle.icl_printer.specs.Canonical.{binding, binding_of, formula_tokens}
-use Rattle.icl_printer.specs.Again.{spelling_of, spellings, IsSpelled, AllSpelled, bare_formula}
-use Rattle.icl_printer.proofs.Printed.{Printed, Law, p_last, Turned, turned, all_front, all_back, single}
+use Rattle.icl_printer.specs.Again.{spellings, AllSpelled, bare_formula}
+use Rattle.icl_printer.proofs.Printed.{Printed, Law, p_last, turned, all_front, all_back, single}
 use Rattle.icl_printer.proofs.Leaves.{Sound, IsLeaf, IsTight, IsSizedNumber, leaf_is}
-use Rattle.icl_printer.proofs.Chains.{ops, around, inner, nest, is_lone, bare_counted, counted}
+use Rattle.icl_printer.proofs.Chains.{ops, around, inner, nest, counted}
 use Rattle.icl_printer.proofs.Formulas.{formula_again}
 
 -- a formula that is derived with at most d levels of parentheses, where it has to bind so tightly, behind so many operators
@@ -162,20 +161,26 @@ leaf_derived : (d : ℕ) (alone : Bool) (used : ℕ) (c : Counted) → used ≤ 
 leaf_derived d alone used c few l = by_cases c.lone refl
   where
     by_cases : (b : Bool) → c.lone ≡ b → Derived d 3 used c × (alone ≡ false → c.lone ≡ false)
-    by_cases true e = (record {
-      sound = l.sound;
-      count = omega (arith, l.used_is, no_ops_sized c.formula (l.lone e));
-      few = omega (arith, l.used_is);
-      deep = λ g. absurd (cc);
-      flat = l.lone;
-    }, l.first)
-    by_cases false e = (record {
-      sound = l.sound;
-      count = omega (arith, l.used_is, no_ops c.formula (l.plain e));
-      few = omega (arith, l.used_is);
-      deep = λ g. omega (arith, tight_nest c.formula (l.plain e));
-      flat = l.lone;
-    }, l.first)
+    by_cases true e = (
+      record {
+        sound = l.sound;
+        count = omega (arith, l.used_is, no_ops_sized c.formula (l.lone e));
+        few = omega (arith, l.used_is);
+        deep = λ g. absurd (cc);
+        flat = l.lone;
+      },
+      l.first,
+    )
+    by_cases false e = (
+      record {
+        sound = l.sound;
+        count = omega (arith, l.used_is, no_ops c.formula (l.plain e));
+        few = omega (arith, l.used_is);
+        deep = λ g. omega (arith, tight_nest c.formula (l.plain e));
+        flat = l.lone;
+      },
+      l.first,
+    )
 
 one_leaf : (alone : Bool) (used : ℕ) (ts : List Tok) (c : Counted) → AllSpelled (spellings ts) → IsOne (leaf_at alone used) ts c → IsLeaf alone used c
 one_leaf alone used ts c good h =
@@ -212,14 +217,16 @@ enclosed_derived d used whole ts c sums good h =
     let e = turned (whole used) (λ e. a_mark 41 >>= λ k. give (counted e.formula e.used false)) o.back c o.good_rest o.rest in
     let k = turned (a_mark 41) (λ k. give (counted e.value.formula e.value.used false)) e.back c e.good_rest e.rest in
     let x = sums e.front e.value e.good e.derived in
-    subst (λ (z : Counted). Derived (suc d) 3 used z × (z.lone ≡ false)) (sym k.rest.1)
-    (record {
-      sound = x.sound;
-      count = x.count;
-      few = x.few;
-      deep = λ g. enclosed_nest d e.value.formula (derived_inner d 1 used e.value x);
-      flat = λ g. absurd (cc);
-    }, refl)
+    subst (λ (z : Counted). Derived (suc d) 3 used z × (z.lone ≡ false)) (sym k.rest.1) (
+      record {
+        sound = x.sound;
+        count = x.count;
+        few = x.few;
+        deep = λ g. enclosed_nest d e.value.formula (derived_inner d 1 used e.value x);
+        flat = λ g. absurd (cc);
+      },
+      refl,
+    )
 
 factor_derived : (d : ℕ) (alone : Bool) (used : ℕ) (ts : List Tok) (c : Counted) → used ≤ 256 → AllSpelled (spellings ts) → (factor d alone used).derives ts c → Derived d 3 used c × (alone ≡ false → c.lone ≡ false)
 unfolding factor
@@ -228,22 +235,22 @@ factor_derived zero alone used ts c few good (inr h) = leaf_derived zero alone u
 factor_derived (suc d) alone used ts c few good (inr h) = leaf_derived (suc d) alone used c few (one_leaf alone used ts c good h)
 factor_derived (suc d) alone used ts c few good (inl h) =
     let factors : (us : List Tok) (n : ℕ) (x : Counted) → n ≤ 256 → AllSpelled (spellings us) → (factor d false n).derives us x → Derived d 3 n x × (x.lone ≡ false) =
-        λ us n x m g k. let r = factor_derived d false n us x m g k in (r.0, r.1 refl) in
+    λ us n x m g k. let r = factor_derived d false n us x m g k in (r.0, r.1 refl) in
     let terms : (us : List Tok) (n : ℕ) (x : Counted) → n ≤ 256 → AllSpelled (spellings us) → (term d false n).derives us x → Derived d 2 n x × (x.lone ≡ false) =
-        λ us n x m g k. chain_plain d 2 product_sign (factor d false) products factors (factor d false) n us x (λ vs y p q. factors vs n y m p q) g k in
+    λ us n x m g k. chain_plain d 2 product_sign (factor d false) products factors (factor d false) n us x (λ vs y p q. factors vs n y m p q) g k in
     let first : (us : List Tok) (x : Counted) → AllSpelled (spellings us) → (term d true used).derives us x → Derived d 2 used x =
-        λ us x g k. chain_derived d 2 product_sign (factor d false) products factors (factor d true) used us x (λ vs y p q. (factor_derived d true used vs y few p q).0) g k in
+    λ us x g k. chain_derived d 2 product_sign (factor d false) products factors (factor d true) used us x (λ vs y p q. (factor_derived d true used vs y few p q).0) g k in
     let e = enclosed_derived d used (sum_of d) ts c (λ us x g k. chain_derived d 1 sum_sign (term d false) sums terms (term d true) used us x first g k) good h in
     (e.0, λ g. e.1)
 
 pub sum_derived : (d used : ℕ) (ts : List Tok) (c : Counted) → used ≤ 256 → AllSpelled (spellings ts) → (sum_of d used).derives ts c → Derived d 1 used c
 sum_derived d used ts c few good h =
     let factors : (us : List Tok) (n : ℕ) (x : Counted) → n ≤ 256 → AllSpelled (spellings us) → (factor d false n).derives us x → Derived d 3 n x × (x.lone ≡ false) =
-        λ us n x m g k. let r = factor_derived d false n us x m g k in (r.0, r.1 refl) in
+    λ us n x m g k. let r = factor_derived d false n us x m g k in (r.0, r.1 refl) in
     let terms : (us : List Tok) (n : ℕ) (x : Counted) → n ≤ 256 → AllSpelled (spellings us) → (term d false n).derives us x → Derived d 2 n x × (x.lone ≡ false) =
-        λ us n x m g k. chain_plain d 2 product_sign (factor d false) products factors (factor d false) n us x (λ vs y p q. factors vs n y m p q) g k in
+    λ us n x m g k. chain_plain d 2 product_sign (factor d false) products factors (factor d false) n us x (λ vs y p q. factors vs n y m p q) g k in
     let first : (us : List Tok) (x : Counted) → AllSpelled (spellings us) → (term d true used).derives us x → Derived d 2 used x =
-        λ us x g k. chain_derived d 2 product_sign (factor d false) products factors (factor d true) used us x (λ vs y p q. (factor_derived d true used vs y few p q).0) g k in
+    λ us x g k. chain_derived d 2 product_sign (factor d false) products factors (factor d true) used us x (λ vs y p q. (factor_derived d true used vs y few p q).0) g k in
     chain_derived d 1 sum_sign (term d false) sums terms (term d true) used ts c first good h
 
 -- ---- whole expressions

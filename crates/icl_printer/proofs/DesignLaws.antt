@@ -1,22 +1,18 @@
 -- Items, modules and designs that are printed, derived again.
-use Rattle.std.proofs.Common.{◌≡◌, ℕ, Bool, true, false, List, [], ◌∷◌, ◌++◌, map, Option, Some, None, refl, sym, ap, ◌∙◌, subst}
+use Rattle.std.proofs.Common.{◌≡◌, ℕ, true, false, List, [], ◌∷◌, Some, refl, sym, ap, subst}
 use Rattle.std.specs.Prelude.{codes}
-use Rattle.ij_text.specs.declared.Place.{Place}
-use Rattle.grammar.specs.Symbol.{one, ◌>>=◌, give, many}
-use Rattle.icl_lexer.specs.declared.token.TokenKind.TheVariants.{Word}
-use Rattle.icl_syntax.specs.declared.tree.PortKind.{PortKind}
+use Rattle.grammar.specs.Symbol.{one, ◌>>=◌, give}
 use Rattle.icl_syntax.specs.declared.tree.PortKind.TheVariants.{ScanInPort, ScanOutPort, DataInPort, DataOutPort, SelectPort, CaptureEnPort, ShiftEnPort, UpdateEnPort, ResetPort, TCKPort, TMSPort, TRSTPort, ClockPort, ToSelectPort, ToCaptureEnPort, ToShiftEnPort, ToUpdateEnPort, ToResetPort, ToTCKPort, ToTMSPort, ToTRSTPort, ToClockPort, ToIRSelectPort}
 use Rattle.icl_syntax.specs.declared.words.ItemWord.{ItemWord}
 use Rattle.icl_syntax.specs.declared.words.ItemWord.TheVariants.{OfPort, OfRegister, OfMux, OfChild, OfAlias, OfEnum, OfParameter, OfAttribute, OfInterface, OfLink}
-use Rattle.icl_syntax.specs.Tokens.{Tok, if_word}
+use Rattle.icl_syntax.specs.Tokens.{Tok}
 use Rattle.icl_syntax.specs.Words.{port_word, port_named, data_port_named, control_port_named, to_port_named, other_item_named, item_named}
 use Rattle.icl_syntax.specs.Values.{Meaning, APort, ARegister, AMux, AChild, AnAlias, SomeWords, AParameter, AnInterface, ALink, AnAttribute, Thing, Block}
-use Rattle.icl_syntax.specs.Grammar.{Of, name, mark as a_mark, word as a_word}
-use Rattle.icl_syntax.specs.Modules.{ItemBegin, item_begun, item_begin_at, meaning_behind, item, module_of, design, braced as a_braced}
-use Rattle.icl_printer.specs.Layout.{Spelling, word, mark}
-use Rattle.icl_printer.specs.Canonical.{in_turn, parameter_word, item_tokens, thing_tokens, module_tokens, tokens_of}
+use Rattle.icl_syntax.specs.Modules.{ItemBegin, item_begun, item_begin_at, meaning_behind, item, module_of, design}
+use Rattle.icl_printer.specs.Layout.{Spelling, word}
+use Rattle.icl_printer.specs.Canonical.{parameter_word, item_tokens, thing_tokens, module_tokens, tokens_of}
 use Rattle.icl_printer.specs.Again.{spellings, IsSpelled, AllSpelled, nowhere, bare_meaning, bare_thing, bare_block, bare_design, PrintedTokensDeriveIt}
-use Rattle.icl_printer.proofs.Printed.{Printed, Law, p_turn, p_last, p_mark, p_word, p_token, no_place, name_law, halves}
+use Rattle.icl_printer.proofs.Printed.{Printed, Law, p_turn, p_last, p_word, p_token, name_law, halves}
 use Rattle.icl_printer.proofs.Loops.{many_law}
 use Rattle.icl_printer.proofs.ItemLaws.{port_law, register_law, alias_law, parameter_law, attribute_law, mux_law}
 use Rattle.icl_printer.proofs.InstanceLaws.{braced_again, child_law, words_law, interface_law, link_law}
@@ -160,11 +156,11 @@ item_law ts t good h =
     let r = meaning_law h.2.word h3.0 h3.2 g3.0 h3.4 in
     let x : Thing = record { at = h.2.at; name = h2.2; what = h3.2 } in
     let again : Printed item bare_thing (thing_tokens x) x =
-        subst (λ (y : List Spelling). Printed item bare_thing y x) (sym (r.tokens_are h2.2))
-        (p_turn (p_item_begin h.2)
-        (λ b eb. p_turn (name_law h2.0 h2.2 g2.0 h2.4)
-        (λ n en. subst (λ u. Printed (meaning_behind u >>= λ m. give (record { at = b.at; name = n; what = m })) bare_thing r.middle x) (sym eb)
-        (p_last r.printed (λ m em. cc (en, em)))))) in
+    subst (λ (y : List Spelling). Printed item bare_thing y x) (sym (r.tokens_are h2.2))
+    (p_turn (p_item_begin h.2)
+    (λ b eb. p_turn (name_law h2.0 h2.2 g2.0 h2.4)
+    (λ n en. subst (λ u. Printed (meaning_behind u >>= λ m. give (record { at = b.at; name = n; what = m })) bare_thing r.middle x) (sym eb)
+    (p_last r.printed (λ m em. cc (en, em)))))) in
     subst (λ z. Printed item bare_thing (thing_tokens z) z) (sym h3.5.1) again
 
 -- ---- modules and designs

@@ -1,18 +1,15 @@
 -- Formulas that are printed, derived again.
-use Rattle.std.proofs.Common.{◌≡◌, ◌<◌, ◌≤◌, ◌+◌, ℕ, zero, suc, Bool, true, false, nat_lt, List, [], ◌∷◌, ◌++◌, Option, Some, refl, sym, ap, ◌∙◌, subst, append-nil, arith}
-use Rattle.std.proofs.lemmas.Bool.{ltb-true, ltb-false}
+use Rattle.std.proofs.Common.{◌≡◌, ◌≤◌, ◌+◌, ℕ, zero, suc, Bool, true, false, nat_lt, List, ◌∷◌, ◌++◌, refl, sym, ap, subst, append-nil, arith}
+use Rattle.std.proofs.lemmas.Bool.{ltb-false}
 use Rattle.std.specs.Prelude.{max}
 use Rattle.ij_text.specs.declared.Place.{Place}
-use Rattle.grammar.specs.Symbol.{one, ◌>>=◌, give}
-use Rattle.icl_syntax.specs.Tokens.{Tok}
 use Rattle.icl_syntax.specs.declared.tree.Sign.{Sign}
 use Rattle.icl_syntax.specs.declared.tree.Sign.TheVariants.{Plus, Minus, Times, Over, Rest}
 use Rattle.icl_syntax.specs.Values.{Formula, ADecimal, ASized, AQuoted, AParam, AnOp}
-use Rattle.icl_syntax.specs.Grammar.{Of, Counted, Signed, chain, sum_sign, product_sign, factor, term, sum_of, leaf_at}
+use Rattle.icl_syntax.specs.Grammar.{Counted, sum_sign, product_sign, factor, term, sum_of}
 use Rattle.icl_printer.specs.Layout.{Spelling, mark}
-use Rattle.icl_printer.specs.Canonical.{sign_mark, binding, binding_of, mark_if, in_parentheses, formula_tokens}
-use Rattle.icl_printer.specs.Again.{spellings, IsSpelled, bare_formula}
-use Rattle.icl_printer.proofs.Printed.{Printed, p_token, placed}
+use Rattle.icl_printer.specs.Canonical.{sign_mark, binding, binding_of, in_parentheses, formula_tokens}
+use Rattle.icl_printer.proofs.Printed.{Printed}
 use Rattle.icl_printer.proofs.Leaves.{Sound, p_decimal_leaf, p_sized_leaf, p_quoted_leaf, p_param_leaf}
 use Rattle.icl_printer.proofs.Chains.{ops, around, inner, nest, is_lone, bare_counted, counted, p_up, p_more, p_operand, p_enclosed, p_leaf, IsSign, plus_is, minus_is, times_is, over_is, rest_is}
 
@@ -102,10 +99,10 @@ sum_again sign at a b is level ga gb d used left right many =
     subst (λ k. Printed (sum_of d used) bare_counted (in_parentheses (nat_lt (binding a) 1) (formula_tokens a) ++ (mark (sign_mark sign) ∷ in_parentheses (nat_lt (binding b) 2) (formula_tokens b))) (counted (AnOp at sign a b) k false)) (count_is used (ops a) (ops b))
     (p_more (term d true) (term d false) sum_sign used (as_left_of_sum a d used ga left (omega arith))
     (λ c same.
-        let count : c.used ≡ n = ap (λ (z : Counted). z.used) same in
-        let p = as_term_operand b d false (n + 1) gb right (omega arith) in
-        p_operand (term d false) sum_sign sign at (in_parentheses (nat_lt (binding b) 2) (formula_tokens b)) c (counted b (n + 1 + ops b) false) is (omega arith) (ap (λ (z : Counted). z.lone) same)
-        (subst (λ k. Printed (term d false (k + 1)) bare_counted (in_parentheses (nat_lt (binding b) 2) (formula_tokens b)) (counted b (n + 1 + ops b) false)) (sym count) p)))
+    let count : c.used ≡ n = ap (λ (z : Counted). z.used) same in
+    let p = as_term_operand b d false (n + 1) gb right (omega arith) in
+    p_operand (term d false) sum_sign sign at (in_parentheses (nat_lt (binding b) 2) (formula_tokens b)) c (counted b (n + 1 + ops b) false) is (omega arith) (ap (λ (z : Counted). z.lone) same)
+    (subst (λ k. Printed (term d false (k + 1)) bare_counted (in_parentheses (nat_lt (binding b) 2) (formula_tokens b)) (counted b (n + 1 + ops b) false)) (sym count) p)))
 
 product_again : (sign : Sign) (at : Place) (a b : Formula) → IsSign product_sign sign → binding_of sign ≡ 2 → Again a → Again b → (d : ℕ) (alone : Bool) (used : ℕ) → nest 2 a ≤ d → nest 3 b ≤ d → used + (ops a + (1 + ops b)) ≤ 256
     → Printed (term d alone used) bare_counted (in_parentheses (nat_lt (binding a) 2) (formula_tokens a) ++ (mark (sign_mark sign) ∷ in_parentheses (nat_lt (binding b) 3) (formula_tokens b)))
@@ -115,10 +112,10 @@ product_again sign at a b is level ga gb d alone used left right many =
     subst (λ k. Printed (term d alone used) bare_counted (in_parentheses (nat_lt (binding a) 2) (formula_tokens a) ++ (mark (sign_mark sign) ∷ in_parentheses (nat_lt (binding b) 3) (formula_tokens b))) (counted (AnOp at sign a b) k false)) (count_is used (ops a) (ops b))
     (p_more (factor d alone) (factor d false) product_sign used (as_term_operand a d alone used ga left (omega arith))
     (λ c same.
-        let count : c.used ≡ n = ap (λ (z : Counted). z.used) same in
-        let p = as_factor_operand b d (n + 1) gb right (omega arith) in
-        p_operand (factor d false) product_sign sign at (in_parentheses (nat_lt (binding b) 3) (formula_tokens b)) c (counted b (n + 1 + ops b) false) is (omega arith) (ap (λ (z : Counted). z.lone) same)
-        (subst (λ k. Printed (factor d false (k + 1)) bare_counted (in_parentheses (nat_lt (binding b) 3) (formula_tokens b)) (counted b (n + 1 + ops b) false)) (sym count) p)))
+    let count : c.used ≡ n = ap (λ (z : Counted). z.used) same in
+    let p = as_factor_operand b d (n + 1) gb right (omega arith) in
+    p_operand (factor d false) product_sign sign at (in_parentheses (nat_lt (binding b) 3) (formula_tokens b)) c (counted b (n + 1 + ops b) false) is (omega arith) (ap (λ (z : Counted). z.lone) same)
+    (subst (λ k. Printed (factor d false (k + 1)) bare_counted (in_parentheses (nat_lt (binding b) 3) (formula_tokens b)) (counted b (n + 1 + ops b) false)) (sym count) p)))
 
 operation_text : (at : Place) (sign : Sign) (a b : Formula) (n : ℕ) → binding_of sign ≡ n
     → formula_tokens (AnOp at sign a b) ≡ in_parentheses (nat_lt (binding a) n) (formula_tokens a) ++ (mark (sign_mark sign) ∷ in_parentheses (nat_lt (binding b) (n + 1)) (formula_tokens b))
@@ -140,10 +137,10 @@ a_sum sign at a b is level ga gb = record {
 a_product : (sign : Sign) (at : Place) (a b : Formula) → IsSign product_sign sign → binding_of sign ≡ 2 → Again a → Again b → Again (AnOp at sign a b)
 a_product sign at a b is level ga gb =
     let product : (d : ℕ) (alone : Bool) (used : ℕ) → inner (AnOp at sign a b) ≤ d → used + ops (AnOp at sign a b) ≤ 256 → Printed (term d alone used) bare_counted (formula_tokens (AnOp at sign a b)) (counted (AnOp at sign a b) (used + ops (AnOp at sign a b)) false) =
-        λ d alone used deep many.
-        let deeper : max (nest 2 a) (nest 3 b) ≤ d = subst (λ n. n ≤ d) (inner_is at sign a b 2 level) deep in
-        subst (λ (x : List Spelling). Printed (term d alone used) bare_counted x (counted (AnOp at sign a b) (used + (ops a + (1 + ops b))) false)) (sym (operation_text at sign a b 2 level))
-        (product_again sign at a b is level ga gb d alone used (omega arith) (omega arith) many) in
+    λ d alone used deep many.
+    let deeper : max (nest 2 a) (nest 3 b) ≤ d = subst (λ n. n ≤ d) (inner_is at sign a b 2 level) deep in
+    subst (λ (x : List Spelling). Printed (term d alone used) bare_counted x (counted (AnOp at sign a b) (used + (ops a + (1 + ops b))) false)) (sym (operation_text at sign a b 2 level))
+    (product_again sign at a b is level ga gb d alone used (omega arith) (omega arith) many) in
     record {
       as_sum = λ d used deep many. sum_up d used (formula_tokens (AnOp at sign a b)) (counted (AnOp at sign a b) (used + ops (AnOp at sign a b)) false) (product d true used deep many);
       as_term = λ tight d alone used deep many. product d alone used deep many;

@@ -1,33 +1,28 @@
 -- Instances, enumerations, interfaces and links that are printed, derived again.
-use Rattle.std.proofs.Common.{◌≡◌, ◌==◌, ℕ, Bool, true, false, List, [], ◌∷◌, ◌++◌, map, Option, Some, None, refl, sym, ap, ◌∙◌, subst, append_assoc, inl, inr}
+use Rattle.std.proofs.Common.{◌≡◌, ℕ, List, [], ◌∷◌, ◌++◌, map, Option, Some, None, refl, sym, ap, ◌∙◌, subst, append_assoc, inl, inr}
 use Rattle.std.specs.Prelude.{codes}
 use Rattle.std.specs.Option.{option_map}
 use Rattle.ij_text.specs.declared.Place.{Place}
-use Rattle.grammar.specs.Symbol.{one, ◌>>=◌, give, repeat, many}
-use Rattle.icl_lexer.specs.declared.token.TokenKind.{TokenKind}
-use Rattle.icl_lexer.specs.declared.token.TokenKind.TheVariants.{Word, Decimal, Sized, Quoted, Param, Mark}
+use Rattle.grammar.specs.Symbol.{one}
+use Rattle.icl_lexer.specs.declared.token.TokenKind.TheVariants.{Word}
 use Rattle.icl_syntax.specs.declared.tree.LinkKind.{LinkKind}
 use Rattle.icl_syntax.specs.declared.tree.LinkKind.TheVariants.{Std2001, Std2013}
-use Rattle.icl_syntax.specs.declared.tree.PortKind.{PortKind}
-use Rattle.icl_syntax.specs.declared.words.Owner.{Owner}
-use Rattle.icl_syntax.specs.declared.words.Owner.TheVariants.{ScanIn, ScanOut, DataIn, DataOut, Control, Register, Alias}
 use Rattle.icl_syntax.specs.declared.words.BindWord.{BindWord}
 use Rattle.icl_syntax.specs.declared.words.BindWord.TheVariants.{BindsPort, BindsParameter, BindsAttribute}
 use Rattle.icl_syntax.specs.declared.words.MemberWord.{MemberWord}
 use Rattle.icl_syntax.specs.declared.words.MemberWord.TheVariants.{MemberPort, MemberAttribute}
-use Rattle.icl_syntax.specs.Tokens.{Tok, if_word}
+use Rattle.icl_syntax.specs.Tokens.{Tok}
 use Rattle.icl_syntax.specs.Words.{link_word, link_named, bind_named, member_named}
-use Rattle.icl_syntax.specs.Values.{Formula, Span, Signal, Property, Row, Binding, ABoundPort, ABoundParameter, ABoundAttribute, EnumValue, Instruction, Meaning, APort, ARegister, AMux, AChild, AnAlias, SomeWords, AParameter, AnInterface, ALink, AnAttribute}
-use Rattle.icl_syntax.specs.Grammar.{Of, name, value, sig, sigs, range, maybe, expr_behind, parted, ended_by, appended, body, AttributeSaid, attribute_said, mark as a_mark, word as a_word}
-use Rattle.icl_syntax.specs.Modules.{owner_of, port_range, port, register, alias, parameter, attribute, row, mux, BindBegin, begun_by, bind_begin_at, bound_port, bound_parameter, bound_attribute, bind_behind, bind, binds, braced as a_braced, child, enum_word, words, member_word_at, member_behind, member, with_member, interface, Selected, selected, selecting, instruction, link_kind_at, entity, link}
+use Rattle.icl_syntax.specs.Values.{Binding, ABoundPort, ABoundParameter, ABoundAttribute, EnumValue, Instruction, Meaning, AChild, SomeWords, AnInterface, ALink}
+use Rattle.icl_syntax.specs.Grammar.{Of, ended_by, AttributeSaid}
+use Rattle.icl_syntax.specs.Modules.{BindBegin, begun_by, bind_begin_at, bound_port, bound_parameter, bound_attribute, bind_behind, bind, binds, braced as a_braced, child, enum_word, words, member_word_at, member_behind, member, with_member, interface, Selected, selected, selecting, instruction, link_kind_at, entity, link}
 use Rattle.icl_printer.specs.Layout.{Spelling, word, mark}
-use Rattle.icl_printer.specs.Canonical.{in_turn, behind, separated, braced, if_there, name_tokens, formula_tokens, value_tokens, range_tokens, signal_tokens, signals_tokens, property_tokens, row_tokens, attribute_tokens, binding_tokens, enum_tokens, member_tokens, instruction_tokens}
-use Rattle.icl_printer.specs.Again.{spelling_of, spellings, IsSpelled, AllSpelled, nowhere, bare_formula, bare_value, bare_span, bare_signal, bare_signals, bare_property, bare_row, bare_binding, bare_word, bare_meaning}
-use Rattle.icl_printer.proofs.Printed.{Printed, Law, p_turn, p_last, p_give, p_left, p_right, p_mark, p_word, p_token, itself, no_place, name_law, single, halves}
-use Rattle.icl_printer.proofs.Loops.{appends, many_law, parted_law}
+use Rattle.icl_printer.specs.Canonical.{in_turn, behind, braced, if_there, name_tokens, formula_tokens, range_tokens, signals_tokens, binding_tokens, enum_tokens, member_tokens, instruction_tokens}
+use Rattle.icl_printer.specs.Again.{spellings, IsSpelled, AllSpelled, nowhere, bare_binding, bare_word, bare_meaning}
+use Rattle.icl_printer.proofs.Printed.{Printed, Law, p_turn, p_last, p_left, p_right, p_mark, p_word, p_token, itself, name_law, halves}
+use Rattle.icl_printer.proofs.Loops.{many_law}
 use Rattle.icl_printer.proofs.KeptLoops.{keeps}
-use Rattle.icl_printer.proofs.SignalLaws.{value_law, behind_expr_law, maybe_expr_law, maybe_range_law, sig_law, sigs_law, same_itself}
-use Rattle.icl_printer.proofs.BodyLaws.{body_law}
+use Rattle.icl_printer.proofs.SignalLaws.{value_law, behind_expr_law, maybe_range_law, sigs_law, same_itself}
 use Rattle.icl_printer.proofs.ItemLaws.{attribute_said_law}
 
 -- ---- instances
@@ -114,10 +109,10 @@ bind_law ts b good h =
     let g2 = halves h2.0 h2.1 h.1 h2.3 g1.1 in
     let r = bind_behind_law h.2.at h.2.word h2.0 h2.2 g2.0 h2.4 in
     let again : Printed bind bare_binding (binding_tokens h2.2) h2.2 =
-        subst (λ (x : List Spelling). Printed bind bare_binding x h2.2) (sym r.tokens_are)
-        (p_turn (p_bind_begin h.2)
-        (λ w ew. subst (λ u. Printed (ended_by 59 (bind_behind w.at u)) bare_binding (r.middle ++ (mark 59 ∷ [])) h2.2) (sym ew)
-        (p_turn (r.printed w.at) (λ x ex. p_last (p_mark 59 nowhere refl refl) (λ c ec. ex))))) in
+    subst (λ (x : List Spelling). Printed bind bare_binding x h2.2) (sym r.tokens_are)
+    (p_turn (p_bind_begin h.2)
+    (λ w ew. subst (λ u. Printed (ended_by 59 (bind_behind w.at u)) bare_binding (r.middle ++ (mark 59 ∷ [])) h2.2) (sym ew)
+    (p_turn (r.printed w.at) (λ x ex. p_last (p_mark 59 nowhere refl refl) (λ c ec. ex))))) in
     subst (λ z. Printed bind bare_binding (binding_tokens z) z) (sym h2.5.5.1) again
 
 -- a list in braces
@@ -150,9 +145,12 @@ child_law ts m good h =
     let h2 = h.5 in
     let g2 = halves h2.0 h2.1 h.1 h2.3 g1.1 in
     let h3 = h2.5 in
-    let g3 = halves h3.0 h3.1 h2.1 h3.3 g2.1 in
-    (h2.2, h3.2, h3.5.1,
-    p_turn (p_word (codes "Of") nowhere refl refl) (λ o eo. p_turn (name_law h2.0 h2.2 g2.0 h2.4) (λ n en. p_last (binds_law h3.0 h3.2 g3.0 h3.4) (λ bs eb. cc (en, eb)))))
+    let g3 = halves h3.0 h3.1 h2.1 h3.3 g2.1 in (
+      h2.2,
+      h3.2,
+      h3.5.1,
+      p_turn (p_word (codes "Of") nowhere refl refl) (λ o eo. p_turn (name_law h2.0 h2.2 g2.0 h2.4) (λ n en. p_last (binds_law h3.0 h3.2 g3.0 h3.4) (λ bs eb. cc (en, eb)))),
+    )
 
 -- ---- enumerations
 
@@ -204,10 +202,12 @@ interface_law ts m good h =
     let g1 = halves h.0 h.1 ts h.3 good in
     let h2 = h.5 in
     let g2 = halves h2.0 h2.1 h.1 h2.3 g1.1 in
-    let k = keeps (λ (ns : List (List ℕ)). member) with_member itself member_tokens (λ xs. refl) (λ xs x. refl) member_law h2.4.0 h2.0 [] h2.2 g2.0 h2.4.1 in
-    (k.more, h2.5.5.1 ∙ ap AnInterface k.is,
-    p_turn (p_mark 123 nowhere refl refl)
-    (λ o eo. p_turn (k.printed [] refl) (λ ns en. p_last (p_mark 125 nowhere refl refl) (λ c ec. ap AnInterface (same_itself ns h2.2 en ∙ k.is)))))
+    let k = keeps (λ (ns : List (List ℕ)). member) with_member itself member_tokens (λ xs. refl) (λ xs x. refl) member_law h2.4.0 h2.0 [] h2.2 g2.0 h2.4.1 in (
+      k.more,
+      h2.5.5.1 ∙ ap AnInterface k.is,
+      p_turn (p_mark 123 nowhere refl refl)
+          (λ o eo. p_turn (k.printed [] refl) (λ ns en. p_last (p_mark 125 nowhere refl refl) (λ c ec. ap AnInterface (same_itself ns h2.2 en ∙ k.is)))),
+    )
 
 -- ---- access links
 
@@ -279,9 +279,13 @@ link_law ts m good h =
     let h4 = h3.5 in
     let g4 = halves h4.0 h4.1 h3.1 h4.3 g3.1 in
     let h5 = h4.5 in
-    let g5 = halves h5.0 h5.1 h4.1 h5.3 g4.1 in
-    (h2.2, h4.2, h5.2, h5.5.5.1,
-    p_turn (p_word (codes "Of") nowhere refl refl)
-    (λ o eo. p_turn (p_link_kind h2.2) (λ k ek. p_turn (p_mark 123 nowhere refl refl) (λ b eb. p_turn (entity_law h4.0 h4.2 g4.0 h4.4)
-    (λ e ee. p_turn (many_law instruction itself instruction_tokens instruction_law h5.0 h5.2 g5.0 h5.4)
-    (λ is ei. p_last (p_mark 125 nowhere refl refl) (λ c ec. let same : is ≡ h5.2 = same_itself is h5.2 ei in cc (ek, ee, same))))))))
+    let g5 = halves h5.0 h5.1 h4.1 h5.3 g4.1 in (
+      h2.2,
+      h4.2,
+      h5.2,
+      h5.5.5.1,
+      p_turn (p_word (codes "Of") nowhere refl refl)
+          (λ o eo. p_turn (p_link_kind h2.2) (λ k ek. p_turn (p_mark 123 nowhere refl refl) (λ b eb. p_turn (entity_law h4.0 h4.2 g4.0 h4.4)
+          (λ e ee. p_turn (many_law instruction itself instruction_tokens instruction_law h5.0 h5.2 g5.0 h5.4)
+          (λ is ei. p_last (p_mark 125 nowhere refl refl) (λ c ec. let same : is ≡ h5.2 = same_itself is h5.2 ei in cc (ek, ee, same))))))),
+    )

@@ -1,32 +1,20 @@
 -- What stands behind the word and the name of an item, printed and derived again.
-use Rattle.std.proofs.Common.{◌≡◌, ◌==◌, ℕ, Bool, true, false, List, [], ◌∷◌, ◌++◌, map, Option, Some, None, refl, sym, ap, ◌∙◌, subst, append_assoc, inl, inr}
+use Rattle.std.proofs.Common.{◌≡◌, Bool, List, [], ◌∷◌, ◌++◌, map, Option, None, refl, sym, ap, ◌∙◌, subst, append_assoc}
 use Rattle.std.specs.Prelude.{codes}
 use Rattle.std.specs.Option.{option_map}
-use Rattle.ij_text.specs.declared.Place.{Place}
-use Rattle.grammar.specs.Symbol.{one, ◌>>=◌, give, repeat, many}
-use Rattle.icl_lexer.specs.declared.token.TokenKind.{TokenKind}
-use Rattle.icl_lexer.specs.declared.token.TokenKind.TheVariants.{Word, Decimal, Sized, Quoted, Param, Mark}
-use Rattle.icl_syntax.specs.declared.tree.LinkKind.{LinkKind}
-use Rattle.icl_syntax.specs.declared.tree.LinkKind.TheVariants.{Std2001, Std2013}
 use Rattle.icl_syntax.specs.declared.tree.PortKind.{PortKind}
 use Rattle.icl_syntax.specs.declared.words.Owner.{Owner}
 use Rattle.icl_syntax.specs.declared.words.Owner.TheVariants.{ScanIn, ScanOut, DataIn, DataOut, Control, Register, Alias}
-use Rattle.icl_syntax.specs.declared.words.BindWord.{BindWord}
-use Rattle.icl_syntax.specs.declared.words.BindWord.TheVariants.{BindsPort, BindsParameter, BindsAttribute}
-use Rattle.icl_syntax.specs.declared.words.MemberWord.{MemberWord}
-use Rattle.icl_syntax.specs.declared.words.MemberWord.TheVariants.{MemberPort, MemberAttribute}
-use Rattle.icl_syntax.specs.Tokens.{Tok, if_word}
-use Rattle.icl_syntax.specs.Words.{link_word, link_named, bind_named, member_named}
-use Rattle.icl_syntax.specs.Values.{Formula, Span, Signal, Property, Row, Binding, ABoundPort, ABoundParameter, ABoundAttribute, EnumValue, Instruction, Meaning, APort, ARegister, AMux, AChild, AnAlias, SomeWords, AParameter, AnInterface, ALink, AnAttribute}
-use Rattle.icl_syntax.specs.Grammar.{Of, name, value, sig, sigs, range, maybe, expr_behind, parted, ended_by, appended, body, AttributeSaid, attribute_said, mark as a_mark, word as a_word}
-use Rattle.icl_syntax.specs.Modules.{owner_of, port_range, port, register, alias, parameter, attribute, row, mux, BindBegin, begun_by, bind_begin_at, bound_port, bound_parameter, bound_attribute, bind_behind, bind, binds, braced as a_braced, child, enum_word, words, member_word_at, member_behind, member, with_member, interface, Selected, selected, selecting, instruction, link_kind_at, entity, link}
+use Rattle.icl_syntax.specs.Tokens.{Tok}
+use Rattle.icl_syntax.specs.Values.{Formula, Span, Signal, Property, Row, Meaning, APort, ARegister, AMux, AnAlias, AParameter, AnAttribute}
+use Rattle.icl_syntax.specs.Grammar.{value, AttributeSaid, attribute_said}
+use Rattle.icl_syntax.specs.Modules.{owner_of, port_range, port, register, alias, parameter, attribute, row, mux}
 use Rattle.icl_printer.specs.Layout.{Spelling, word, mark}
-use Rattle.icl_printer.specs.Canonical.{in_turn, behind, separated, braced, if_there, name_tokens, formula_tokens, value_tokens, range_tokens, signal_tokens, signals_tokens, property_tokens, row_tokens, attribute_tokens, binding_tokens, enum_tokens, member_tokens, instruction_tokens}
-use Rattle.icl_printer.specs.Again.{spelling_of, spellings, IsSpelled, AllSpelled, nowhere, bare_formula, bare_value, bare_span, bare_signal, bare_signals, bare_property, bare_row, bare_binding, bare_word, bare_meaning}
-use Rattle.icl_printer.proofs.Printed.{Printed, Law, p_turn, p_last, p_give, p_left, p_right, p_mark, p_word, p_token, itself, no_place, name_law, single, halves}
-use Rattle.icl_printer.proofs.Loops.{appends, many_law, parted_law}
-use Rattle.icl_printer.proofs.KeptLoops.{keeps}
-use Rattle.icl_printer.proofs.SignalLaws.{value_law, behind_expr_law, maybe_expr_law, maybe_range_law, sig_law, sigs_law, same_itself}
+use Rattle.icl_printer.specs.Canonical.{in_turn, behind, braced, if_there, formula_tokens, value_tokens, range_tokens, signals_tokens, property_tokens, row_tokens}
+use Rattle.icl_printer.specs.Again.{spellings, AllSpelled, nowhere, bare_formula, bare_value, bare_span, bare_signals, bare_row, bare_meaning}
+use Rattle.icl_printer.proofs.Printed.{Printed, Law, p_turn, p_last, p_give, p_mark, p_word, name_law, halves}
+use Rattle.icl_printer.proofs.Loops.{appends, parted_law}
+use Rattle.icl_printer.proofs.SignalLaws.{value_law, behind_expr_law, maybe_expr_law, maybe_range_law, sig_law, sigs_law}
 use Rattle.icl_printer.proofs.BodyLaws.{body_law}
 
 -- ---- items with bodies
@@ -46,9 +34,12 @@ unfolding port
 port_law kind ts m good h =
     let g1 = halves h.0 h.1 ts h.3 good in
     let h2 = h.5 in
-    let g2 = halves h2.0 h2.1 h.1 h2.3 g1.1 in
-    (h.2, h2.2, h2.5.1,
-    p_turn (port_range_law (owner_of kind) h.0 h.2 g1.0 h.4) (λ r er. p_last (body_law (owner_of kind) h2.0 h2.2 g2.0 h2.4) (λ ps ep. cc (er, ep))))
+    let g2 = halves h2.0 h2.1 h.1 h2.3 g1.1 in (
+      h.2,
+      h2.2,
+      h2.5.1,
+      p_turn (port_range_law (owner_of kind) h.0 h.2 g1.0 h.4) (λ r er. p_last (body_law (owner_of kind) h2.0 h2.2 g2.0 h2.4) (λ ps ep. cc (er, ep))),
+    )
 
 pub register_law : (ts : List Tok) (m : Meaning) → AllSpelled (spellings ts) → register.derives ts m
     → (r : Option Span) × (ps : List Property) × (m ≡ ARegister r ps) × (Printed register bare_meaning (if_there range_tokens r ++ braced property_tokens ps) (ARegister r ps))
@@ -56,9 +47,12 @@ unfolding register
 register_law ts m good h =
     let g1 = halves h.0 h.1 ts h.3 good in
     let h2 = h.5 in
-    let g2 = halves h2.0 h2.1 h.1 h2.3 g1.1 in
-    (h.2, h2.2, h2.5.1,
-    p_turn (maybe_range_law h.0 h.2 g1.0 h.4) (λ r er. p_last (body_law Register h2.0 h2.2 g2.0 h2.4) (λ ps ep. cc (er, ep))))
+    let g2 = halves h2.0 h2.1 h.1 h2.3 g1.1 in (
+      h.2,
+      h2.2,
+      h2.5.1,
+      p_turn (maybe_range_law h.0 h.2 g1.0 h.4) (λ r er. p_last (body_law Register h2.0 h2.2 g2.0 h2.4) (λ ps ep. cc (er, ep))),
+    )
 
 pub alias_law : (ts : List Tok) (m : Meaning) → AllSpelled (spellings ts) → alias.derives ts m
     → (r : Option Span) × (ss : List Signal) × (ps : List Property) × (m ≡ AnAlias r ss ps)
@@ -71,9 +65,13 @@ alias_law ts m good h =
     let h3 = h2.5 in
     let g3 = halves h3.0 h3.1 h2.1 h3.3 g2.1 in
     let h4 = h3.5 in
-    let g4 = halves h4.0 h4.1 h3.1 h4.3 g3.1 in
-    (h.2, h3.2, h4.2, h4.5.1,
-    p_turn (maybe_range_law h.0 h.2 g1.0 h.4) (λ r er. p_turn (p_mark 61 nowhere refl refl) (λ a ea. p_turn (sigs_law h3.0 h3.2 g3.0 h3.4) (λ ss es. p_last (body_law Alias h4.0 h4.2 g4.0 h4.4) (λ ps ep. cc (er, es, ep))))))
+    let g4 = halves h4.0 h4.1 h3.1 h4.3 g3.1 in (
+      h.2,
+      h3.2,
+      h4.2,
+      h4.5.1,
+      p_turn (maybe_range_law h.0 h.2 g1.0 h.4) (λ r er. p_turn (p_mark 61 nowhere refl refl) (λ a ea. p_turn (sigs_law h3.0 h3.2 g3.0 h3.4) (λ ss es. p_last (body_law Alias h4.0 h4.2 g4.0 h4.4) (λ ps ep. cc (er, es, ep))))),
+    )
 
 -- ---- parameters and attributes
 
@@ -121,17 +119,19 @@ mux_law ts m good h =
     let g5 = halves h5.0 h5.1 h4.1 h5.3 g4.1 in
     let k = appends row bare_row row_tokens row_law h5.4.0 h5.0 (h4.2 ∷ []) h5.2 g5.0 h5.4.1 in
     let rs = h4.2 ∷ k.more in
-    let tokens : List Spelling = word (codes "SelectedBy") ∷ (signals_tokens h2.2 ++ (mark 123 ∷ (row_tokens h4.2 ++ (in_turn row_tokens k.more ++ (mark 125 ∷ []))))) in
-    (h2.2, rs, h5.5.5.1 ∙ ap (AMux h2.2) k.is,
-    subst (λ (x : List Spelling). Printed mux bare_meaning x (AMux h2.2 rs))
-    (ap (λ (x : List Spelling). word (codes "SelectedBy") ∷ (signals_tokens h2.2 ++ (mark 123 ∷ x))) (sym (append_assoc (row_tokens h4.2) (in_turn row_tokens k.more) (mark 125 ∷ []))))
-    (p_turn (p_word (codes "SelectedBy") nowhere refl refl)
-    (λ a ea. p_turn (sigs_law h2.0 h2.2 g2.0 h2.4) (λ ss es. p_turn (p_mark 123 nowhere refl refl) (λ o eo. p_turn (row_law h4.0 h4.2 g4.0 h4.4)
-    (λ r er. p_turn (k.printed (r ∷ []) (ap (λ z. z ∷ []) er))
-    (λ xs ex. p_last (p_mark 125 nowhere refl refl) (λ c ec. ap (λ z. AMux z (map bare_row xs)) es ∙ ap (λ z. AMux (bare_signals h2.2) z) (ex ∙ ap (map bare_row) k.is)))))))))
+    let tokens : List Spelling = word (codes "SelectedBy") ∷ (signals_tokens h2.2 ++ (mark 123 ∷ (row_tokens h4.2 ++ (in_turn row_tokens k.more ++ (mark 125 ∷ []))))) in (
+      h2.2,
+      rs,
+      h5.5.5.1 ∙ ap (AMux h2.2) k.is,
+      subst (λ (x : List Spelling). Printed mux bare_meaning x (AMux h2.2 rs))
+          (ap (λ (x : List Spelling). word (codes "SelectedBy") ∷ (signals_tokens h2.2 ++ (mark 123 ∷ x))) (sym (append_assoc (row_tokens h4.2) (in_turn row_tokens k.more) (mark 125 ∷ []))))
+          (p_turn (p_word (codes "SelectedBy") nowhere refl refl)
+          (λ a ea. p_turn (sigs_law h2.0 h2.2 g2.0 h2.4) (λ ss es. p_turn (p_mark 123 nowhere refl refl) (λ o eo. p_turn (row_law h4.0 h4.2 g4.0 h4.4)
+          (λ r er. p_turn (k.printed (r ∷ []) (ap (λ z. z ∷ []) er))
+          (λ xs ex. p_last (p_mark 125 nowhere refl refl) (λ c ec. ap (λ z. AMux z (map bare_row xs)) es ∙ ap (λ z. AMux (bare_signals h2.2) z) (ex ∙ ap (map bare_row) k.is)))))))),
+    )
 
 -- ---- instances
-
 
 pub attribute_said_law : (ts : List Tok) (a : AttributeSaid) → AllSpelled (spellings ts) → attribute_said.derives ts a
     → Printed attribute_said (λ z. let b : AttributeSaid = record { name = z.name; value = option_map bare_formula z.value } in b) (word a.name ∷ if_there (behind 61 formula_tokens) a.value) a

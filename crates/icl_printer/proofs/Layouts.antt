@@ -1,19 +1,17 @@
 -- How the text that is printed is cut into its tokens.
-use Rattle.std.proofs.Common.{◌≡◌, ◌+◌, ◌-◌, ℕ, List, [], ◌∷◌, ◌++◌, length, take, drop, map, Some, refl, sym, ap, ◌∙◌, subst, arith, append_assoc, length-append}
+use Rattle.std.proofs.Common.{◌≡◌, ◌+◌, ◌-◌, ℕ, List, [], ◌∷◌, ◌++◌, length, take, drop, refl, sym, ap, ◌∙◌, arith, append_assoc, length-append}
 use Rattle.std.specs.Prelude.{slice_range}
 use Rattle.std.proofs.lemmas.List.{take_at, drop_at}
 use Rattle.ij_text.specs.declared.Place.{Place}
 use Rattle.icl_lexer.specs.declared.token.Token.{Token}
 use Rattle.icl_lexer.specs.declared.token.Kind.TheVariants.{Gap, Is}
-use Rattle.icl_lexer.specs.Cutting.{Piece, joined, AreLongest, IsCutUpTo, tokens_from, AreTokens, first_place, place_behind}
+use Rattle.icl_lexer.specs.Cutting.{Piece, joined, AreLongest, tokens_from, AreTokens, first_place, place_behind}
 use Rattle.icl_lexer.specs.Laws.{AreInText}
 use Rattle.icl_lexer.proofs.Total.{tokens_in_text}
-use Rattle.icl_syntax.specs.Tokens.{Tok, tok_of, toks_of}
-use Rattle.icl_syntax.specs.Values.{Block}
-use Rattle.icl_syntax.specs.Modules.{design}
-use Rattle.icl_printer.specs.Layout.{Spelling, blank_of, laid, layout}
-use Rattle.icl_printer.specs.Canonical.{tokens_of, design_text}
-use Rattle.icl_printer.specs.Again.{spelling_of, spellings, IsSpelled, AllSpelled, bare_design, DesignsAreReadAgain}
+use Rattle.icl_syntax.specs.Tokens.{toks_of}
+use Rattle.icl_printer.specs.Layout.{Spelling, blank_of, layout}
+use Rattle.icl_printer.specs.Canonical.{tokens_of}
+use Rattle.icl_printer.specs.Again.{spellings, AllSpelled, DesignsAreReadAgain}
 use Rattle.icl_printer.proofs.Stops.{blank_is, token_piece, blank_piece}
 use Rattle.icl_printer.proofs.DesignLaws.{design_law}
 
@@ -54,7 +52,7 @@ tokens_again (s ∷ ss) src before start at whole is =
     let rest = joined (pieces_of ss) [] in
     let here : slice_range src start (start + length s.text) ≡ s.text = ap (λ (x : List ℕ). slice_range x start (start + length s.text)) whole ∙ text_here before s.text (b ∷ rest) start is in
     let behind : src ≡ (before ++ (s.text ++ b ∷ [])) ++ rest =
-        whole ∙ ap (λ (x : List ℕ). before ++ x) (sym (append_assoc s.text (b ∷ []) rest)) ∙ sym (append_assoc before (s.text ++ b ∷ []) rest) in
+    whole ∙ ap (λ (x : List ℕ). before ++ x) (sym (append_assoc s.text (b ∷ []) rest)) ∙ sym (append_assoc before (s.text ++ b ∷ []) rest) in
     let count : start + length s.text + 1 ≡ length (before ++ (s.text ++ b ∷ [])) = omega (arith, length-append before (s.text ++ b ∷ []), length-append s.text (b ∷ [])) in
     let others = tokens_again ss src (before ++ (s.text ++ b ∷ [])) (start + length s.text + 1) (place_behind (place_behind at s.text) (b ∷ [])) behind count in
     ap (λ (x : List ℕ). let y : Spelling = record { kind = s.kind; text = x } in y ∷ spellings (toks_of src (tokens_from (start + length s.text + 1) (place_behind (place_behind at s.text) (b ∷ [])) (pieces_of ss)))) here

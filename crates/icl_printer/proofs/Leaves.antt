@@ -7,12 +7,10 @@ use Rattle.icl_lexer.specs.declared.token.TokenKind.{TokenKind}
 use Rattle.icl_lexer.specs.declared.token.TokenKind.TheVariants.{Word, Decimal, Sized, Quoted, Param, Mark}
 use Rattle.icl_lexer.specs.declared.token.Kind.TheVariants.{Is}
 use Rattle.icl_lexer.specs.Pieces.{kind_of}
-use Rattle.icl_syntax.specs.Tokens.{Tok, decimal_of, decimal_from}
+use Rattle.icl_syntax.specs.Tokens.{decimal_of, decimal_from}
 use Rattle.icl_syntax.specs.Values.{Formula, ADecimal, ASized, AQuoted, AParam, AnOp}
 use Rattle.icl_syntax.specs.Grammar.{Counted, leaf_of, leaf_at, with_count, as_decimal}
-use Rattle.icl_printer.specs.Layout.{Spelling}
 use Rattle.icl_printer.specs.Canonical.{formula_tokens}
-use Rattle.icl_printer.specs.Again.{spelling_of, IsSpelled, nowhere}
 use Rattle.icl_printer.proofs.Printed.{Printed, p_token}
 use Rattle.icl_printer.proofs.Bytes.{decimal_kind, decimal_again, small_is, inside_quotes, quoted_text, param_text}
 use Rattle.icl_printer.proofs.Chains.{bare_counted, counted}

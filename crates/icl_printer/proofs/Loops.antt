@@ -1,13 +1,13 @@
 -- Lists of parts, printed and derived again.
-use Rattle.std.proofs.Common.{◌≡◌, ◌==◌, ℕ, zero, suc, Bool, true, List, [], ◌∷◌, ◌++◌, map, Option, Some, None, refl, sym, ap, ◌∙◌, subst, append_assoc, append-nil, inl, inr}
+use Rattle.std.proofs.Common.{◌≡◌, ◌==◌, ℕ, zero, suc, true, List, [], ◌∷◌, ◌++◌, map, Some, None, refl, sym, ap, ◌∙◌, subst, append_assoc, append-nil, inl, inr}
 use Rattle.std.specs.Option.{option_map}
-use Rattle.grammar.specs.Symbol.{give, ◌>>=◌, ◌<|>◌, repeat, many, Parts}
+use Rattle.grammar.specs.Symbol.{give, ◌>>=◌, repeat, many, Parts}
 use Rattle.icl_syntax.specs.Tokens.{Tok}
 use Rattle.icl_syntax.specs.Grammar.{Of, mark as a_mark, appended, maybe, parted}
 use Rattle.icl_printer.specs.Layout.{Spelling, mark}
 use Rattle.icl_printer.specs.Canonical.{in_turn, behind, separated, if_there}
 use Rattle.icl_printer.specs.Again.{spellings, IsSpelled, AllSpelled}
-use Rattle.icl_printer.proofs.Printed.{Cut, cut, all_append, all_front, all_back, Printed, Law, p_turn, p_last, p_give, p_left, p_right, p_mark, turned, nothing_spelled}
+use Rattle.icl_printer.proofs.Printed.{cut, all_append, all_front, all_back, Printed, Law, p_turn, p_last, p_give, p_left, p_right, p_mark, turned, nothing_spelled}
 
 map_snoc : {A B : Type 0} (f : A → B) (xs ys : List A) → map f (xs ++ ys) ≡ map f xs ++ map f ys
 map_snoc f [] ys = refl

@@ -1,14 +1,13 @@
 -- How what is printed of a part of a design is derived again, built of the same for its own parts.
-use Rattle.std.proofs.Common.{◌≡◌, ◌==◌, ℕ, zero, suc, Bool, true, false, cond, List, [], ◌∷◌, ◌++◌, map, Option, Some, None, refl, sym, ap, ◌∙◌, subst, append_assoc, append-nil, inl, inr}
+use Rattle.std.proofs.Common.{◌≡◌, ◌==◌, ℕ, true, false, cond, List, [], ◌∷◌, ◌++◌, Option, Some, None, refl, ap, ◌∙◌, subst, append-nil, inl, inr}
 use Rattle.std.specs.Str.{bytes_eq}
 use Rattle.ij_text.specs.declared.Place.{Place}
-use Rattle.grammar.specs.Symbol.{one, give, ◌>>=◌, ◌<|>◌, repeat, Parts, IsOne}
+use Rattle.grammar.specs.Symbol.{one, give, ◌>>=◌, ◌<|>◌, IsOne}
 use Rattle.icl_lexer.specs.declared.token.TokenKind.{TokenKind}
 use Rattle.icl_lexer.specs.declared.token.TokenKind.TheVariants.{Word, Decimal, Sized, Quoted, Param, Mark}
-use Rattle.icl_syntax.specs.Tokens.{Tok, if_word, if_mark, is_byte, name_at, mark_at, word_at}
-use Rattle.icl_syntax.specs.Grammar.{Of, name, mark as a_mark, word as a_word, appended, maybe, parted, ended_by}
+use Rattle.icl_syntax.specs.Tokens.{Tok, if_word, if_mark, is_byte, name_at}
+use Rattle.icl_syntax.specs.Grammar.{Of, name, mark as a_mark, word as a_word}
 use Rattle.icl_printer.specs.Layout.{Spelling, word, mark}
-use Rattle.icl_printer.specs.Canonical.{in_turn, behind, separated, if_there}
 use Rattle.icl_printer.specs.Again.{spelling_of, spellings, IsSpelled, AllSpelled}
 
 -- ---- lists of spellings

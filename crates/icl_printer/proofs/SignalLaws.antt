@@ -1,19 +1,19 @@
 -- Values, ranges and signals that are printed, derived again.
-use Rattle.std.proofs.Common.{◌≡◌, ◌==◌, ◌≤◌, ℕ, Bool, true, false, List, [], ◌∷◌, ◌++◌, map, drop, Option, Some, None, refl, sym, ap, ◌∙◌, subst, inl, inr, decimal}
+use Rattle.std.proofs.Common.{◌≡◌, ◌==◌, ◌≤◌, ℕ, true, false, List, [], ◌∷◌, map, drop, Option, Some, None, refl, sym, ap, ◌∙◌, subst, inl, inr, decimal}
 use Rattle.std.specs.Option.{option_map}
 use Rattle.ij_text.specs.declared.Place.{Place}
-use Rattle.grammar.specs.Symbol.{one, IsOne, ◌>>=◌, give, repeat}
+use Rattle.grammar.specs.Symbol.{one, ◌>>=◌}
 use Rattle.icl_lexer.specs.declared.token.TokenKind.{TokenKind}
 use Rattle.icl_lexer.specs.declared.token.TokenKind.TheVariants.{Word, Decimal, Sized, Quoted, Param, Mark}
 use Rattle.icl_lexer.specs.declared.token.Kind.TheVariants.{Is}
 use Rattle.icl_lexer.specs.Pieces.{kind_of}
 use Rattle.icl_syntax.specs.Tokens.{Tok, if_word, decimal_of, decimal_from}
-use Rattle.icl_syntax.specs.Values.{Formula, ADecimal, ASized, AParam, Span, Meant, ANumber, APath, Signal}
-use Rattle.icl_syntax.specs.Grammar.{Of, expr, value, range, expr_behind, maybe, Located, number_located, number_of, number_at, as_decimal, Named, named_at, name, path_behind, named_sig, plain_sig, sig, sigs, appended, mark as a_mark}
+use Rattle.icl_syntax.specs.Values.{ADecimal, ASized, AParam, ANumber, APath}
+use Rattle.icl_syntax.specs.Grammar.{expr, value, range, expr_behind, maybe, Located, number_located, number_of, number_at, as_decimal, Named, named_at, name, path_behind, named_sig, plain_sig, sig, sigs, mark as a_mark}
 use Rattle.icl_printer.specs.Layout.{Spelling, word, mark}
-use Rattle.icl_printer.specs.Canonical.{in_turn, behind, separated, if_there, mark_if, formula_tokens, value_tokens, range_tokens, name_tokens, meant_tokens, signal_tokens, signals_tokens}
-use Rattle.icl_printer.specs.Again.{spelling_of, spellings, IsSpelled, AllSpelled, nowhere, bare_formula, bare_value, bare_span, bare_meant, bare_signal, bare_signals}
-use Rattle.icl_printer.proofs.Printed.{Printed, Law, p_turn, p_last, p_give, p_left, p_right, p_mark, p_name, p_token, itself, no_place, name_law, single, halves}
+use Rattle.icl_printer.specs.Canonical.{behind, if_there, formula_tokens, value_tokens, range_tokens, name_tokens, meant_tokens, signal_tokens, signals_tokens}
+use Rattle.icl_printer.specs.Again.{spellings, IsSpelled, AllSpelled, nowhere, bare_formula, bare_value, bare_span, bare_meant, bare_signal, bare_signals}
+use Rattle.icl_printer.proofs.Printed.{Printed, Law, p_turn, p_last, p_left, p_right, p_mark, p_token, itself, name_law, single, halves}
 use Rattle.icl_printer.proofs.Loops.{appends, behind_law, parted_law, maybe_law}
 use Rattle.icl_printer.proofs.Bytes.{decimal_kind, decimal_again, small_is, param_text}
 use Rattle.icl_printer.proofs.Derived.{expr_law}

@@ -1,16 +1,15 @@
 -- What is printed is read again as the same design, places aside.
-use Rattle.std.specs.Prelude.{◌≡◌, ℕ, List, [], ◌∷◌, map, Option, Some}
+use Rattle.std.specs.Prelude.{◌≡◌, ℕ, List, [], ◌∷◌, map, Some}
 use Rattle.std.specs.Option.{option_map}
 use Rattle.ij_text.specs.declared.Place.{Place}
 use Rattle.icl_lexer.specs.declared.token.Token.{Token}
-use Rattle.icl_lexer.specs.declared.token.TokenKind.{TokenKind}
 use Rattle.icl_lexer.specs.declared.token.Kind.TheVariants.{Is}
 use Rattle.icl_lexer.specs.Pieces.{kind_of}
 use Rattle.icl_lexer.specs.Cutting.{AreTokens}
 use Rattle.icl_syntax.specs.Tokens.{Tok, toks_of}
-use Rattle.icl_syntax.specs.Values.{Formula, ADecimal, ASized, AQuoted, AParam, AnOp, Span, Meant, ANumber, APath, Signal, Property, ASource, ALaunchEdge, ALoadValue, ARefEnum, APolarity, AScanInSource, ACaptureSource, AResetValue, ATogether, Row, Binding, ABoundPort, ABoundParameter, ABoundAttribute, EnumValue, Instruction, Meaning, APort, ARegister, AMux, AChild, AnAlias, SomeWords, AParameter, AnInterface, ALink, AnAttribute, Thing, Block}
+use Rattle.icl_syntax.specs.Values.{Formula, ADecimal, ASized, AQuoted, AParam, AnOp, Span, Meant, ANumber, APath, Signal, Property, ASource, ALaunchEdge, ALoadValue, ARefEnum, APolarity, AScanInSource, ACaptureSource, AResetValue, ATogether, Row, Binding, ABoundPort, ABoundParameter, ABoundAttribute, EnumValue, Meaning, APort, ARegister, AMux, AChild, AnAlias, SomeWords, AParameter, AnInterface, ALink, AnAttribute, Thing, Block}
 use Rattle.icl_syntax.specs.Modules.{design}
-use Rattle.icl_printer.specs.Layout.{Spelling, layout}
+use Rattle.icl_printer.specs.Layout.{Spelling}
 use Rattle.icl_printer.specs.Canonical.{tokens_of, design_text}
 
 -- ---- tokens without their places
