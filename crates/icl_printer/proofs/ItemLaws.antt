@@ -1,0 +1,144 @@
+-- What stands behind the word and the name of an item, printed and derived again.
+use Rattle.std.proofs.Common.{◌≡◌, Bool, List, [], ◌∷◌, ◌++◌, map, Option, None, refl, sym, ap, ◌∙◌, subst, append_assoc}
+use Rattle.std.specs.Prelude.{codes}
+use Rattle.std.specs.Option.{option_map}
+use Rattle.icl_syntax.specs.declared.tree.PortKind.{PortKind}
+use Rattle.icl_syntax.specs.declared.words.Owner.{Owner}
+use Rattle.icl_syntax.specs.declared.words.Owner.TheVariants.{ScanIn, ScanOut, DataIn, DataOut, Control, Register, Alias}
+use Rattle.icl_syntax.specs.Tokens.{Tok}
+use Rattle.icl_syntax.specs.Values.{Formula, Span, Signal, Property, Row, Meaning, APort, ARegister, AMux, AnAlias, AParameter, AnAttribute}
+use Rattle.icl_syntax.specs.Grammar.{value, AttributeSaid, attribute_said}
+use Rattle.icl_syntax.specs.Modules.{owner_of, port_range, port, register, alias, parameter, attribute, row, mux}
+use Rattle.icl_printer.specs.Layout.{Spelling, word, mark}
+use Rattle.icl_printer.specs.Canonical.{in_turn, behind, braced, if_there, formula_tokens, value_tokens, range_tokens, signals_tokens, property_tokens, row_tokens}
+use Rattle.icl_printer.specs.Again.{spellings, AllSpelled, nowhere, bare_formula, bare_value, bare_span, bare_signals, bare_row, bare_meaning}
+use Rattle.icl_printer.proofs.Printed.{Printed, Law, p_turn, p_last, p_give, p_mark, p_word, name_law, halves}
+use Rattle.icl_printer.proofs.Loops.{appends, parted_law}
+use Rattle.icl_printer.proofs.SignalLaws.{value_law, behind_expr_law, maybe_expr_law, maybe_range_law, sig_law, sigs_law}
+use Rattle.icl_printer.proofs.BodyLaws.{body_law}
+
+-- ---- items with bodies
+
+port_range_law : (owner : Owner) → Law (port_range owner) (option_map bare_span) (if_there range_tokens)
+port_range_law ScanIn ts r good h = subst (λ z. Printed (port_range ScanIn) (option_map bare_span) (if_there range_tokens z) z) (sym h.1) (p_give None None refl)
+port_range_law ScanOut ts r good h = subst (λ z. Printed (port_range ScanOut) (option_map bare_span) (if_there range_tokens z) z) (sym h.1) (p_give None None refl)
+port_range_law DataIn ts r good h = maybe_range_law ts r good h
+port_range_law DataOut ts r good h = maybe_range_law ts r good h
+port_range_law Control ts r good h = maybe_range_law ts r good h
+port_range_law Register ts r good h = maybe_range_law ts r good h
+port_range_law Alias ts r good h = maybe_range_law ts r good h
+
+pub port_law : (kind : PortKind) (ts : List Tok) (m : Meaning) → AllSpelled (spellings ts) → (port kind).derives ts m
+    → (r : Option Span) × (ps : List Property) × (m ≡ APort kind r ps) × (Printed (port kind) bare_meaning (if_there range_tokens r ++ braced property_tokens ps) (APort kind r ps))
+unfolding port
+port_law kind ts m good h =
+    let g1 = halves h.0 h.1 ts h.3 good in
+    let h2 = h.5 in
+    let g2 = halves h2.0 h2.1 h.1 h2.3 g1.1 in (
+      h.2,
+      h2.2,
+      h2.5.1,
+      p_turn (port_range_law (owner_of kind) h.0 h.2 g1.0 h.4) (λ r er. p_last (body_law (owner_of kind) h2.0 h2.2 g2.0 h2.4) (λ ps ep. cc (er, ep))),
+    )
+
+pub register_law : (ts : List Tok) (m : Meaning) → AllSpelled (spellings ts) → register.derives ts m
+    → (r : Option Span) × (ps : List Property) × (m ≡ ARegister r ps) × (Printed register bare_meaning (if_there range_tokens r ++ braced property_tokens ps) (ARegister r ps))
+unfolding register
+register_law ts m good h =
+    let g1 = halves h.0 h.1 ts h.3 good in
+    let h2 = h.5 in
+    let g2 = halves h2.0 h2.1 h.1 h2.3 g1.1 in (
+      h.2,
+      h2.2,
+      h2.5.1,
+      p_turn (maybe_range_law h.0 h.2 g1.0 h.4) (λ r er. p_last (body_law Register h2.0 h2.2 g2.0 h2.4) (λ ps ep. cc (er, ep))),
+    )
+
+pub alias_law : (ts : List Tok) (m : Meaning) → AllSpelled (spellings ts) → alias.derives ts m
+    → (r : Option Span) × (ss : List Signal) × (ps : List Property) × (m ≡ AnAlias r ss ps)
+    × (Printed alias bare_meaning (if_there range_tokens r ++ (mark 61 ∷ (signals_tokens ss ++ braced property_tokens ps))) (AnAlias r ss ps))
+unfolding alias
+alias_law ts m good h =
+    let g1 = halves h.0 h.1 ts h.3 good in
+    let h2 = h.5 in
+    let g2 = halves h2.0 h2.1 h.1 h2.3 g1.1 in
+    let h3 = h2.5 in
+    let g3 = halves h3.0 h3.1 h2.1 h3.3 g2.1 in
+    let h4 = h3.5 in
+    let g4 = halves h4.0 h4.1 h3.1 h4.3 g3.1 in (
+      h.2,
+      h3.2,
+      h4.2,
+      h4.5.1,
+      p_turn (maybe_range_law h.0 h.2 g1.0 h.4) (λ r er. p_turn (p_mark 61 nowhere refl refl) (λ a ea. p_turn (sigs_law h3.0 h3.2 g3.0 h3.4) (λ ss es. p_last (body_law Alias h4.0 h4.2 g4.0 h4.4) (λ ps ep. cc (er, es, ep))))),
+    )
+
+-- ---- parameters and attributes
+
+pub parameter_law : (local : Bool) (ts : List Tok) (m : Meaning) → AllSpelled (spellings ts) → (parameter local).derives ts m
+    → (v : Formula) × (m ≡ AParameter local v) × (Printed (parameter local) bare_meaning (mark 61 ∷ (formula_tokens v ++ (mark 59 ∷ []))) (AParameter local v))
+unfolding parameter
+parameter_law local ts m good h =
+    let g1 = halves h.0 h.1 ts h.3 good in
+    (h.2, h.5.5.1, p_turn (behind_expr_law 61 refl refl h.0 h.2 g1.0 h.4) (λ v ev. p_last (p_mark 59 nowhere refl refl) (λ s es. ap (AParameter local) ev)))
+
+pub attribute_law : (ts : List Tok) (m : Meaning) → AllSpelled (spellings ts) → attribute.derives ts m
+    → (v : Option Formula) × (m ≡ AnAttribute v) × (Printed attribute bare_meaning (if_there (behind 61 formula_tokens) v ++ (mark 59 ∷ [])) (AnAttribute v))
+unfolding attribute
+attribute_law ts m good h =
+    let g1 = halves h.0 h.1 ts h.3 good in
+    (h.2, h.5.5.1, p_turn (maybe_expr_law 61 refl refl h.0 h.2 g1.0 h.4) (λ v ev. p_last (p_mark 59 nowhere refl refl) (λ s es. ap AnAttribute ev)))
+
+-- ---- multiplexers
+
+row_law : Law row bare_row row_tokens
+unfolding row
+row_law ts r good h =
+    let g1 = halves h.0 h.1 ts h.3 good in
+    let h2 = h.5 in
+    let g2 = halves h2.0 h2.1 h.1 h2.3 g1.1 in
+    let h3 = h2.5 in
+    let g3 = halves h3.0 h3.1 h2.1 h3.3 g2.1 in
+    subst (λ z. Printed row bare_row (row_tokens z) z) (sym h3.5.5.1)
+    (p_turn (parted_law 124 value bare_value value_tokens refl refl value_law h.0 h.2 g1.0 h.4)
+    (λ vs ev. p_turn (p_mark 58 nowhere refl refl) (λ c ec. p_turn (sig_law h3.0 h3.2 g3.0 h3.4) (λ s es. p_last (p_mark 59 nowhere refl refl) (λ e ee. cc (ev, es))))))
+
+pub mux_law : (ts : List Tok) (m : Meaning) → AllSpelled (spellings ts) → mux.derives ts m
+    → (ss : List Signal) × (rs : List Row) × (m ≡ AMux ss rs)
+    × (Printed mux bare_meaning (word (codes "SelectedBy") ∷ (signals_tokens ss ++ (mark 123 ∷ (in_turn row_tokens rs ++ (mark 125 ∷ []))))) (AMux ss rs))
+unfolding mux
+mux_law ts m good h =
+    let g1 = halves h.0 h.1 ts h.3 good in
+    let h2 = h.5 in
+    let g2 = halves h2.0 h2.1 h.1 h2.3 g1.1 in
+    let h3 = h2.5 in
+    let g3 = halves h3.0 h3.1 h2.1 h3.3 g2.1 in
+    let h4 = h3.5 in
+    let g4 = halves h4.0 h4.1 h3.1 h4.3 g3.1 in
+    let h5 = h4.5 in
+    let g5 = halves h5.0 h5.1 h4.1 h5.3 g4.1 in
+    let k = appends row bare_row row_tokens row_law h5.4.0 h5.0 (h4.2 ∷ []) h5.2 g5.0 h5.4.1 in
+    let rs = h4.2 ∷ k.more in
+    let tokens : List Spelling = word (codes "SelectedBy") ∷ (signals_tokens h2.2 ++ (mark 123 ∷ (row_tokens h4.2 ++ (in_turn row_tokens k.more ++ (mark 125 ∷ []))))) in (
+      h2.2,
+      rs,
+      h5.5.5.1 ∙ ap (AMux h2.2) k.is,
+      subst (λ (x : List Spelling). Printed mux bare_meaning x (AMux h2.2 rs))
+          (ap (λ (x : List Spelling). word (codes "SelectedBy") ∷ (signals_tokens h2.2 ++ (mark 123 ∷ x))) (sym (append_assoc (row_tokens h4.2) (in_turn row_tokens k.more) (mark 125 ∷ []))))
+          (p_turn (p_word (codes "SelectedBy") nowhere refl refl)
+          (λ a ea. p_turn (sigs_law h2.0 h2.2 g2.0 h2.4) (λ ss es. p_turn (p_mark 123 nowhere refl refl) (λ o eo. p_turn (row_law h4.0 h4.2 g4.0 h4.4)
+          (λ r er. p_turn (k.printed (r ∷ []) (ap (λ z. z ∷ []) er))
+          (λ xs ex. p_last (p_mark 125 nowhere refl refl) (λ c ec. ap (λ z. AMux z (map bare_row xs)) es ∙ ap (λ z. AMux (bare_signals h2.2) z) (ex ∙ ap (map bare_row) k.is)))))))),
+    )
+
+-- ---- instances
+
+pub attribute_said_law : (ts : List Tok) (a : AttributeSaid) → AllSpelled (spellings ts) → attribute_said.derives ts a
+    → Printed attribute_said (λ z. let b : AttributeSaid = record { name = z.name; value = option_map bare_formula z.value } in b) (word a.name ∷ if_there (behind 61 formula_tokens) a.value) a
+unfolding attribute_said
+attribute_said_law ts a good h =
+    let g1 = halves h.0 h.1 ts h.3 good in
+    let h2 = h.5 in
+    let g2 = halves h2.0 h2.1 h.1 h2.3 g1.1 in
+    subst (λ z. Printed attribute_said (λ z. let b : AttributeSaid = record { name = z.name; value = option_map bare_formula z.value } in b) (word z.name ∷ if_there (behind 61 formula_tokens) z.value) z) (sym h2.5.1)
+    (p_turn (name_law h.0 h.2 g1.0 h.4) (λ n en. p_last (maybe_expr_law 61 refl refl h2.0 h2.2 g2.0 h2.4) (λ v ev. cc (en, ev))))

@@ -1,0 +1,17 @@
+pub mod Laid
+pub mod Operations
+pub mod Printed
+pub mod Loops
+pub mod Chains
+pub mod Bytes
+pub mod Leaves
+pub mod Formulas
+pub mod Derived
+pub mod SignalLaws
+pub mod KeptLoops
+pub mod BodyLaws
+pub mod ItemLaws
+pub mod InstanceLaws
+pub mod DesignLaws
+pub mod Stops
+pub mod Layouts

@@ -1,0 +1,5 @@
+pub mod Layout
+pub mod Canonical
+pub mod Pieces
+pub mod Again
+pub mod Examples

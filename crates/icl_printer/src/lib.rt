@@ -1,0 +1,20 @@
+//! The text of an ICL design (IEEE 1687-2014, the part that this compiler reads).
+//!
+//! `specs/Canonical` has the tokens that each part of a design is printed with, and `specs/Layout` how they are laid
+//! out.
+#![tactic(auto)]
+
+mod bodies;
+mod design;
+mod expressions;
+mod items;
+pub mod laws;
+mod parts;
+mod properties;
+mod put;
+mod signals;
+#[cfg(test)]
+mod tests;
+mod token;
+
+pub use design::put_design;

@@ -1,0 +1,86 @@
+// Names and signals.
+use crate::put::{Put, put_mark_if, put_separated};
+use crate::token::{Piece, put_tokens};
+use icl_syntax::{Sig, SigWhat};
+use ij_bits::List;
+use ij_io::{Sink, StoreFault};
+use ij_text::Name;
+
+/// A name.
+impl Put for Name {
+    ghost use Rattle.std.specs.Prelude.{ℕ, List};
+    ghost use Rattle.icl_printer.specs.Canonical.{name_tokens};
+
+    ghost Plain = { List ℕ };
+
+    ghost view = { λ name. name.items };
+
+    ghost tokens = { name_tokens };
+
+    fn put<K: Sink>(&self, k: &mut K) -> Result<(), StoreFault> {
+        put_tokens(&[Piece::Name(self)], k)?;
+        Ok(())
+    }
+}
+
+/// A number, or a path.
+impl Put for SigWhat {
+    ghost use Rattle.icl_syntax.specs.Values.{Meant};
+    ghost use Rattle.icl_syntax.specs.Views.{seen_sig_what};
+    ghost use Rattle.icl_printer.specs.Canonical.{meant_tokens};
+
+    ghost Plain = { Meant };
+
+    ghost view = { seen_sig_what };
+
+    ghost tokens = { meant_tokens };
+
+    fn put<K: Sink>(&self, k: &mut K) -> Result<(), StoreFault> {
+        match self {
+            SigWhat::Value(number) => number.put(k)?,
+            SigWhat::Named { path, range } => {
+                put_separated(b'.', path, k)?;
+                range.put(k)?;
+            }
+        }
+        Ok(())
+    }
+}
+
+/// A signal.
+impl Put for Sig {
+    ghost use Rattle.icl_syntax.specs.Values.{Signal};
+    ghost use Rattle.icl_syntax.specs.Views.{seen_sig};
+    ghost use Rattle.icl_printer.specs.Canonical.{signal_tokens};
+
+    ghost Plain = { Signal };
+
+    ghost view = { seen_sig };
+
+    ghost tokens = { signal_tokens };
+
+    fn put<K: Sink>(&self, k: &mut K) -> Result<(), StoreFault> {
+        put_mark_if(self.inverted, b'~', k)?;
+        self.what.put(k)?;
+        Ok(())
+    }
+}
+
+/// Signals, the leftmost first.
+impl Put for List<Sig> {
+    ghost use Rattle.std.specs.Prelude.{List};
+    ghost use Rattle.icl_syntax.specs.Values.{Signal};
+    ghost use Rattle.icl_syntax.specs.Views.{seen_sig, seen_list};
+    ghost use Rattle.icl_printer.specs.Canonical.{signals_tokens};
+
+    ghost Plain = { List Signal };
+
+    ghost view = { seen_list seen_sig };
+
+    ghost tokens = { signals_tokens };
+
+    fn put<K: Sink>(&self, k: &mut K) -> Result<(), StoreFault> {
+        put_separated(b',', self, k)?;
+        Ok(())
+    }
+}

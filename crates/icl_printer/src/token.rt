@@ -1,0 +1,78 @@
+// Single tokens, each with the blank behind it.
+ghost use Rattle.std.specs.Prelude.{◌≡◌, OnOk, OnErr, map};
+ghost use Rattle.ij_io.specs.Bytes.{Adds, AddsPart};
+ghost use Rattle.ij_io.specs.Causes.{HasCause};
+ghost use Rattle.icl_printer.specs.Layout.{layout, gap_behind, laid};
+ghost use Rattle.icl_printer.specs.Pieces.{spelled};
+
+use ij_bits::List;
+use ij_io::{Sink, StoreFault, put_pieces};
+use ij_text::{Name, Text};
+use svf_writer::decimal::put_decimal;
+
+/// A token to be written.
+#[derive(Clone, Copy)]
+pub(crate) enum Piece<'a> {
+    /// A word of the grammar.
+    Word(&'a [u8]),
+    Name(&'a Name),
+    Mark(u8),
+    Decimal(u32),
+    /// A sized number, the bytes of its token.
+    Sized(&'a Text),
+    /// A text, without its quotes.
+    Quoted(&'a Text),
+    /// A parameter, without its `$`.
+    Param(&'a Name),
+}
+
+/// The blank behind a mark: a line end behind `;`, `{` and `}`, and a space behind any other.
+fn gap_behind(mark: u8) -> u8
+    ensures { result ≡ gap_behind mark }
+{
+    match mark {
+        b';' | b'{' | b'}' => b'\n',
+        _ => b' ',
+    }
+}
+
+/// Writes a token and the blank behind it.
+fn put_token<K: Sink>(piece: &Piece, k: &mut K) -> Result<(), StoreFault>
+    ensures whole { OnOk result (Adds (K.taken k.old) (K.taken k.new) (laid (spelled piece.now))) }
+    ensures part { OnErr result (AddsPart (K.taken k.old) (K.taken k.new) (laid (spelled piece.now))) }
+    ensures cause { HasCause (K.faults k.old) (K.faults k.new) result StoreFault.Failed }
+{
+    match piece {
+        Piece::Word(word) => put_pieces(k, &[word, b" "])?,
+        Piece::Name(name) => put_pieces(k, &[name.as_slice(), b" "])?,
+        Piece::Mark(mark) => k.write(&[*mark, gap_behind(*mark)])?,
+        Piece::Decimal(n) => put_number(*n, k)?,
+        Piece::Sized(text) => put_pieces(k, &[text.as_slice(), b" "])?,
+        Piece::Quoted(text) => put_pieces(k, &[b"\"", text.as_slice(), b"\" "])?,
+        Piece::Param(name) => put_pieces(k, &[b"$", name.as_slice(), b" "])?,
+    }
+    Ok(())
+}
+
+/// Writes a decimal and a space.
+fn put_number<K: Sink>(n: u32, k: &mut K) -> Result<(), StoreFault>
+    ensures whole { OnOk result (Adds (K.taken k.old) (K.taken k.new) (laid (spelled (Piece.Decimal n)))) }
+    ensures part { OnErr result (AddsPart (K.taken k.old) (K.taken k.new) (laid (spelled (Piece.Decimal n)))) }
+    ensures cause { HasCause (K.faults k.old) (K.faults k.new) result StoreFault.Failed }
+{
+    put_decimal(n, k)?;
+    k.write(b" ")?;
+    Ok(())
+}
+
+/// Writes tokens, each with the blank behind it.
+pub(crate) fn put_tokens<K: Sink>(pieces: &[Piece], k: &mut K) -> Result<(), StoreFault>
+    ensures whole { OnOk result (Adds (K.taken k.old) (K.taken k.new) (layout (map spelled pieces.now))) }
+    ensures part { OnErr result (AddsPart (K.taken k.old) (K.taken k.new) (layout (map spelled pieces.now))) }
+    ensures cause { HasCause (K.faults k.old) (K.faults k.new) result StoreFault.Failed }
+{
+    for piece in pieces {
+        put_token(piece, k)?;
+    }
+    Ok(())
+}
