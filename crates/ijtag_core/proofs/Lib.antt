@@ -5,3 +5,4 @@ pub mod Compiling
 pub mod Complete
 pub mod Playing
 pub mod Verdicts
+pub mod IclStops

@@ -76,7 +76,7 @@ line_end None = codes "\n"
 line_end (Some word) = concat (codes " " ∷ word ∷ codes "\n" ∷ [])
 
 -- a refusal of a text: its stage, its cause, the place, and the word that it tells
-abbrev pub located_line : List ℕ → List ℕ → Place → Option (List ℕ) → List ℕ
+unfoldable pub located_line : List ℕ → List ℕ → Place → Option (List ℕ) → List ℕ
 located_line stage cause at word = concat (stage ∷ cause ∷ codes " " ∷ []) ++ (place_text at ++ line_end word)
 
 unfoldable pub svf_cause : Cause → List ℕ

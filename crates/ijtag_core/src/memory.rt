@@ -1,8 +1,10 @@
 // Runs in memory.
-ghost use Rattle.std.specs.Prelude.{◌≡◌, ◌⊎◌, IfSome, Some};
+ghost use Rattle.std.specs.Prelude.{◌≡◌, ◌⊎◌, IsNone, IfSome, Some};
 ghost use Rattle.ij_io.specs.SureShelf.{sure_files_in};
 ghost use Rattle.ijtag_core.specs.Command.{command_in};
-ghost use Rattle.ijtag_core.specs.Runs.{IsAccepted, IsDone, Compares, OnlyPlaysPrint};
+ghost use Rattle.ijtag_core.specs.Outcome.{IsEarlyStatus};
+ghost use Rattle.ijtag_core.specs.Runs.{IsAccepted, IsFirstRefusal, IsDone, Compares, OnlySvfChanges, OnlyPlaysPrint};
+ghost use Rattle.ijtag_core.specs.Stops.{Refusal};
 
 use crate::{Status, ijtag};
 use ij_io::{SureShelf, SureSink};
@@ -17,10 +19,15 @@ pub fn ijtag_in_memory(
     out: &mut SureSink,
     err: &mut SureSink,
 ) -> Status
+    ensures no_command { IsNone (command_in words.now.items) → (result ≡ Status.Usage) ⊎ (result ≡ Status.OutOfMemory) }
+    ensures refuses { IfSome (command_in words.now.items) (λ command. (refusal : Refusal) → IsFirstRefusal (sure_files_in shelf.old) command refusal → (result ≡ Status.Refused) ⊎ (result ≡ Status.OutOfMemory)) }
     ensures complete { IfSome (command_in words.now.items) (λ command. IsAccepted (sure_files_in shelf.old) command → (result ≡ Status.Good) ⊎ ((result ≡ Status.Differs) ⊎ (result ≡ Status.OutOfMemory))) }
     ensures good { result ≡ Status.Good → IfSome (command_in words.now.items) (λ command. IsDone (sure_files_in shelf.old) command Status.Good (Some (sure_files_in shelf.new)) (Some out.old) (Some out.new)) }
     ensures differs { result ≡ Status.Differs → IfSome (command_in words.now.items) (λ command. IsDone (sure_files_in shelf.old) command Status.Differs (Some (sure_files_in shelf.new)) (Some out.old) (Some out.new)) }
     ensures never_differs { result ≡ Status.Differs → IfSome (command_in words.now.items) Compares }
+    ensures same_files { IsEarlyStatus result → Some (sure_files_in shelf.new) ≡ Some (sure_files_in shelf.old) }
+    ensures same_output { IsEarlyStatus result → out.new ≡ out.old }
+    ensures others { OnlySvfChanges (command_in words.now.items) (Some (sure_files_in shelf.old)) (Some (sure_files_in shelf.new)) }
     ensures out { OnlyPlaysPrint (command_in words.now.items) out.old out.new }
     ensures quiet { (result ≡ Status.Good) ⊎ (result ≡ Status.Differs) → err.new ≡ err.old }
 {

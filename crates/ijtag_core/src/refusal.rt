@@ -153,8 +153,8 @@ fn put_place<K: Sink>(at: Place, k: &mut K) -> Result<(), StoreFault>
 /// Prints what stands behind the place: a word, where there is one, and the line's end.
 #[tactic(auto, unfolding(crate::specs::Stops::line_end))]
 fn put_line_end<K: Sink>(word: Option<&[u8]>, k: &mut K) -> Result<(), StoreFault>
-    ensures whole { OnOk result (Adds (K.taken k.old) (K.taken k.new) (line_end (option_map (λ w. w.now) word))) }
-    ensures part { OnErr result (AddsPart (K.taken k.old) (K.taken k.new) (line_end (option_map (λ w. w.now) word))) }
+    ensures whole { OnOk result (Adds (K.taken k.old) (K.taken k.new) (line_end (option_map (λ w. w.now) word.entry))) }
+    ensures part { OnErr result (AddsPart (K.taken k.old) (K.taken k.new) (line_end (option_map (λ w. w.now) word.entry))) }
     ensures cause { HasCause (K.faults k.old) (K.faults k.new) result StoreFault.Failed }
 {
     match word {
@@ -164,6 +164,7 @@ fn put_line_end<K: Sink>(word: Option<&[u8]>, k: &mut K) -> Result<(), StoreFaul
 }
 
 /// Prints the line of a refused text.
+#[tactic(auto, unfolding(crate::specs::Stops::located_line))]
 fn put_located<K: Sink>(
     stage: &[u8],
     cause: &[u8],
@@ -171,8 +172,8 @@ fn put_located<K: Sink>(
     word: Option<&[u8]>,
     k: &mut K,
 ) -> Result<(), StoreFault>
-    ensures whole { OnOk result (Adds (K.taken k.old) (K.taken k.new) (located_line stage.now cause.now at (option_map (λ w. w.now) word))) }
-    ensures part { OnErr result (AddsPart (K.taken k.old) (K.taken k.new) (located_line stage.now cause.now at (option_map (λ w. w.now) word))) }
+    ensures whole { OnOk result (Adds (K.taken k.old) (K.taken k.new) (located_line stage.now cause.now at (option_map (λ w. w.now) word.entry))) }
+    ensures part { OnErr result (AddsPart (K.taken k.old) (K.taken k.new) (located_line stage.now cause.now at (option_map (λ w. w.now) word.entry))) }
     ensures cause { HasCause (K.faults k.old) (K.faults k.new) result StoreFault.Failed }
 {
     put_pieces(k, &[stage, cause, b" "])?;

@@ -195,74 +195,121 @@ const TABLES: &[u8] = b"tables 1\n";
 fn plays_print_their_reports(rt: HostRuntime) -> Result<(), Fail> {
     let alloc = rt.alloc();
     let words = play_words(alloc)?;
-    let rows: [(&[u8], &[u8], u8, &[u8], &[u8]); 9] = [
+    let rows: [(&[u8], Status, &[u8]); 3] = [
         (
             SVF,
-            TABLES,
-            0,
+            Status::Good,
             b"register net.R 0101\nscans 2 clocks 29 differs 0\n",
-            b"",
         ),
         (
             b"",
-            TABLES,
-            0,
+            Status::Good,
             b"register net.R 0000\nscans 0 clocks 0 differs 0\n",
-            b"",
         ),
         (
             b"HDR 0;\nSIR 8 TDI (A0);\nSDR 4 TDI (5);\nSDR 4 TDO (4);\n",
-            TABLES,
-            1,
+            Status::Differs,
             b"differs scan 3 bit 0 expected 0 read 1\nregister net.R 0101\nscans 3 clocks 33 differs 1\n",
-            b"",
         ),
-        (
-            b"SDR 4 TDI (5",
-            TABLES,
-            3,
-            b"",
-            b"refused svf SvfSyntax 1:1\n",
-        ),
-        (
-            b"HDR 1 TDI (0);\n",
-            TABLES,
-            3,
-            b"",
-            b"refused svf LeftOut 1:1 HDR\n",
-        ),
-        (
-            b"SDR 4 TDI (1F);\n",
-            b"tables 2\n",
-            3,
-            b"",
-            b"refused svf HexWide 1:1\n",
-        ),
-        (
-            b"SIR 8 TDI (A0);\n\n SDR 5 TDO (5);\n",
-            TABLES,
-            3,
-            b"",
-            b"refused svf TdiMissing 3:2\n",
-        ),
-        (
-            b"SDR 65537 TDI (0);\n",
-            TABLES,
-            3,
-            b"",
-            b"refused svf SvfLimit 1:1\n",
-        ),
-        (SVF, b"tables 1", 3, b"", b"refused core FirstForm\n"),
     ];
-    for (svf, tables, status, printed, said) in rows {
-        let mut shelf = shelf_to_play(alloc, svf, tables)?;
+    for (svf, status, printed) in rows {
+        let mut shelf = shelf_to_play(alloc, svf, TABLES)?;
         let mut out = MemSink::new(alloc);
         let mut err = MemSink::new(alloc);
         let ended = ijtag(alloc, &words, &mut shelf, &mut out, &mut err);
-        assert_eq!(rt; ended.code(), status);
+        assert_eq!(rt; ended, status);
         assert_eq!(rt; out.bytes(), printed);
-        assert_eq!(rt; err.bytes(), said);
+        assert_eq!(rt; err.bytes(), b"".as_slice());
         assert_eq!(rt; shelf.file("a.svf"), Some(svf));
+    }
+    Ok(())
+}
+
+// ICL comes before SVF, and both before the first form.
+#[test]
+fn refused_plays_tell_why(rt: HostRuntime) -> Result<(), Fail> {
+    let alloc = rt.alloc();
+    let words = play_words(alloc)?;
+    let rows: [(&[u8], &[u8], &[u8], &[u8]); 8] = [
+        (
+            b"Module chip { ScanRegister }",
+            b"x",
+            TABLES,
+            b"refused icl Syntax 1:28\n",
+        ),
+        (
+            b"Module chip { LogicSignal x; }",
+            b"x",
+            TABLES,
+            b"refused icl LeftOut 1:15 LogicSignal\n",
+        ),
+        (
+            b"Module a { /* x",
+            b"x",
+            TABLES,
+            b"refused icl OpenComment 1:12\n",
+        ),
+        (
+            b"Module chip { }",
+            b"HDR 1 TDI (0);\n",
+            TABLES,
+            b"refused svf LeftOut 1:1 HDR\n",
+        ),
+        (
+            ICL,
+            b"SIR 8 TDI (A0);\n\n SDR 5 TDO (5);\n",
+            b"tables 2\n",
+            b"refused svf TdiMissing 3:2\n",
+        ),
+        (ICL, b"SDR 4 TDI (5", TABLES, b"refused svf SvfSyntax 1:1\n"),
+        (b"Module chip { }", SVF, TABLES, b"refused core FirstForm\n"),
+        (ICL, SVF, b"tables 1", b"refused core FirstForm\n"),
+    ];
+    for (icl, svf, tables, said) in rows {
+        let mut shelf = shelf_to_play(alloc, svf, tables)?;
+        shelf.put_file("a.icl", icl)?;
+        let mut out = MemSink::new(alloc);
+        let mut err = MemSink::new(alloc);
+        let ended = ijtag(alloc, &words, &mut shelf, &mut out, &mut err);
+        assert_eq!(rt; ended, Status::Refused);
+        assert_eq!(rt; out.bytes(), b"".as_slice());
+        assert_eq!(rt; err.bytes(), said);
+    }
+    Ok(())
+}
+
+/// The ICL text of a register of so many bits.
+fn icl_of(alloc: Global, width: u32) -> Result<String, AllocError> {
+    let left = width.wrapping_sub(1);
+    format!(in alloc;
+        "Module Net {{\n  ScanInPort SI; ScanOutPort SO {{ Source R[0]; }}\n  ScanInterface client {{ Port SI; Port SO; }}\n  ScanRegister R[{left}:0] {{ ScanInSource SI; CaptureSource R; ResetValue {width}'b0; }}\n}}\nModule chip {{\n  Instance net Of Net;\n  AccessLink tap Of STD_1149_1_2001 {{\n    BSDLEntity chip; IJTAG {{ ScanInterface {{ net.client; }} }}\n  }}\n}}\n"
+    )
+}
+
+#[test]
+fn registers_of_all_widths_are_compiled_and_played(rt: HostRuntime) -> Result<(), Fail> {
+    let alloc = rt.alloc();
+    for width in 0..66u32 {
+        let mut shelf = shelf_to_play(alloc, b"", TABLES)?;
+        shelf.put_file("a.icl", icl_of(alloc, width)?.as_bytes())?;
+        shelf.put_file("a.pdl", b"iProcsForModule chip\niProc p {} {\n}\n")?;
+        let mut out = MemSink::new(alloc);
+        let mut err = MemSink::new(alloc);
+        let wanted = if width == 0 || width == 65 {
+            Status::Refused
+        } else {
+            Status::Good
+        };
+        let compiled = ijtag(
+            alloc,
+            &compile_words(alloc)?,
+            &mut shelf,
+            &mut out,
+            &mut err,
+        );
+        assert_eq!(rt; compiled, wanted);
+        let played = ijtag(alloc, &play_words(alloc)?, &mut shelf, &mut out, &mut err);
+        assert_eq!(rt; played, wanted);
     }
     Ok(())
 }
