@@ -1,2 +1,4 @@
 pub mod Seen
+pub mod SeenParts
 pub mod Reading
+pub mod Refusals

@@ -1,18 +1,19 @@
 // Properties and bodies.
-ghost use Rattle.std.specs.Prelude.{◌≡◌, ◌<◌, ◌≤◌, [], IfOk, length, map};
+ghost use Rattle.std.specs.Prelude.{◌≡◌, ◌<◌, ◌≤◌, [], Some, IfOk, length, map};
 ghost use Rattle.std.specs.Option.{option_map};
-ghost use Rattle.icl_syntax.specs.Views.{seen_expr, seen_list, seen_prop};
+ghost use Rattle.icl_syntax.specs.Views.{seen_expr, seen_list, seen_prop, seen_sig};
 ghost use Rattle.icl_syntax.specs.Grammar.{is_prop, stands, takes, lacks, with_property, free_prop_at};
-ghost use Rattle.icl_parser.specs.Seen.{toks, tok, seen_read, seen_said, same, Gives};
-ghost use Rattle.icl_parser.specs.Reading.{begins, read_put, read_free_prop, read_attribute_said, read_prop_behind, read_property, read_body_end, read_body};
+ghost use Rattle.icl_parser.specs.Seen.{toks, tok, seen_read, same, Gives};
+ghost use Rattle.icl_parser.specs.SeenParts.{seen_said};
+ghost use Rattle.icl_parser.specs.Reading.{read_put, read_free_prop, read_attribute_said, read_one_sig, read_sources, read_prop_behind, read_property, read_properties, read_body_end, read_braced_body, read_body};
 
 use crate::fault::Stop;
 use crate::leaves::read_decimal;
-use crate::lexeme::{Lexeme, Read, before_close, begins_mark, read_mark, read_name};
+use crate::lexeme::{Lexeme, Read, before_close, begins_mark, pushed, read_mark, read_name};
 use crate::signals::{maybe_expr_behind, read_sig, read_sigs, read_value};
 use crate::words::prop_word;
 use icl_syntax::{Expr, Owner, Prop, PropWord, Sig};
-use ij_bits::List;
+use ij_bits::{List, OutOfMemory};
 use ij_text::Name;
 use std::alloc::Global;
 
@@ -135,14 +136,12 @@ pub(crate) fn read_attribute_said<'a>(
 }
 
 /// A signal alone, as a list.
-fn one_sig<'a>(alloc: Global, tokens: &'a [Lexeme<'a>]) -> Result<Read<'a, List<Sig>>, Stop> {
+fn one_sig<'a>(alloc: Global, tokens: &'a [Lexeme<'a>]) -> Result<Read<'a, List<Sig>>, Stop>
+    ensures shorter { IfOk result (λ r. length r.rest.now < length tokens.now) }
+    ensures gives { Gives (seen_read (seen_list seen_sig)) result (read_one_sig (toks tokens.now)) }
+{
     let sig = read_sig(alloc, tokens)?;
-    let mut sigs = List::new(alloc);
-    sigs.push(sig.value)?;
-    Ok(Read {
-        value: sigs,
-        rest: sig.rest,
-    })
+    Ok(pushed(List::new(alloc), sig)?)
 }
 
 /// The source of a port: one signal of a `ScanOutPort`.
@@ -150,7 +149,10 @@ fn read_sources<'a>(
     alloc: Global,
     owner: Owner,
     tokens: &'a [Lexeme<'a>],
-) -> Result<Read<'a, List<Sig>>, Stop> {
+) -> Result<Read<'a, List<Sig>>, Stop>
+    ensures shorter { IfOk result (λ r. length r.rest.now < length tokens.now) }
+    ensures gives { Gives (seen_read (seen_list seen_sig)) result (read_sources owner (toks tokens.now)) }
+{
     match owner {
         Owner::ScanOut => one_sig(alloc, tokens),
         _ => read_sigs(alloc, tokens),
@@ -158,7 +160,10 @@ fn read_sources<'a>(
 }
 
 /// A property in front of the rest.
-fn some<'a>(prop: Prop, rest: &'a [Lexeme<'a>]) -> Read<'a, Option<Prop>> {
+fn some<'a>(prop: Prop, rest: &'a [Lexeme<'a>]) -> Read<'a, Option<Prop>>
+    ensures value { option_map seen_prop result.value ≡ Some (seen_prop prop) }
+    ensures rest { result.rest.now ≡ rest.now }
+{
     Read {
         value: Some(prop),
         rest,
@@ -166,6 +171,7 @@ fn some<'a>(prop: Prop, rest: &'a [Lexeme<'a>]) -> Read<'a, Option<Prop>> {
 }
 
 /// What stands behind the word of a property. An attribute isn't kept.
+#[tactic(auto, unfolding(crate::specs::Reading::read_prop_behind))]
 fn read_prop_behind<'a>(
     alloc: Global,
     owner: Owner,
@@ -180,6 +186,22 @@ fn read_prop_behind<'a>(
             let sigs = read_sources(alloc, owner, tokens)?;
             Ok(some(Prop::Source(sigs.value), sigs.rest))
         }
+        PropWord::LaunchEdge => {
+            let edge = read_name(alloc, tokens)?;
+            Ok(some(Prop::LaunchEdge(edge.value), edge.rest))
+        }
+        PropWord::DefaultLoadValue => {
+            let value = read_value(alloc, tokens)?;
+            Ok(some(Prop::DefaultLoadValue(value.value), value.rest))
+        }
+        PropWord::RefEnum => {
+            let name = read_name(alloc, tokens)?;
+            Ok(some(Prop::RefEnum(name.value), name.rest))
+        }
+        PropWord::ActivePolarity => {
+            let n = read_decimal(tokens)?;
+            Ok(some(Prop::ActivePolarity(n.value), n.rest))
+        }
         PropWord::ScanInSource => {
             let sig = read_sig(alloc, tokens)?;
             Ok(some(Prop::ScanInSource(sig.value), sig.rest))
@@ -188,6 +210,10 @@ fn read_prop_behind<'a>(
             let sigs = read_sigs(alloc, tokens)?;
             Ok(some(Prop::CaptureSource(sigs.value), sigs.rest))
         }
+        PropWord::ResetValue => {
+            let value = read_value(alloc, tokens)?;
+            Ok(some(Prop::ResetValue(value.value), value.rest))
+        }
         PropWord::AccessTogether => Ok(some(Prop::AccessTogether, tokens)),
         PropWord::Attribute => {
             let said = read_attribute_said(alloc, tokens)?;
@@ -195,37 +221,6 @@ fn read_prop_behind<'a>(
                 value: None,
                 rest: said.rest,
             })
-        }
-        _ => read_named_or_value(alloc, word, tokens),
-    }
-}
-
-/// What stands behind the word of a property that has a name or numbers.
-fn read_named_or_value<'a>(
-    alloc: Global,
-    word: PropWord,
-    tokens: &'a [Lexeme<'a>],
-) -> Result<Read<'a, Option<Prop>>, Stop> {
-    match word {
-        PropWord::LaunchEdge => {
-            let name = read_name(alloc, tokens)?;
-            Ok(some(Prop::LaunchEdge(name.value), name.rest))
-        }
-        PropWord::RefEnum => {
-            let name = read_name(alloc, tokens)?;
-            Ok(some(Prop::RefEnum(name.value), name.rest))
-        }
-        PropWord::DefaultLoadValue => {
-            let value = read_value(alloc, tokens)?;
-            Ok(some(Prop::DefaultLoadValue(value.value), value.rest))
-        }
-        PropWord::ResetValue => {
-            let value = read_value(alloc, tokens)?;
-            Ok(some(Prop::ResetValue(value.value), value.rest))
-        }
-        _ => {
-            let n = read_decimal(tokens)?;
-            Ok(some(Prop::ActivePolarity(n.value), n.rest))
         }
     }
 }
@@ -249,6 +244,7 @@ fn read_free_prop<'a>(
 }
 
 /// A property up to its `;`.
+#[tactic(auto, unfolding(crate::specs::Reading::read_property))]
 fn read_property<'a>(
     alloc: Global,
     owner: Owner,
@@ -269,46 +265,55 @@ fn read_property<'a>(
 
 // ---- bodies
 
-/// Puts a property at the end of a list, if there is one.
-fn put(props: &mut List<Prop>, prop: Option<Prop>) -> Result<(), Stop> {
-    if let Some(prop) = prop {
-        props.push(prop)?;
+/// Properties with the next one behind them, if it is kept.
+fn with<'a>(
+    props: List<Prop>,
+    next: Read<'a, Option<Prop>>,
+) -> Result<Read<'a, List<Prop>>, OutOfMemory>
+    ensures value { IfOk result (λ r. seen_list seen_prop r.value ≡ with_property (seen_list seen_prop props) (option_map seen_prop next.entry.value)) }
+    ensures rest { IfOk result (λ r. r.rest.now ≡ next.entry.rest.now) }
+{
+    let rest = next.rest;
+    match next.value {
+        Some(value) => pushed(props, Read { value, rest }),
+        None => Ok(Read { value: props, rest }),
     }
-    Ok(())
 }
 
-/// A property, which is put at the end of a list.
-fn put_property<'a>(
+/// Properties with the next one.
+fn with_property<'a>(
     alloc: Global,
     owner: Owner,
-    tokens: &'a [Lexeme<'a>],
-    props: &mut List<Prop>,
-) -> Result<&'a [Lexeme<'a>], Stop>
-    ensures shorter { IfOk result (λ r. length r.now < length tokens.now) }
-    ensures gives { Gives (λ r. (seen_list seen_prop props.new, toks r.now)) result (read_put (read_property owner (seen_list seen_prop props.old)) with_property (seen_list seen_prop props.old) (toks tokens.now)) }
+    props: Read<'a, List<Prop>>,
+) -> Result<Read<'a, List<Prop>>, Stop>
+    ensures shorter { IfOk result (λ r. length r.rest.now < length props.entry.rest.now) }
+    ensures gives { Gives (seen_read (seen_list seen_prop)) result (read_put (read_property owner (seen_list seen_prop props.entry.value)) with_property (seen_list seen_prop props.entry.value) (toks props.entry.rest.now)) }
 {
-    let prop = read_property(alloc, owner, props.as_slice(), tokens)?;
-    put(props, prop.value)?;
-    Ok(prop.rest)
+    let next = read_property(alloc, owner, props.value.as_slice(), props.rest)?;
+    Ok(with(props.value, next)?)
 }
 
-/// Properties.
+/// Properties up to a `}`.
 fn read_properties<'a>(
     alloc: Global,
     owner: Owner,
     tokens: &'a [Lexeme<'a>],
 ) -> Result<Read<'a, List<Prop>>, Stop>
     ensures shorter { IfOk result (λ r. length r.rest.now ≤ length tokens.now) }
+    ensures gives { Gives (seen_read (seen_list seen_prop)) result (read_properties owner (toks tokens.now)) }
 {
-    let mut props = List::new(alloc);
-    let mut rest = tokens;
-    while before_close(rest) {
-        rest = put_property(alloc, owner, rest, &mut props)?;
+    let mut props = Read {
+        value: List::new(alloc),
+        rest: tokens,
+    };
+    while before_close(props.rest) {
+        props = with_property(alloc, owner, props)?;
     }
-    Ok(Read { value: props, rest })
+    Ok(props)
 }
 
 /// The end of a body: a mark, if the body lacks nothing.
+#[tactic(auto, unfolding(crate::specs::Reading::read_body_end))]
 fn read_body_end<'a>(
     owner: Owner,
     props: List<Prop>,
@@ -329,12 +334,14 @@ fn read_body_end<'a>(
 }
 
 /// Properties in braces.
+#[tactic(auto, unfolding(crate::specs::Reading::read_braced_body))]
 fn read_braced<'a>(
     alloc: Global,
     owner: Owner,
     tokens: &'a [Lexeme<'a>],
 ) -> Result<Read<'a, List<Prop>>, Stop>
     ensures shorter { IfOk result (λ r. length r.rest.now < length tokens.now) }
+    ensures gives { Gives (seen_read (seen_list seen_prop)) result (read_braced_body owner (toks tokens.now)) }
 {
     let open = read_mark(tokens, b'{')?;
     let props = read_properties(alloc, owner, open.rest)?;
@@ -342,6 +349,7 @@ fn read_braced<'a>(
 }
 
 /// A body: a `;`, or properties in braces.
+#[tactic(auto, unfolding(crate::specs::Reading::read_body))]
 pub(crate) fn read_body<'a>(
     alloc: Global,
     owner: Owner,

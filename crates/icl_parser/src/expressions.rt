@@ -1,5 +1,5 @@
 // Expressions.
-ghost use Rattle.std.specs.Prelude.{◌≡◌, ◌≤◌, ◌<◌, ◌+◌, ◌×◌, true, false, IfOk, length};
+ghost use Rattle.std.specs.Prelude.{◌≡◌, ◌≤◌, ◌<◌, ◌+◌, true, false, IfOk, length};
 ghost use Rattle.grammar.specs.Reading.{read_barred};
 ghost use Rattle.icl_syntax.specs.Grammar.{too_deep, sum_sign, product_sign, with_operand};
 ghost use Rattle.icl_syntax.specs.Views.{seen_expr};
@@ -9,7 +9,9 @@ ghost use Rattle.icl_parser.specs.Reading.{read_put, read_operand, read_factor, 
 use crate::fault::Stop;
 use crate::leaves::read_leaf;
 use crate::lexeme::{Lexeme, Read, begins_mark, read_mark};
-use crate::signs::{SignAt, begins_product_sign, begins_sum_sign, read_product_sign, read_sum_sign};
+use crate::signs::{
+    SignAt, begins_product_sign, begins_sum_sign, read_product_sign, read_sum_sign,
+};
 use icl_syntax::{Expr, Limit};
 use std::alloc::Global;
 
@@ -36,6 +38,7 @@ fn too_deep<'a>(tokens: &'a [Lexeme<'a>]) -> Result<Read<'a, Counting>, Stop>
 
 /// A token, or an expression in at most `depth` levels of parentheses.
 #[cycle(expressions)]
+#[tactic(auto, using(crate::proofs::Factors::factor_steps))]
 fn factor<'a>(
     alloc: Global,
     tokens: &'a [Lexeme<'a>],
@@ -106,6 +109,7 @@ fn product<'a>(
 
 /// What stands on the left, with the next operator and factor.
 #[cycle(expressions)]
+#[tactic(auto, unfolding(crate::specs::Reading::read_operand))]
 fn with_factor<'a>(
     alloc: Global,
     left: Read<'a, Counting>,
@@ -143,6 +147,7 @@ fn sum<'a>(
 
 /// What stands on the left, with the next operator and product.
 #[cycle(expressions)]
+#[tactic(auto, unfolding(crate::specs::Reading::read_operand))]
 fn with_product<'a>(
     alloc: Global,
     left: Read<'a, Counting>,
@@ -169,24 +174,23 @@ fn joined<'a>(
     ensures rest { IfOk result (λ r. length r.rest.now ≡ length right.entry.rest.now) }
     ensures gives { Gives (seen_read seen_counting) result (joined (seen_counting left) (seen_sign sign) (seen_counting right.entry.value) (toks right.entry.rest.now)) }
 {
+    let rest = right.rest;
+    let right = right.value;
     let a = Box::new(alloc, left.expr)?;
-    let b = Box::new(alloc, right.value.expr)?;
+    let b = Box::new(alloc, right.expr)?;
     Ok(Read {
         value: Counting {
             expr: Expr::Op(sign.at, sign.sign, a, b),
-            used: right.value.used,
+            used: right.used,
             lone: false,
         },
-        rest: right.rest,
+        rest,
     })
 }
 
 /// An expression: at most 64 levels of parentheses and 256 operators.
 #[tactic(auto, unfolding(crate::specs::Reading::read_expr))]
-pub(crate) fn read_expr<'a>(
-    alloc: Global,
-    tokens: &'a [Lexeme<'a>],
-) -> Result<Read<'a, Expr>, Stop>
+pub(crate) fn read_expr<'a>(alloc: Global, tokens: &'a [Lexeme<'a>]) -> Result<Read<'a, Expr>, Stop>
     ensures shorter { IfOk result (λ r. length r.rest.now < length tokens.now) }
     ensures gives { Gives (seen_read seen_expr) result (read_expr (toks tokens.now)) }
 {

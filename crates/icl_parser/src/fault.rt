@@ -11,7 +11,7 @@ use std::alloc::{AllocError, AllocFailed};
 /// Why a text is refused. All but the want of memory speak of the first token after which no continuation is in the
 /// grammar of ICL (IEEE 1687-2014, as far as it is read here). Where the text ends too early, this is its end, the place
 /// after its last byte.
-#[derive(Debug, Drop)]
+#[derive(Drop)]
 pub enum ParseFault {
     /// There is no memory.
     OutOfMemory,

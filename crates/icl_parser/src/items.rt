@@ -1,16 +1,21 @@
 // Items that declare or bind: ports, registers, aliases, parameters, attributes, multiplexers, instances.
-ghost use Rattle.std.specs.Prelude.{◌≡◌, ◌<◌, ◌≤◌, [], codes, IfOk, length};
+ghost use Rattle.std.specs.Prelude.{◌≡◌, ◌<◌, ◌≤◌, IfOk, length};
 ghost use Rattle.std.specs.Option.{option_map};
-ghost use Rattle.icl_syntax.specs.Views.{seen_list, seen_expr, seen_sig, seen_row, seen_bind, seen_what};
+ghost use Rattle.icl_syntax.specs.Views.{seen_list, seen_expr, seen_range, seen_row, seen_bind, seen_what};
 ghost use Rattle.icl_syntax.specs.Grammar.{appended};
-ghost use Rattle.icl_syntax.specs.Modules.{owner_of, bind_word_at};
-ghost use Rattle.icl_parser.specs.Seen.{toks, tok, seen_read, Gives};
-ghost use Rattle.icl_parser.specs.Reading.{begins, is_some_at, read_put, read_after, read_port, read_register, read_alias, read_parameter, read_attribute, read_value, read_row, read_rows, read_mux, read_bind, read_binds, read_child, read_braced};
+ghost use Rattle.icl_syntax.specs.Modules.{owner_of};
+ghost use Rattle.icl_parser.specs.Seen.{toks, seen_read, Gives};
+ghost use Rattle.icl_parser.specs.SeenParts.{seen_bind_begin};
+ghost use Rattle.icl_parser.specs.Reading.{read_put, read_after, read_port_range, read_port, read_register, read_alias, read_parameter, read_attribute, read_value, read_values, read_row, read_rows, read_mux, read_bound_port, read_bound_parameter, read_bound_attribute, read_bind_behind, read_bind_begin, read_bind, read_many_binds, read_braced_binds, read_binds, read_child};
 
 use crate::bodies::{read_attribute_said, read_body};
 use crate::fault::Stop;
-use crate::lexeme::{Lexeme, Read, before_close, begins_mark, read_mark, read_name, read_word};
-use crate::signals::{maybe_expr_behind, maybe_range, read_expr_behind, read_sig, read_sigs, read_value};
+use crate::lexeme::{
+    Lexeme, Read, before_close, begins_mark, pushed, read_mark, read_name, read_word,
+};
+use crate::signals::{
+    maybe_expr_behind, maybe_range, read_expr_behind, read_sig, read_sigs, read_value,
+};
 use crate::words::bind_word;
 use icl_syntax::{Bind, BindWord, Expr, MuxRow, Owner, PortKind, Range, What};
 use ij_bits::List;
@@ -33,11 +38,14 @@ fn owner_of(kind: PortKind) -> Owner
 }
 
 /// The range of a port, which a scan port hasn't.
-fn port_range<'a>(
+fn read_port_range<'a>(
     alloc: Global,
     owner: Owner,
     tokens: &'a [Lexeme<'a>],
-) -> Result<Read<'a, Option<Range>>, Stop> {
+) -> Result<Read<'a, Option<Range>>, Stop>
+    ensures shorter { IfOk result (λ r. length r.rest.now ≤ length tokens.now) }
+    ensures gives { Gives (seen_read (option_map seen_range)) result (read_port_range owner (toks tokens.now)) }
+{
     match owner {
         Owner::ScanIn | Owner::ScanOut => Ok(Read {
             value: None,
@@ -48,6 +56,7 @@ fn port_range<'a>(
 }
 
 /// A port behind its name.
+#[tactic(auto, unfolding(crate::specs::Reading::read_port))]
 pub(crate) fn read_port<'a>(
     alloc: Global,
     kind: PortKind,
@@ -57,7 +66,7 @@ pub(crate) fn read_port<'a>(
     ensures gives { Gives (seen_read seen_what) result (read_port kind (toks tokens.now)) }
 {
     let owner = owner_of(kind);
-    let range = port_range(alloc, owner, tokens)?;
+    let range = read_port_range(alloc, owner, tokens)?;
     let props = read_body(alloc, owner, range.rest)?;
     Ok(Read {
         value: What::Port {
@@ -70,6 +79,7 @@ pub(crate) fn read_port<'a>(
 }
 
 /// A scan register behind its name.
+#[tactic(auto, unfolding(crate::specs::Reading::read_register))]
 pub(crate) fn read_register<'a>(
     alloc: Global,
     tokens: &'a [Lexeme<'a>],
@@ -89,6 +99,7 @@ pub(crate) fn read_register<'a>(
 }
 
 /// An alias behind its name.
+#[tactic(auto, unfolding(crate::specs::Reading::read_alias))]
 pub(crate) fn read_alias<'a>(
     alloc: Global,
     tokens: &'a [Lexeme<'a>],
@@ -111,6 +122,7 @@ pub(crate) fn read_alias<'a>(
 }
 
 /// A parameter behind its name.
+#[tactic(auto, unfolding(crate::specs::Reading::read_parameter))]
 pub(crate) fn read_parameter<'a>(
     alloc: Global,
     local: bool,
@@ -131,6 +143,7 @@ pub(crate) fn read_parameter<'a>(
 }
 
 /// An attribute of a module behind its name.
+#[tactic(auto, unfolding(crate::specs::Reading::read_attribute))]
 pub(crate) fn read_attribute<'a>(
     alloc: Global,
     tokens: &'a [Lexeme<'a>],
@@ -148,31 +161,17 @@ pub(crate) fn read_attribute<'a>(
 
 // ---- multiplexers
 
-/// A value, which is put at the end of a list.
-fn put_value<'a>(
+/// Values with the next one, behind a `|`.
+fn with_next_value<'a>(
     alloc: Global,
-    tokens: &'a [Lexeme<'a>],
-    values: &mut List<List<Expr>>,
-) -> Result<&'a [Lexeme<'a>], Stop>
-    ensures shorter { IfOk result (λ r. length r.now < length tokens.now) }
-    ensures gives { Gives (λ r. (seen_list (seen_list seen_expr) values.new, toks r.now)) result (read_put read_value appended (seen_list (seen_list seen_expr) values.old) (toks tokens.now)) }
+    values: Read<'a, List<List<Expr>>>,
+) -> Result<Read<'a, List<List<Expr>>>, Stop>
+    ensures shorter { IfOk result (λ r. length r.rest.now < length values.entry.rest.now) }
+    ensures gives { Gives (seen_read (seen_list (seen_list seen_expr))) result (read_put (read_after 124 read_value) appended (seen_list (seen_list seen_expr) values.entry.value) (toks values.entry.rest.now)) }
 {
-    let value = read_value(alloc, tokens)?;
-    values.push(value.value)?;
-    Ok(value.rest)
-}
-
-/// The same behind a `|`.
-fn put_next_value<'a>(
-    alloc: Global,
-    tokens: &'a [Lexeme<'a>],
-    values: &mut List<List<Expr>>,
-) -> Result<&'a [Lexeme<'a>], Stop>
-    ensures shorter { IfOk result (λ r. length r.now < length tokens.now) }
-    ensures gives { Gives (λ r. (seen_list (seen_list seen_expr) values.new, toks r.now)) result (read_put (read_after 124 read_value) appended (seen_list (seen_list seen_expr) values.old) (toks tokens.now)) }
-{
-    let bar = read_mark(tokens, b'|')?;
-    put_value(alloc, bar.rest, values)
+    let bar = read_mark(values.rest, b'|')?;
+    let next = read_value(alloc, bar.rest)?;
+    Ok(pushed(values.value, next)?)
 }
 
 /// Values with `|` between them.
@@ -181,16 +180,18 @@ fn read_values<'a>(
     tokens: &'a [Lexeme<'a>],
 ) -> Result<Read<'a, List<List<Expr>>>, Stop>
     ensures shorter { IfOk result (λ r. length r.rest.now < length tokens.now) }
+    ensures gives { Gives (seen_read (seen_list (seen_list seen_expr))) result (read_values (toks tokens.now)) }
 {
-    let mut values = List::new(alloc);
-    let mut rest = put_value(alloc, tokens, &mut values)?;
-    while begins_mark(rest, b'|') {
-        rest = put_next_value(alloc, rest, &mut values)?;
+    let first = read_value(alloc, tokens)?;
+    let mut values = pushed(List::new(alloc), first)?;
+    while begins_mark(values.rest, b'|') {
+        values = with_next_value(alloc, values)?;
     }
-    Ok(Read { value: values, rest })
+    Ok(values)
 }
 
 /// A row of a multiplexer.
+#[tactic(auto, unfolding(crate::specs::Reading::read_row))]
 fn read_row<'a>(alloc: Global, tokens: &'a [Lexeme<'a>]) -> Result<Read<'a, MuxRow>, Stop>
     ensures shorter { IfOk result (λ r. length r.rest.now < length tokens.now) }
     ensures gives { Gives (seen_read seen_row) result (read_row (toks tokens.now)) }
@@ -208,40 +209,34 @@ fn read_row<'a>(alloc: Global, tokens: &'a [Lexeme<'a>]) -> Result<Read<'a, MuxR
     })
 }
 
-/// A row, which is put at the end of a list.
-fn put_row<'a>(
+/// Rows with the next one.
+fn with_next_row<'a>(
     alloc: Global,
-    tokens: &'a [Lexeme<'a>],
-    rows: &mut List<MuxRow>,
-) -> Result<&'a [Lexeme<'a>], Stop>
-    ensures shorter { IfOk result (λ r. length r.now < length tokens.now) }
-    ensures gives { Gives (λ r. (seen_list seen_row rows.new, toks r.now)) result (read_put read_row appended (seen_list seen_row rows.old) (toks tokens.now)) }
+    rows: Read<'a, List<MuxRow>>,
+) -> Result<Read<'a, List<MuxRow>>, Stop>
+    ensures shorter { IfOk result (λ r. length r.rest.now < length rows.entry.rest.now) }
+    ensures gives { Gives (seen_read (seen_list seen_row)) result (read_put read_row appended (seen_list seen_row rows.entry.value) (toks rows.entry.rest.now)) }
 {
-    let row = read_row(alloc, tokens)?;
-    rows.push(row.value)?;
-    Ok(row.rest)
+    let next = read_row(alloc, rows.rest)?;
+    Ok(pushed(rows.value, next)?)
 }
 
 /// One row or more, up to a `}`.
-fn read_rows<'a>(
-    alloc: Global,
-    tokens: &'a [Lexeme<'a>],
-) -> Result<Read<'a, List<MuxRow>>, Stop>
+fn read_rows<'a>(alloc: Global, tokens: &'a [Lexeme<'a>]) -> Result<Read<'a, List<MuxRow>>, Stop>
     ensures shorter { IfOk result (λ r. length r.rest.now < length tokens.now) }
+    ensures gives { Gives (seen_read (seen_list seen_row)) result (read_rows (toks tokens.now)) }
 {
-    let mut rows = List::new(alloc);
-    let mut rest = put_row(alloc, tokens, &mut rows)?;
-    while before_close(rest) {
-        rest = put_row(alloc, rest, &mut rows)?;
+    let first = read_row(alloc, tokens)?;
+    let mut rows = pushed(List::new(alloc), first)?;
+    while before_close(rows.rest) {
+        rows = with_next_row(alloc, rows)?;
     }
-    Ok(Read { value: rows, rest })
+    Ok(rows)
 }
 
 /// A multiplexer behind its name.
-pub(crate) fn read_mux<'a>(
-    alloc: Global,
-    tokens: &'a [Lexeme<'a>],
-) -> Result<Read<'a, What>, Stop>
+#[tactic(auto, unfolding(crate::specs::Reading::read_mux))]
+pub(crate) fn read_mux<'a>(alloc: Global, tokens: &'a [Lexeme<'a>]) -> Result<Read<'a, What>, Stop>
     ensures shorter { IfOk result (λ r. length r.rest.now < length tokens.now) }
     ensures gives { Gives (seen_read seen_what) result (read_mux (toks tokens.now)) }
 {
@@ -262,11 +257,15 @@ pub(crate) fn read_mux<'a>(
 // ---- instances
 
 /// A binding of a port behind its word.
-fn bound_port<'a>(
+#[tactic(auto, unfolding(crate::specs::Reading::read_bound_port))]
+fn read_bound_port<'a>(
     alloc: Global,
     at: Place,
     tokens: &'a [Lexeme<'a>],
-) -> Result<Read<'a, Bind>, Stop> {
+) -> Result<Read<'a, Bind>, Stop>
+    ensures shorter { IfOk result (λ r. length r.rest.now < length tokens.now) }
+    ensures gives { Gives (seen_read seen_bind) result (read_bound_port at (toks tokens.now)) }
+{
     let name = read_name(alloc, tokens)?;
     let range = maybe_range(alloc, name.rest)?;
     let equals = read_mark(range.rest, b'=')?;
@@ -283,11 +282,15 @@ fn bound_port<'a>(
 }
 
 /// A binding of a parameter behind its word.
-fn bound_parameter<'a>(
+#[tactic(auto, unfolding(crate::specs::Reading::read_bound_parameter))]
+fn read_bound_parameter<'a>(
     alloc: Global,
     at: Place,
     tokens: &'a [Lexeme<'a>],
-) -> Result<Read<'a, Bind>, Stop> {
+) -> Result<Read<'a, Bind>, Stop>
+    ensures shorter { IfOk result (λ r. length r.rest.now < length tokens.now) }
+    ensures gives { Gives (seen_read seen_bind) result (read_bound_parameter at (toks tokens.now)) }
+{
     let name = read_name(alloc, tokens)?;
     let value = read_expr_behind(alloc, name.rest, b'=')?;
     Ok(Read {
@@ -301,10 +304,11 @@ fn bound_parameter<'a>(
 }
 
 /// An attribute of an instance behind its word.
-fn bound_attribute<'a>(
-    alloc: Global,
-    tokens: &'a [Lexeme<'a>],
-) -> Result<Read<'a, Bind>, Stop> {
+#[tactic(auto, unfolding(crate::specs::Reading::read_bound_attribute))]
+fn read_bound_attribute<'a>(alloc: Global, tokens: &'a [Lexeme<'a>]) -> Result<Read<'a, Bind>, Stop>
+    ensures shorter { IfOk result (λ r. length r.rest.now < length tokens.now) }
+    ensures gives { Gives (seen_read seen_bind) result (read_bound_attribute (toks tokens.now)) }
+{
     let said = read_attribute_said(alloc, tokens)?;
     Ok(Read {
         value: Bind::Attribute {
@@ -316,16 +320,19 @@ fn bound_attribute<'a>(
 }
 
 /// What stands behind the word of a binding.
-fn bind_behind<'a>(
+fn read_bind_behind<'a>(
     alloc: Global,
     at: Place,
     word: BindWord,
     tokens: &'a [Lexeme<'a>],
-) -> Result<Read<'a, Bind>, Stop> {
+) -> Result<Read<'a, Bind>, Stop>
+    ensures shorter { IfOk result (λ r. length r.rest.now < length tokens.now) }
+    ensures gives { Gives (seen_read seen_bind) result (read_bind_behind at word (toks tokens.now)) }
+{
     match word {
-        BindWord::BindsPort => bound_port(alloc, at, tokens),
-        BindWord::BindsParameter => bound_parameter(alloc, at, tokens),
-        BindWord::BindsAttribute => bound_attribute(alloc, tokens),
+        BindWord::BindsPort => read_bound_port(alloc, at, tokens),
+        BindWord::BindsParameter => read_bound_parameter(alloc, at, tokens),
+        BindWord::BindsAttribute => read_bound_attribute(alloc, tokens),
     }
 }
 
@@ -336,7 +343,10 @@ pub(crate) struct BindBegin {
     pub word: BindWord,
 }
 
-fn read_bind_begin<'a>(tokens: &'a [Lexeme<'a>]) -> Result<Read<'a, BindBegin>, Stop> {
+fn read_bind_begin<'a>(tokens: &'a [Lexeme<'a>]) -> Result<Read<'a, BindBegin>, Stop>
+    ensures shorter { IfOk result (λ r. length r.rest.now < length tokens.now) }
+    ensures gives { Gives (seen_read seen_bind_begin) result (read_bind_begin (toks tokens.now)) }
+{
     match tokens {
         [t, rest @ ..] => match bind_word(t) {
             Some(word) => Ok(Read {
@@ -350,12 +360,13 @@ fn read_bind_begin<'a>(tokens: &'a [Lexeme<'a>]) -> Result<Read<'a, BindBegin>, 
 }
 
 /// A binding up to its `;`.
+#[tactic(auto, unfolding(crate::specs::Reading::read_bind))]
 fn read_bind<'a>(alloc: Global, tokens: &'a [Lexeme<'a>]) -> Result<Read<'a, Bind>, Stop>
     ensures shorter { IfOk result (λ r. length r.rest.now < length tokens.now) }
     ensures gives { Gives (seen_read seen_bind) result (read_bind (toks tokens.now)) }
 {
     let begin = read_bind_begin(tokens)?;
-    let bind = bind_behind(alloc, begin.value.at, begin.value.word, begin.rest)?;
+    let bind = read_bind_behind(alloc, begin.value.at, begin.value.word, begin.rest)?;
     let end = read_mark(bind.rest, b';')?;
     Ok(Read {
         value: bind.value,
@@ -363,18 +374,16 @@ fn read_bind<'a>(alloc: Global, tokens: &'a [Lexeme<'a>]) -> Result<Read<'a, Bin
     })
 }
 
-/// A binding, which is put at the end of a list.
-fn put_bind<'a>(
+/// Bindings with the next one.
+fn with_next_bind<'a>(
     alloc: Global,
-    tokens: &'a [Lexeme<'a>],
-    binds: &mut List<Bind>,
-) -> Result<&'a [Lexeme<'a>], Stop>
-    ensures shorter { IfOk result (λ r. length r.now < length tokens.now) }
-    ensures gives { Gives (λ r. (seen_list seen_bind binds.new, toks r.now)) result (read_put read_bind appended (seen_list seen_bind binds.old) (toks tokens.now)) }
+    binds: Read<'a, List<Bind>>,
+) -> Result<Read<'a, List<Bind>>, Stop>
+    ensures shorter { IfOk result (λ r. length r.rest.now < length binds.entry.rest.now) }
+    ensures gives { Gives (seen_read (seen_list seen_bind)) result (read_put read_bind appended (seen_list seen_bind binds.entry.value) (toks binds.entry.rest.now)) }
 {
-    let bind = read_bind(alloc, tokens)?;
-    binds.push(bind.value)?;
-    Ok(bind.rest)
+    let next = read_bind(alloc, binds.rest)?;
+    Ok(pushed(binds.value, next)?)
 }
 
 /// Bindings up to a `}`.
@@ -383,19 +392,27 @@ fn read_many_binds<'a>(
     tokens: &'a [Lexeme<'a>],
 ) -> Result<Read<'a, List<Bind>>, Stop>
     ensures shorter { IfOk result (λ r. length r.rest.now ≤ length tokens.now) }
+    ensures gives { Gives (seen_read (seen_list seen_bind)) result (read_many_binds (toks tokens.now)) }
 {
-    let mut binds = List::new(alloc);
-    let mut rest = tokens;
-    while before_close(rest) {
-        rest = put_bind(alloc, rest, &mut binds)?;
+    let mut binds = Read {
+        value: List::new(alloc),
+        rest: tokens,
+    };
+    while before_close(binds.rest) {
+        binds = with_next_bind(alloc, binds)?;
     }
-    Ok(Read { value: binds, rest })
+    Ok(binds)
 }
 
-fn braced_binds<'a>(
+/// Bindings in braces.
+#[tactic(auto, unfolding(crate::specs::Reading::read_braced_binds))]
+fn read_braced_binds<'a>(
     alloc: Global,
     tokens: &'a [Lexeme<'a>],
-) -> Result<Read<'a, List<Bind>>, Stop> {
+) -> Result<Read<'a, List<Bind>>, Stop>
+    ensures shorter { IfOk result (λ r. length r.rest.now < length tokens.now) }
+    ensures gives { Gives (seen_read (seen_list seen_bind)) result (read_braced_binds (toks tokens.now)) }
+{
     let open = read_mark(tokens, b'{')?;
     let binds = read_many_binds(alloc, open.rest)?;
     let close = read_mark(binds.rest, b'}')?;
@@ -406,20 +423,23 @@ fn braced_binds<'a>(
 }
 
 /// A `;`, or bindings in braces.
+#[tactic(auto, unfolding(crate::specs::Reading::read_binds))]
 fn read_binds<'a>(alloc: Global, tokens: &'a [Lexeme<'a>]) -> Result<Read<'a, List<Bind>>, Stop>
     ensures shorter { IfOk result (λ r. length r.rest.now < length tokens.now) }
     ensures gives { Gives (seen_read (seen_list seen_bind)) result (read_binds (toks tokens.now)) }
 {
-    match tokens {
-        [t, rest @ ..] if t.is_mark(b';') => Ok(Read {
-            value: List::new(alloc),
-            rest,
-        }),
-        _ => braced_binds(alloc, tokens),
+    if !begins_mark(tokens, b';') {
+        return read_braced_binds(alloc, tokens);
     }
+    let end = read_mark(tokens, b';')?;
+    Ok(Read {
+        value: List::new(alloc),
+        rest: end.rest,
+    })
 }
 
 /// An instance behind its name.
+#[tactic(auto, unfolding(crate::specs::Reading::read_child))]
 pub(crate) fn read_child<'a>(
     alloc: Global,
     tokens: &'a [Lexeme<'a>],

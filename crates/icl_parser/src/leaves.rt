@@ -1,8 +1,9 @@
 // The tokens that are expressions by themselves.
-ghost use Rattle.std.specs.Prelude.{◌≡◌, ◌-◌, ◌<◌, ◌≤◌, ℕ, length, drop, slice_range, IfOk, Option};
+ghost use Rattle.std.specs.Prelude.{◌≡◌, ◌-◌, ◌<◌, ◌≤◌, ◌+◌, ◌*◌, ◌==◌, cond, ℕ, length, drop, slice_range, IfOk, Option, true, Some, None};
 ghost use Rattle.std.specs.Option.{option_map};
 ghost use Rattle.icl_syntax.specs.Tokens.{decimal_of, decimal_at};
-ghost use Rattle.icl_syntax.specs.Grammar.{number_of, leaf_at};
+ghost use Rattle.icl_syntax.specs.Values.{ASized};
+ghost use Rattle.icl_syntax.specs.Grammar.{Counted, number_of, leaf_at, with_count};
 ghost use Rattle.icl_syntax.specs.Views.{seen_expr};
 ghost use Rattle.icl_parser.specs.Seen.{tok, toks, seen_read, seen_counting, same, Gives};
 ghost use Rattle.icl_parser.specs.Reading.{read_leaf, read_decimal};
@@ -15,8 +16,12 @@ use icl_syntax::Expr;
 use ij_bits::OutOfMemory;
 use std::alloc::Global;
 
-/// The number behind a number and one byte more of a decimal.
-fn with_digit(n: u64, b: u8) -> u64 {
+/// The value of a decimal with one more byte.
+fn with_digit(n: u64, b: u8) -> u64
+    requires { n ≤ 4294967295 }
+    ensures value { result ≡ cond (b == 95) n (10 * n + (b - 48)) }
+    ensures bounded { result ≤ 42949673205 }
+{
     if b == b'_' {
         n
     } else {
@@ -65,21 +70,39 @@ pub(crate) fn number_value(alloc: Global, t: &Lexeme) -> Result<Option<Expr>, Ou
     match t.kind {
         TokenKind::Decimal => Ok(decimal(t.text).map(Expr::Decimal)),
         TokenKind::Sized => Ok(Some(Expr::Sized(copied(alloc, t.text)?))),
-        TokenKind::Param => Ok(Some(Expr::Param(
-            t.at,
-            copied(alloc, behind_first(t.text))?,
-        ))),
+        TokenKind::Param => Ok(Some(Expr::Param(t.at, copied(alloc, behind_first(t.text))?))),
         TokenKind::Word | TokenKind::Quoted | TokenKind::Mark => Ok(None),
     }
 }
 
-/// The expression that a token is, which isn't a sized number.
-fn plain_value(alloc: Global, t: &Lexeme) -> Result<Option<Expr>, OutOfMemory> {
-    match t.kind {
-        TokenKind::Quoted => Ok(Some(Expr::Quoted(copied(alloc, between_ends(t.text))?))),
-        TokenKind::Sized => Ok(None),
-        _ => number_value(alloc, t),
+/// A sized number, where it may stand.
+fn sized_value(
+    alloc: Global,
+    text: &[u8],
+    alone: bool,
+    used: u32,
+) -> Result<Option<Counting>, OutOfMemory>
+    ensures { IfOk result (λ o. option_map seen_counting o ≡ cond alone (Some (record { formula = ASized text.now; used = used; lone = true })) None) }
+{
+    if !alone {
+        return Ok(None);
     }
+    Ok(Some(Counting {
+        expr: Expr::Sized(copied(alloc, text)?),
+        used,
+        lone: true,
+    }))
+}
+
+/// An expression that no sized number is.
+fn counted(expr: Expr, used: u32) -> Option<Counting>
+    ensures { option_map seen_counting result ≡ with_count used (Some (seen_expr expr)) }
+{
+    Some(Counting {
+        expr,
+        used,
+        lone: false,
+    })
 }
 
 /// The expression that a token is: a sized number only where it stands alone.
@@ -91,18 +114,21 @@ fn leaf_value(
 ) -> Result<Option<Counting>, OutOfMemory>
     ensures { IfOk result (λ o. option_map seen_counting o ≡ leaf_at alone used (tok t.now)) }
 {
-    let lone = match t.kind {
-        TokenKind::Sized => alone,
-        _ => false,
-    };
-    let expr = if lone {
-        Some(Expr::Sized(copied(alloc, t.text)?))
-    } else {
-        plain_value(alloc, t)?
-    };
-    match expr {
-        Some(expr) => Ok(Some(Counting { expr, used, lone })),
-        None => Ok(None),
+    match t.kind {
+        TokenKind::Decimal => match decimal(t.text) {
+            Some(n) => Ok(counted(Expr::Decimal(n), used)),
+            None => Ok(None),
+        },
+        TokenKind::Param => {
+            let name = copied(alloc, behind_first(t.text))?;
+            Ok(counted(Expr::Param(t.at, name), used))
+        }
+        TokenKind::Quoted => {
+            let text = copied(alloc, between_ends(t.text))?;
+            Ok(counted(Expr::Quoted(text), used))
+        }
+        TokenKind::Sized => sized_value(alloc, t.text, alone, used),
+        TokenKind::Word | TokenKind::Mark => Ok(None),
     }
 }
 

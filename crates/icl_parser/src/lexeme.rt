@@ -1,5 +1,5 @@
 // Tokens with their texts, and reading one of them.
-ghost use Rattle.std.specs.Prelude.{◌≡◌, ◌<◌, ◌≤◌, ℕ, false, length, IfOk, drop, slice_range, Option, Some, None, map};
+ghost use Rattle.std.specs.Prelude.{◌≡◌, ◌<◌, ◌≤◌, ℕ, false, length, IfOk, ◌++◌, ◌∷◌, []};
 ghost use Rattle.icl_lexer.specs.declared.token.TokenKind.{TokenKind};
 ghost use Rattle.icl_syntax.specs.Tokens.{is_mark, is_word, is_left_out, name_at, if_word, word_at, mark_at};
 ghost use Rattle.icl_syntax.specs.Views.{bytes_of};
@@ -63,6 +63,22 @@ pub(crate) fn copied(alloc: Global, bytes: &[u8]) -> Result<Text, OutOfMemory>
     Ok(List::from(Vec::from_slice(alloc, bytes)?))
 }
 
+/// A list, with a value at its end, and the tokens behind the value.
+pub(crate) fn pushed<'a, X: Drop>(
+    list: List<X>,
+    read: Read<'a, X>,
+) -> Result<Read<'a, List<X>>, OutOfMemory>
+    ensures items { IfOk result (λ r. r.value.items ≡ list.items ++ read.entry.value ∷ []) }
+    ensures rest { IfOk result (λ r. r.rest.now ≡ read.entry.rest.now) }
+{
+    let mut list = list;
+    list.push(read.value)?;
+    Ok(Read {
+        value: list,
+        rest: read.rest,
+    })
+}
+
 /// Whether a mark is the next token.
 pub(crate) fn begins_mark(tokens: &[Lexeme], mark: u8) -> bool
     ensures { result ≡ begins (is_mark mark) (toks tokens.now) }
@@ -105,10 +121,7 @@ pub(crate) fn read_mark<'a>(tokens: &'a [Lexeme<'a>], mark: u8) -> Result<Read<'
 }
 
 /// A word that is this one, and its place.
-pub(crate) fn read_word<'a>(
-    tokens: &'a [Lexeme<'a>],
-    word: &[u8],
-) -> Result<Read<'a, Place>, Stop>
+pub(crate) fn read_word<'a>(tokens: &'a [Lexeme<'a>], word: &[u8]) -> Result<Read<'a, Place>, Stop>
     ensures shorter { IfOk result (λ r. length r.rest.now < length tokens.now) }
     ensures gives { Gives (seen_read same) result (read_word word.now (toks tokens.now)) }
 {
@@ -119,10 +132,7 @@ pub(crate) fn read_word<'a>(
 }
 
 /// Any word, a keyword included.
-pub(crate) fn read_name<'a>(
-    alloc: Global,
-    tokens: &'a [Lexeme<'a>],
-) -> Result<Read<'a, Name>, Stop>
+pub(crate) fn read_name<'a>(alloc: Global, tokens: &'a [Lexeme<'a>]) -> Result<Read<'a, Name>, Stop>
     ensures shorter { IfOk result (λ r. length r.rest.now < length tokens.now) }
     ensures gives { Gives (seen_read bytes_of) result (read_name (toks tokens.now)) }
 {

@@ -2,6 +2,7 @@
 #![tactic(auto)]
 
 mod bodies;
+mod ends;
 mod expressions;
 mod fault;
 mod items;

@@ -1,27 +1,30 @@
 // Items of names: enumerations, scan interfaces and access links.
-ghost use Rattle.std.specs.Prelude.{◌≡◌, ◌<◌, ◌≤◌, [], codes, IfOk, length};
-ghost use Rattle.icl_syntax.specs.Views.{seen_list, seen_instr, seen_enum_word, seen_what};
-ghost use Rattle.icl_parser.specs.Seen.{toks, tok, seen_read, Gives};
-ghost use Rattle.icl_parser.specs.Reading.{read_words, read_interface, read_link, read_instruction, read_enum_word};
+ghost use Rattle.std.specs.Prelude.{◌≡◌, ◌<◌, ◌≤◌, IfOk, length};
+ghost use Rattle.std.specs.Option.{option_map};
+ghost use Rattle.icl_syntax.specs.Views.{bytes_of, seen_list, seen_instr, seen_enum_word, seen_what};
+ghost use Rattle.icl_syntax.specs.Grammar.{appended};
+ghost use Rattle.icl_syntax.specs.Modules.{with_member};
+ghost use Rattle.icl_parser.specs.Seen.{toks, seen_read, same, Gives};
+ghost use Rattle.icl_parser.specs.SeenParts.{seen_selected};
+ghost use Rattle.icl_parser.specs.Reading.{read_put, read_enum_word, read_many_words, read_words, read_member_word, read_member_behind, read_member, read_members, read_interface, read_selected, read_selecting, read_instruction, read_instructions, read_entity, read_link_kind, read_link};
 
 use crate::bodies::read_attribute_said;
 use crate::fault::Stop;
-use crate::lexeme::{Lexeme, Read, before_close, read_mark, read_name, read_word};
+use crate::lexeme::{Lexeme, Read, before_close, pushed, read_mark, read_name, read_word};
 use crate::signals::read_value;
 use crate::words::{link_kind, member_word};
 use icl_syntax::{EnumWord, LinkInstr, LinkKind, MemberWord, What};
-use ij_bits::List;
+use ij_bits::{List, OutOfMemory};
 use ij_text::Name;
 use std::alloc::Global;
 
 // ---- enumerations
 
 /// A word of an enumeration up to its `;`.
-fn read_enum_word<'a>(
-    alloc: Global,
-    tokens: &'a [Lexeme<'a>],
-) -> Result<Read<'a, EnumWord>, Stop>
+#[tactic(auto, unfolding(crate::specs::Reading::read_enum_word))]
+fn read_enum_word<'a>(alloc: Global, tokens: &'a [Lexeme<'a>]) -> Result<Read<'a, EnumWord>, Stop>
     ensures shorter { IfOk result (λ r. length r.rest.now < length tokens.now) }
+    ensures gives { Gives (seen_read seen_enum_word) result (read_enum_word (toks tokens.now)) }
 {
     let name = read_name(alloc, tokens)?;
     let equals = read_mark(name.rest, b'=')?;
@@ -36,16 +39,16 @@ fn read_enum_word<'a>(
     })
 }
 
-fn put_enum_word<'a>(
+/// Words with the next one.
+fn with_next_word<'a>(
     alloc: Global,
-    tokens: &'a [Lexeme<'a>],
-    words: &mut List<EnumWord>,
-) -> Result<&'a [Lexeme<'a>], Stop>
-    ensures shorter { IfOk result (λ r. length r.now < length tokens.now) }
+    words: Read<'a, List<EnumWord>>,
+) -> Result<Read<'a, List<EnumWord>>, Stop>
+    ensures shorter { IfOk result (λ r. length r.rest.now < length words.entry.rest.now) }
+    ensures gives { Gives (seen_read (seen_list seen_enum_word)) result (read_put read_enum_word appended (seen_list seen_enum_word words.entry.value) (toks words.entry.rest.now)) }
 {
-    let word = read_enum_word(alloc, tokens)?;
-    words.push(word.value)?;
-    Ok(word.rest)
+    let next = read_enum_word(alloc, words.rest)?;
+    Ok(pushed(words.value, next)?)
 }
 
 /// Words of an enumeration up to a `}`.
@@ -54,21 +57,26 @@ fn read_many_words<'a>(
     tokens: &'a [Lexeme<'a>],
 ) -> Result<Read<'a, List<EnumWord>>, Stop>
     ensures shorter { IfOk result (λ r. length r.rest.now ≤ length tokens.now) }
+    ensures gives { Gives (seen_read (seen_list seen_enum_word)) result (read_many_words (toks tokens.now)) }
 {
-    let mut words = List::new(alloc);
-    let mut rest = tokens;
-    while before_close(rest) {
-        rest = put_enum_word(alloc, rest, &mut words)?;
+    let mut words = Read {
+        value: List::new(alloc),
+        rest: tokens,
+    };
+    while before_close(words.rest) {
+        words = with_next_word(alloc, words)?;
     }
-    Ok(Read { value: words, rest })
+    Ok(words)
 }
 
 /// An enumeration behind its name.
+#[tactic(auto, unfolding(crate::specs::Reading::read_words))]
 pub(crate) fn read_words<'a>(
     alloc: Global,
     tokens: &'a [Lexeme<'a>],
 ) -> Result<Read<'a, What>, Stop>
     ensures shorter { IfOk result (λ r. length r.rest.now < length tokens.now) }
+    ensures gives { Gives (seen_read seen_what) result (read_words (toks tokens.now)) }
 {
     let open = read_mark(tokens, b'{')?;
     let words = read_many_words(alloc, open.rest)?;
@@ -81,7 +89,10 @@ pub(crate) fn read_words<'a>(
 
 // ---- interfaces
 
-fn read_member_word<'a>(tokens: &'a [Lexeme<'a>]) -> Result<Read<'a, MemberWord>, Stop> {
+fn read_member_word<'a>(tokens: &'a [Lexeme<'a>]) -> Result<Read<'a, MemberWord>, Stop>
+    ensures shorter { IfOk result (λ r. length r.rest.now < length tokens.now) }
+    ensures gives { Gives (seen_read same) result (read_member_word (toks tokens.now)) }
+{
     match tokens {
         [t, rest @ ..] => match member_word(t) {
             Some(value) => Ok(Read { value, rest }),
@@ -92,11 +103,14 @@ fn read_member_word<'a>(tokens: &'a [Lexeme<'a>]) -> Result<Read<'a, MemberWord>
 }
 
 /// What stands behind the word of a member. An attribute isn't kept.
-fn member_behind<'a>(
+fn read_member_behind<'a>(
     alloc: Global,
     word: MemberWord,
     tokens: &'a [Lexeme<'a>],
-) -> Result<Read<'a, Option<Name>>, Stop> {
+) -> Result<Read<'a, Option<Name>>, Stop>
+    ensures shorter { IfOk result (λ r. length r.rest.now < length tokens.now) }
+    ensures gives { Gives (seen_read (option_map bytes_of)) result (read_member_behind word (toks tokens.now)) }
+{
     match word {
         MemberWord::MemberPort => {
             let name = read_name(alloc, tokens)?;
@@ -116,14 +130,13 @@ fn member_behind<'a>(
 }
 
 /// A member of an interface up to its `;`.
-fn read_member<'a>(
-    alloc: Global,
-    tokens: &'a [Lexeme<'a>],
-) -> Result<Read<'a, Option<Name>>, Stop>
+#[tactic(auto, unfolding(crate::specs::Reading::read_member))]
+fn read_member<'a>(alloc: Global, tokens: &'a [Lexeme<'a>]) -> Result<Read<'a, Option<Name>>, Stop>
     ensures shorter { IfOk result (λ r. length r.rest.now < length tokens.now) }
+    ensures gives { Gives (seen_read (option_map bytes_of)) result (read_member (toks tokens.now)) }
 {
     let word = read_member_word(tokens)?;
-    let name = member_behind(alloc, word.value, word.rest)?;
+    let name = read_member_behind(alloc, word.value, word.rest)?;
     let end = read_mark(name.rest, b';')?;
     Ok(Read {
         value: name.value,
@@ -131,47 +144,56 @@ fn read_member<'a>(
     })
 }
 
-/// Puts a name at the end of a list, if there is one.
-fn put(names: &mut List<Name>, name: Option<Name>) -> Result<(), Stop> {
-    if let Some(name) = name {
-        names.push(name)?;
+/// Names with the next one behind them, if it is kept.
+fn with<'a>(
+    names: List<Name>,
+    next: Read<'a, Option<Name>>,
+) -> Result<Read<'a, List<Name>>, OutOfMemory>
+    ensures value { IfOk result (λ r. seen_list bytes_of r.value ≡ with_member (seen_list bytes_of names) (option_map bytes_of next.entry.value)) }
+    ensures rest { IfOk result (λ r. r.rest.now ≡ next.entry.rest.now) }
+{
+    let rest = next.rest;
+    match next.value {
+        Some(value) => pushed(names, Read { value, rest }),
+        None => Ok(Read { value: names, rest }),
     }
-    Ok(())
 }
 
-fn put_member<'a>(
+/// Members of an interface with the next one.
+fn with_next_member<'a>(
     alloc: Global,
-    tokens: &'a [Lexeme<'a>],
-    names: &mut List<Name>,
-) -> Result<&'a [Lexeme<'a>], Stop>
-    ensures shorter { IfOk result (λ r. length r.now < length tokens.now) }
+    names: Read<'a, List<Name>>,
+) -> Result<Read<'a, List<Name>>, Stop>
+    ensures shorter { IfOk result (λ r. length r.rest.now < length names.entry.rest.now) }
+    ensures gives { Gives (seen_read (seen_list bytes_of)) result (read_put read_member with_member (seen_list bytes_of names.entry.value) (toks names.entry.rest.now)) }
 {
-    let name = read_member(alloc, tokens)?;
-    put(names, name.value)?;
-    Ok(name.rest)
+    let next = read_member(alloc, names.rest)?;
+    Ok(with(names.value, next)?)
 }
 
 /// Members of an interface up to a `}`.
-fn read_members<'a>(
-    alloc: Global,
-    tokens: &'a [Lexeme<'a>],
-) -> Result<Read<'a, List<Name>>, Stop>
+fn read_members<'a>(alloc: Global, tokens: &'a [Lexeme<'a>]) -> Result<Read<'a, List<Name>>, Stop>
     ensures shorter { IfOk result (λ r. length r.rest.now ≤ length tokens.now) }
+    ensures gives { Gives (seen_read (seen_list bytes_of)) result (read_members (toks tokens.now)) }
 {
-    let mut names = List::new(alloc);
-    let mut rest = tokens;
-    while before_close(rest) {
-        rest = put_member(alloc, rest, &mut names)?;
+    let mut names = Read {
+        value: List::new(alloc),
+        rest: tokens,
+    };
+    while before_close(names.rest) {
+        names = with_next_member(alloc, names)?;
     }
-    Ok(Read { value: names, rest })
+    Ok(names)
 }
 
 /// A scan interface behind its name.
+#[tactic(auto, unfolding(crate::specs::Reading::read_interface))]
 pub(crate) fn read_interface<'a>(
     alloc: Global,
     tokens: &'a [Lexeme<'a>],
 ) -> Result<Read<'a, What>, Stop>
     ensures shorter { IfOk result (λ r. length r.rest.now < length tokens.now) }
+    ensures gives { Gives (seen_read seen_what) result (read_interface (toks tokens.now)) }
 {
     let open = read_mark(tokens, b'{')?;
     let ports = read_members(alloc, open.rest)?;
@@ -191,11 +213,10 @@ pub(crate) struct Selected {
     pub interface: Name,
 }
 
-fn read_selected<'a>(
-    alloc: Global,
-    tokens: &'a [Lexeme<'a>],
-) -> Result<Read<'a, Selected>, Stop>
+#[tactic(auto, unfolding(crate::specs::Reading::read_selected))]
+fn read_selected<'a>(alloc: Global, tokens: &'a [Lexeme<'a>]) -> Result<Read<'a, Selected>, Stop>
     ensures shorter { IfOk result (λ r. length r.rest.now < length tokens.now) }
+    ensures gives { Gives (seen_read seen_selected) result (read_selected (toks tokens.now)) }
 {
     let cell = read_name(alloc, tokens)?;
     let dot = read_mark(cell.rest, b'.')?;
@@ -211,11 +232,10 @@ fn read_selected<'a>(
 }
 
 /// The `ScanInterface` of an instruction.
-fn read_selecting<'a>(
-    alloc: Global,
-    tokens: &'a [Lexeme<'a>],
-) -> Result<Read<'a, Selected>, Stop>
+#[tactic(auto, unfolding(crate::specs::Reading::read_selecting))]
+fn read_selecting<'a>(alloc: Global, tokens: &'a [Lexeme<'a>]) -> Result<Read<'a, Selected>, Stop>
     ensures shorter { IfOk result (λ r. length r.rest.now < length tokens.now) }
+    ensures gives { Gives (seen_read seen_selected) result (read_selecting (toks tokens.now)) }
 {
     let word = read_word(tokens, b"ScanInterface")?;
     let open = read_mark(word.rest, b'{')?;
@@ -228,11 +248,13 @@ fn read_selecting<'a>(
 }
 
 /// An instruction of an access link.
+#[tactic(auto, unfolding(crate::specs::Reading::read_instruction))]
 fn read_instruction<'a>(
     alloc: Global,
     tokens: &'a [Lexeme<'a>],
 ) -> Result<Read<'a, LinkInstr>, Stop>
     ensures shorter { IfOk result (λ r. length r.rest.now < length tokens.now) }
+    ensures gives { Gives (seen_read seen_instr) result (read_instruction (toks tokens.now)) }
 {
     let name = read_name(alloc, tokens)?;
     let open = read_mark(name.rest, b'{')?;
@@ -248,16 +270,16 @@ fn read_instruction<'a>(
     })
 }
 
-fn put_instruction<'a>(
+/// Instructions with the next one.
+fn with_next_instruction<'a>(
     alloc: Global,
-    tokens: &'a [Lexeme<'a>],
-    instrs: &mut List<LinkInstr>,
-) -> Result<&'a [Lexeme<'a>], Stop>
-    ensures shorter { IfOk result (λ r. length r.now < length tokens.now) }
+    instrs: Read<'a, List<LinkInstr>>,
+) -> Result<Read<'a, List<LinkInstr>>, Stop>
+    ensures shorter { IfOk result (λ r. length r.rest.now < length instrs.entry.rest.now) }
+    ensures gives { Gives (seen_read (seen_list seen_instr)) result (read_put read_instruction appended (seen_list seen_instr instrs.entry.value) (toks instrs.entry.rest.now)) }
 {
-    let instr = read_instruction(alloc, tokens)?;
-    instrs.push(instr.value)?;
-    Ok(instr.rest)
+    let next = read_instruction(alloc, instrs.rest)?;
+    Ok(pushed(instrs.value, next)?)
 }
 
 /// Instructions up to a `}`.
@@ -266,21 +288,23 @@ fn read_instructions<'a>(
     tokens: &'a [Lexeme<'a>],
 ) -> Result<Read<'a, List<LinkInstr>>, Stop>
     ensures shorter { IfOk result (λ r. length r.rest.now ≤ length tokens.now) }
+    ensures gives { Gives (seen_read (seen_list seen_instr)) result (read_instructions (toks tokens.now)) }
 {
-    let mut instrs = List::new(alloc);
-    let mut rest = tokens;
-    while before_close(rest) {
-        rest = put_instruction(alloc, rest, &mut instrs)?;
+    let mut instrs = Read {
+        value: List::new(alloc),
+        rest: tokens,
+    };
+    while before_close(instrs.rest) {
+        instrs = with_next_instruction(alloc, instrs)?;
     }
-    Ok(Read {
-        value: instrs,
-        rest,
-    })
+    Ok(instrs)
 }
 
 /// The entity of an access link.
+#[tactic(auto, unfolding(crate::specs::Reading::read_entity))]
 fn read_entity<'a>(alloc: Global, tokens: &'a [Lexeme<'a>]) -> Result<Read<'a, Name>, Stop>
     ensures shorter { IfOk result (λ r. length r.rest.now < length tokens.now) }
+    ensures gives { Gives (seen_read bytes_of) result (read_entity (toks tokens.now)) }
 {
     let word = read_word(tokens, b"BSDLEntity")?;
     let name = read_name(alloc, word.rest)?;
@@ -291,7 +315,10 @@ fn read_entity<'a>(alloc: Global, tokens: &'a [Lexeme<'a>]) -> Result<Read<'a, N
     })
 }
 
-fn read_link_kind<'a>(tokens: &'a [Lexeme<'a>]) -> Result<Read<'a, LinkKind>, Stop> {
+fn read_link_kind<'a>(tokens: &'a [Lexeme<'a>]) -> Result<Read<'a, LinkKind>, Stop>
+    ensures shorter { IfOk result (λ r. length r.rest.now < length tokens.now) }
+    ensures gives { Gives (seen_read same) result (read_link_kind (toks tokens.now)) }
+{
     match tokens {
         [t, rest @ ..] => match link_kind(t) {
             Some(value) => Ok(Read { value, rest }),
@@ -302,11 +329,10 @@ fn read_link_kind<'a>(tokens: &'a [Lexeme<'a>]) -> Result<Read<'a, LinkKind>, St
 }
 
 /// An access link behind its name.
-pub(crate) fn read_link<'a>(
-    alloc: Global,
-    tokens: &'a [Lexeme<'a>],
-) -> Result<Read<'a, What>, Stop>
+#[tactic(auto, unfolding(crate::specs::Reading::read_link))]
+pub(crate) fn read_link<'a>(alloc: Global, tokens: &'a [Lexeme<'a>]) -> Result<Read<'a, What>, Stop>
     ensures shorter { IfOk result (λ r. length r.rest.now < length tokens.now) }
+    ensures gives { Gives (seen_read seen_what) result (read_link (toks tokens.now)) }
 {
     let of = read_word(tokens, b"Of")?;
     let kind = read_link_kind(of.rest)?;

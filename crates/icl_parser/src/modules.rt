@@ -1,13 +1,16 @@
 // Items, modules and designs.
-ghost use Rattle.std.specs.Prelude.{◌≡◌, ◌<◌, ◌≤◌, [], codes, IfOk, length};
+ghost use Rattle.std.specs.Prelude.{◌≡◌, ◌<◌, ◌≤◌, IfOk, length};
 ghost use Rattle.icl_syntax.specs.Views.{seen_list, seen_item, seen_module, seen_what};
-ghost use Rattle.icl_parser.specs.Seen.{toks, tok, seen_read, Gives};
+ghost use Rattle.icl_syntax.specs.Grammar.{appended};
+ghost use Rattle.icl_parser.specs.Seen.{toks, seen_read, Gives};
+ghost use Rattle.icl_parser.specs.SeenParts.{seen_item_begin};
+ghost use Rattle.icl_parser.specs.Reading.{read_put, read_item_begin, read_meaning_behind, read_item, read_items, read_module, whole_design};
 
 use crate::fault::Stop;
 use crate::items::{
     read_alias, read_attribute, read_child, read_mux, read_parameter, read_port, read_register,
 };
-use crate::lexeme::{Lexeme, Read, before_close, read_mark, read_name, read_word};
+use crate::lexeme::{Lexeme, Read, before_close, pushed, read_mark, read_name, read_word};
 use crate::links::{read_interface, read_link, read_words};
 use crate::words::item_word;
 use icl_syntax::{Item, ItemWord, Module, What};
@@ -22,7 +25,10 @@ pub(crate) struct ItemBegin {
     pub word: ItemWord,
 }
 
-fn read_item_begin<'a>(tokens: &'a [Lexeme<'a>]) -> Result<Read<'a, ItemBegin>, Stop> {
+fn read_item_begin<'a>(tokens: &'a [Lexeme<'a>]) -> Result<Read<'a, ItemBegin>, Stop>
+    ensures shorter { IfOk result (λ r. length r.rest.now < length tokens.now) }
+    ensures gives { Gives (seen_read seen_item_begin) result (read_item_begin (toks tokens.now)) }
+{
     match tokens {
         [t, rest @ ..] => match item_word(t) {
             Some(word) => Ok(Read {
@@ -36,12 +42,14 @@ fn read_item_begin<'a>(tokens: &'a [Lexeme<'a>]) -> Result<Read<'a, ItemBegin>, 
 }
 
 /// What stands behind the word and the name of an item.
-fn meaning_behind<'a>(
+#[tactic(auto, unfolding(crate::specs::Reading::read_meaning_behind))]
+fn read_meaning_behind<'a>(
     alloc: Global,
     word: ItemWord,
     tokens: &'a [Lexeme<'a>],
 ) -> Result<Read<'a, What>, Stop>
     ensures shorter { IfOk result (λ r. length r.rest.now < length tokens.now) }
+    ensures gives { Gives (seen_read seen_what) result (read_meaning_behind word (toks tokens.now)) }
 {
     match word {
         ItemWord::OfPort(kind) => read_port(alloc, kind, tokens),
@@ -58,12 +66,14 @@ fn meaning_behind<'a>(
 }
 
 /// An item.
+#[tactic(auto, unfolding(crate::specs::Reading::read_item))]
 fn read_item<'a>(alloc: Global, tokens: &'a [Lexeme<'a>]) -> Result<Read<'a, Item>, Stop>
     ensures shorter { IfOk result (λ r. length r.rest.now < length tokens.now) }
+    ensures gives { Gives (seen_read seen_item) result (read_item (toks tokens.now)) }
 {
     let begin = read_item_begin(tokens)?;
     let name = read_name(alloc, begin.rest)?;
-    let what = meaning_behind(alloc, begin.value.word, name.rest)?;
+    let what = read_meaning_behind(alloc, begin.value.word, name.rest)?;
     Ok(Read {
         value: Item {
             at: begin.value.at,
@@ -74,36 +84,38 @@ fn read_item<'a>(alloc: Global, tokens: &'a [Lexeme<'a>]) -> Result<Read<'a, Ite
     })
 }
 
-fn put_item<'a>(
+/// Items with the next one.
+fn with_next_item<'a>(
     alloc: Global,
-    tokens: &'a [Lexeme<'a>],
-    items: &mut List<Item>,
-) -> Result<&'a [Lexeme<'a>], Stop>
-    ensures shorter { IfOk result (λ r. length r.now < length tokens.now) }
+    items: Read<'a, List<Item>>,
+) -> Result<Read<'a, List<Item>>, Stop>
+    ensures shorter { IfOk result (λ r. length r.rest.now < length items.entry.rest.now) }
+    ensures gives { Gives (seen_read (seen_list seen_item)) result (read_put read_item appended (seen_list seen_item items.entry.value) (toks items.entry.rest.now)) }
 {
-    let item = read_item(alloc, tokens)?;
-    items.push(item.value)?;
-    Ok(item.rest)
+    let next = read_item(alloc, items.rest)?;
+    Ok(pushed(items.value, next)?)
 }
 
 /// Items up to a `}`.
-fn read_items<'a>(
-    alloc: Global,
-    tokens: &'a [Lexeme<'a>],
-) -> Result<Read<'a, List<Item>>, Stop>
+fn read_items<'a>(alloc: Global, tokens: &'a [Lexeme<'a>]) -> Result<Read<'a, List<Item>>, Stop>
     ensures shorter { IfOk result (λ r. length r.rest.now ≤ length tokens.now) }
+    ensures gives { Gives (seen_read (seen_list seen_item)) result (read_items (toks tokens.now)) }
 {
-    let mut items = List::new(alloc);
-    let mut rest = tokens;
-    while before_close(rest) {
-        rest = put_item(alloc, rest, &mut items)?;
+    let mut items = Read {
+        value: List::new(alloc),
+        rest: tokens,
+    };
+    while before_close(items.rest) {
+        items = with_next_item(alloc, items)?;
     }
-    Ok(Read { value: items, rest })
+    Ok(items)
 }
 
 /// A module.
+#[tactic(auto, unfolding(crate::specs::Reading::read_module))]
 fn read_module<'a>(alloc: Global, tokens: &'a [Lexeme<'a>]) -> Result<Read<'a, Module>, Stop>
     ensures shorter { IfOk result (λ r. length r.rest.now < length tokens.now) }
+    ensures gives { Gives (seen_read seen_module) result (read_module (toks tokens.now)) }
 {
     let word = read_word(tokens, b"Module")?;
     let name = read_name(alloc, word.rest)?;
@@ -120,27 +132,28 @@ fn read_module<'a>(alloc: Global, tokens: &'a [Lexeme<'a>]) -> Result<Read<'a, M
     })
 }
 
-fn put_module<'a>(
+/// Modules with the next one.
+fn with_next_module<'a>(
     alloc: Global,
-    tokens: &'a [Lexeme<'a>],
-    modules: &mut List<Module>,
-) -> Result<&'a [Lexeme<'a>], Stop>
-    ensures shorter { IfOk result (λ r. length r.now < length tokens.now) }
+    modules: Read<'a, List<Module>>,
+) -> Result<Read<'a, List<Module>>, Stop>
+    ensures shorter { IfOk result (λ r. length r.rest.now < length modules.entry.rest.now) }
+    ensures gives { Gives (seen_read (seen_list seen_module)) result (read_put read_module appended (seen_list seen_module modules.entry.value) (toks modules.entry.rest.now)) }
 {
-    let module = read_module(alloc, tokens)?;
-    modules.push(module.value)?;
-    Ok(module.rest)
+    let next = read_module(alloc, modules.rest)?;
+    Ok(pushed(modules.value, next)?)
 }
 
 /// Modules up to the end.
-pub(crate) fn read_design<'a>(
-    alloc: Global,
-    tokens: &'a [Lexeme<'a>],
-) -> Result<List<Module>, Stop> {
-    let mut modules = List::new(alloc);
-    let mut rest = tokens;
-    while !rest.is_empty() {
-        rest = put_module(alloc, rest, &mut modules)?;
+pub(crate) fn read_design<'a>(alloc: Global, tokens: &'a [Lexeme<'a>]) -> Result<List<Module>, Stop>
+    ensures { Gives (seen_list seen_module) result (whole_design (toks tokens.now)) }
+{
+    let mut modules = Read {
+        value: List::new(alloc),
+        rest: tokens,
+    };
+    while !modules.rest.is_empty() {
+        modules = with_next_module(alloc, modules)?;
     }
-    Ok(modules)
+    Ok(modules.value)
 }

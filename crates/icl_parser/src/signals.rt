@@ -3,13 +3,14 @@ ghost use Rattle.std.specs.Prelude.{◌≡◌, ◌<◌, ◌≤◌, [], IfOk, len
 ghost use Rattle.std.specs.Option.{option_map};
 ghost use Rattle.icl_syntax.specs.Views.{bytes_of, seen_expr, seen_list, seen_range, seen_sig};
 ghost use Rattle.icl_syntax.specs.Grammar.{appended};
-ghost use Rattle.icl_parser.specs.Seen.{toks, tok, seen_read, seen_located, Gives};
-ghost use Rattle.icl_parser.specs.Reading.{read_put, read_after, read_expr, read_value, read_expr_behind, read_maybe, read_range, read_number, read_name, read_path_behind, read_named_sig, read_plain_sig, read_sig, read_sigs};
+ghost use Rattle.icl_parser.specs.Seen.{toks, tok, seen_read, Gives};
+ghost use Rattle.icl_parser.specs.SeenParts.{seen_located};
+ghost use Rattle.icl_parser.specs.Reading.{read_put, read_after, read_expr, read_value, read_expr_behind, read_maybe, read_range, read_number, read_name, read_path_behind, read_named_behind, read_named_sig, read_plain_sig, read_inverted, read_sig, read_sigs};
 
 use crate::expressions::read_expr;
 use crate::fault::Stop;
 use crate::leaves::number_value;
-use crate::lexeme::{Lexeme, Read, begins_mark, begins_name, copied, read_mark, read_name};
+use crate::lexeme::{Lexeme, Read, begins_mark, begins_name, copied, pushed, read_mark, read_name};
 use icl_syntax::{Expr, Range, Sig, SigWhat};
 use ij_bits::List;
 use ij_text::{Name, Place};
@@ -17,31 +18,17 @@ use std::alloc::Global;
 
 // ---- values
 
-/// An expression, which is put at the end of a list.
-fn put_expr<'a>(
+/// Expressions with the next one, behind a `,`.
+fn with_next_expr<'a>(
     alloc: Global,
-    tokens: &'a [Lexeme<'a>],
-    exprs: &mut List<Expr>,
-) -> Result<&'a [Lexeme<'a>], Stop>
-    ensures shorter { IfOk result (λ r. length r.now < length tokens.now) }
-    ensures gives { Gives (λ r. (seen_list seen_expr exprs.new, toks r.now)) result (read_put read_expr appended (seen_list seen_expr exprs.old) (toks tokens.now)) }
+    value: Read<'a, List<Expr>>,
+) -> Result<Read<'a, List<Expr>>, Stop>
+    ensures shorter { IfOk result (λ r. length r.rest.now < length value.entry.rest.now) }
+    ensures gives { Gives (seen_read (seen_list seen_expr)) result (read_put (read_after 44 read_expr) appended (seen_list seen_expr value.entry.value) (toks value.entry.rest.now)) }
 {
-    let expr = read_expr(alloc, tokens)?;
-    exprs.push(expr.value)?;
-    Ok(expr.rest)
-}
-
-/// The same behind a `,`.
-fn put_next_expr<'a>(
-    alloc: Global,
-    tokens: &'a [Lexeme<'a>],
-    exprs: &mut List<Expr>,
-) -> Result<&'a [Lexeme<'a>], Stop>
-    ensures shorter { IfOk result (λ r. length r.now < length tokens.now) }
-    ensures gives { Gives (λ r. (seen_list seen_expr exprs.new, toks r.now)) result (read_put (read_after 44 read_expr) appended (seen_list seen_expr exprs.old) (toks tokens.now)) }
-{
-    let comma = read_mark(tokens, b',')?;
-    put_expr(alloc, comma.rest, exprs)
+    let mark = read_mark(value.rest, b',')?;
+    let next = read_expr(alloc, mark.rest)?;
+    Ok(pushed(value.value, next)?)
 }
 
 /// Expressions with `,` between them.
@@ -52,12 +39,12 @@ pub(crate) fn read_value<'a>(
     ensures shorter { IfOk result (λ r. length r.rest.now < length tokens.now) }
     ensures gives { Gives (seen_read (seen_list seen_expr)) result (read_value (toks tokens.now)) }
 {
-    let mut exprs = List::new(alloc);
-    let mut rest = put_expr(alloc, tokens, &mut exprs)?;
-    while begins_mark(rest, b',') {
-        rest = put_next_expr(alloc, rest, &mut exprs)?;
+    let first = read_expr(alloc, tokens)?;
+    let mut value = pushed(List::new(alloc), first)?;
+    while begins_mark(value.rest, b',') {
+        value = with_next_expr(alloc, value)?;
     }
-    Ok(Read { value: exprs, rest })
+    Ok(value)
 }
 
 // ---- ranges
@@ -169,18 +156,16 @@ fn read_number<'a>(alloc: Global, tokens: &'a [Lexeme<'a>]) -> Result<Read<'a, L
 }
 
 /// A name behind a `.`, which is put at the end of a list.
-fn put_next_name<'a>(
+fn with_next_name<'a>(
     alloc: Global,
-    tokens: &'a [Lexeme<'a>],
-    names: &mut List<Name>,
-) -> Result<&'a [Lexeme<'a>], Stop>
-    ensures shorter { IfOk result (λ r. length r.now < length tokens.now) }
-    ensures gives { Gives (λ r. (seen_list bytes_of names.new, toks r.now)) result (read_put (read_after 46 read_name) appended (seen_list bytes_of names.old) (toks tokens.now)) }
+    path: Read<'a, List<Name>>,
+) -> Result<Read<'a, List<Name>>, Stop>
+    ensures shorter { IfOk result (λ r. length r.rest.now < length path.entry.rest.now) }
+    ensures gives { Gives (seen_read (seen_list bytes_of)) result (read_put (read_after 46 read_name) appended (seen_list bytes_of path.entry.value) (toks path.entry.rest.now)) }
 {
-    let dot = read_mark(tokens, b'.')?;
+    let dot = read_mark(path.rest, b'.')?;
     let name = read_name(alloc, dot.rest)?;
-    names.push(name.value)?;
-    Ok(name.rest)
+    Ok(pushed(path.value, name)?)
 }
 
 /// The names behind a first one, with `.` in front of each.
@@ -194,20 +179,25 @@ fn read_path<'a>(
 {
     let mut names = List::new(alloc);
     names.push(first)?;
-    let mut rest = tokens;
-    while begins_mark(rest, b'.') {
-        rest = put_next_name(alloc, rest, &mut names)?;
+    let mut path = Read {
+        value: names,
+        rest: tokens,
+    };
+    while begins_mark(path.rest, b'.') {
+        path = with_next_name(alloc, path)?;
     }
-    Ok(Read { value: names, rest })
+    Ok(path)
 }
 
 /// Names with `.` between them, and maybe a range, behind the first token.
+#[tactic(auto, unfolding(crate::specs::Reading::read_named_behind))]
 fn named_behind<'a>(
     alloc: Global,
     first: &Lexeme<'a>,
     tokens: &'a [Lexeme<'a>],
 ) -> Result<Read<'a, Located>, Stop>
     ensures shorter { IfOk result (λ r. length r.rest.now ≤ length tokens.now) }
+    ensures gives { Gives (seen_read seen_located) result (read_named_behind (record { at = first.now.at; name = first.now.text.now }) (toks tokens.now)) }
 {
     let path = read_path(alloc, copied(alloc, first.text)?, tokens)?;
     let range = maybe_range(alloc, path.rest)?;
@@ -224,6 +214,7 @@ fn named_behind<'a>(
 }
 
 /// Names with `.` between them, and maybe a range.
+#[tactic(auto, unfolding(crate::specs::Reading::read_named_sig))]
 fn read_named_sig<'a>(alloc: Global, tokens: &'a [Lexeme<'a>]) -> Result<Read<'a, Located>, Stop>
     ensures shorter { IfOk result (λ r. length r.rest.now < length tokens.now) }
     ensures gives { Gives (seen_read seen_located) result (read_named_sig (toks tokens.now)) }
@@ -247,8 +238,10 @@ fn read_plain_sig<'a>(alloc: Global, tokens: &'a [Lexeme<'a>]) -> Result<Read<'a
 }
 
 /// A signal behind a `~`.
+#[tactic(auto, unfolding(crate::specs::Reading::read_inverted))]
 fn read_inverted<'a>(alloc: Global, tokens: &'a [Lexeme<'a>]) -> Result<Read<'a, Sig>, Stop>
     ensures shorter { IfOk result (λ r. length r.rest.now < length tokens.now) }
+    ensures gives { Gives (seen_read seen_sig) result (read_inverted (toks tokens.now)) }
 {
     let tilde = read_mark(tokens, b'~')?;
     let sig = read_plain_sig(alloc, tilde.rest)?;
@@ -263,6 +256,7 @@ fn read_inverted<'a>(alloc: Global, tokens: &'a [Lexeme<'a>]) -> Result<Read<'a,
 }
 
 /// A signal.
+#[tactic(auto, unfolding(crate::specs::Reading::read_sig, crate::specs::Reading::read_straight))]
 pub(crate) fn read_sig<'a>(alloc: Global, tokens: &'a [Lexeme<'a>]) -> Result<Read<'a, Sig>, Stop>
     ensures shorter { IfOk result (λ r. length r.rest.now < length tokens.now) }
     ensures gives { Gives (seen_read seen_sig) result (read_sig (toks tokens.now)) }
@@ -281,31 +275,14 @@ pub(crate) fn read_sig<'a>(alloc: Global, tokens: &'a [Lexeme<'a>]) -> Result<Re
     })
 }
 
-/// A signal, which is put at the end of a list.
-fn put_sig<'a>(
-    alloc: Global,
-    tokens: &'a [Lexeme<'a>],
-    sigs: &mut List<Sig>,
-) -> Result<&'a [Lexeme<'a>], Stop>
-    ensures shorter { IfOk result (λ r. length r.now < length tokens.now) }
-    ensures gives { Gives (λ r. (seen_list seen_sig sigs.new, toks r.now)) result (read_put read_sig appended (seen_list seen_sig sigs.old) (toks tokens.now)) }
+/// Signals with the next one, behind a `,`.
+fn with_next_sig<'a>(alloc: Global, sigs: Read<'a, List<Sig>>) -> Result<Read<'a, List<Sig>>, Stop>
+    ensures shorter { IfOk result (λ r. length r.rest.now < length sigs.entry.rest.now) }
+    ensures gives { Gives (seen_read (seen_list seen_sig)) result (read_put (read_after 44 read_sig) appended (seen_list seen_sig sigs.entry.value) (toks sigs.entry.rest.now)) }
 {
-    let sig = read_sig(alloc, tokens)?;
-    sigs.push(sig.value)?;
-    Ok(sig.rest)
-}
-
-/// The same behind a `,`.
-fn put_next_sig<'a>(
-    alloc: Global,
-    tokens: &'a [Lexeme<'a>],
-    sigs: &mut List<Sig>,
-) -> Result<&'a [Lexeme<'a>], Stop>
-    ensures shorter { IfOk result (λ r. length r.now < length tokens.now) }
-    ensures gives { Gives (λ r. (seen_list seen_sig sigs.new, toks r.now)) result (read_put (read_after 44 read_sig) appended (seen_list seen_sig sigs.old) (toks tokens.now)) }
-{
-    let comma = read_mark(tokens, b',')?;
-    put_sig(alloc, comma.rest, sigs)
+    let mark = read_mark(sigs.rest, b',')?;
+    let next = read_sig(alloc, mark.rest)?;
+    Ok(pushed(sigs.value, next)?)
 }
 
 /// Signals with `,` between them.
@@ -316,10 +293,10 @@ pub(crate) fn read_sigs<'a>(
     ensures shorter { IfOk result (λ r. length r.rest.now < length tokens.now) }
     ensures gives { Gives (seen_read (seen_list seen_sig)) result (read_sigs (toks tokens.now)) }
 {
-    let mut sigs = List::new(alloc);
-    let mut rest = put_sig(alloc, tokens, &mut sigs)?;
-    while begins_mark(rest, b',') {
-        rest = put_next_sig(alloc, rest, &mut sigs)?;
+    let first = read_sig(alloc, tokens)?;
+    let mut sigs = pushed(List::new(alloc), first)?;
+    while begins_mark(sigs.rest, b',') {
+        sigs = with_next_sig(alloc, sigs)?;
     }
-    Ok(Read { value: sigs, rest })
+    Ok(sigs)
 }

@@ -3,7 +3,7 @@ ghost use Rattle.std.specs.Prelude.{◌≡◌, ◌-◌, ◌<◌, ◌≤◌, ℕ,
 ghost use Rattle.std.specs.Option.{option_map};
 ghost use Rattle.icl_syntax.specs.Grammar.{sum_sign, product_sign};
 ghost use Rattle.icl_parser.specs.Seen.{tok, toks, seen_read, seen_sign, Gives};
-ghost use Rattle.icl_parser.specs.Reading.{begins, is_sign, read_operator};
+ghost use Rattle.icl_parser.specs.Reading.{begins, is_sign, operator_of, read_operator};
 
 use crate::fault::Stop;
 use crate::lexeme::{Lexeme, Read};
@@ -81,13 +81,18 @@ pub(crate) fn begins_product_sign(tokens: &[Lexeme]) -> bool
 }
 
 /// The operator that is the next token, if there is one. An expression has at most 256, and none behind a sized number.
+#[tactic(auto, using(crate::proofs::Operators::operator_steps))]
 fn operator<'a>(
     sign: Option<SignAt>,
     tokens: &'a [Lexeme<'a>],
     rest: &'a [Lexeme<'a>],
     used: u32,
     lone: bool,
-) -> Result<Read<'a, SignAt>, Stop> {
+) -> Result<Read<'a, SignAt>, Stop>
+    ensures shorter { IfOk result (λ r. length r.rest.now ≡ length rest.now) }
+    ensures bounded { IfOk result (λ r. used < 256) }
+    ensures gives { Gives (seen_read seen_sign) result (operator_of (256 - used) lone (option_map seen_sign sign) (length tokens.now) (toks rest.now)) }
+{
     match sign {
         None => Err(Stop::At(tokens.len(), None)),
         Some(_) if used >= 256 => Err(Stop::At(tokens.len(), Some(Limit::OfExpression))),
@@ -97,6 +102,7 @@ fn operator<'a>(
 }
 
 /// `+` or `-`.
+#[tactic(auto, unfolding(crate::specs::Reading::read_operator))]
 pub(crate) fn read_sum_sign<'a>(
     tokens: &'a [Lexeme<'a>],
     used: u32,
@@ -113,6 +119,7 @@ pub(crate) fn read_sum_sign<'a>(
 }
 
 /// `*`, `/` or `%`.
+#[tactic(auto, unfolding(crate::specs::Reading::read_operator))]
 pub(crate) fn read_product_sign<'a>(
     tokens: &'a [Lexeme<'a>],
     used: u32,

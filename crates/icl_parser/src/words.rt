@@ -1,5 +1,6 @@
 // The words by which the parts of a text are told apart.
 ghost use Rattle.std.specs.Prelude.{◌≡◌, Option};
+ghost use Rattle.std.specs.Str.{bytes_eq};
 ghost use Rattle.icl_syntax.specs.Tokens.{is_left_out};
 ghost use Rattle.icl_syntax.specs.Words.{data_port_named, control_port_named, to_port_named, port_named, other_item_named, item_named, prop_named, bind_named, member_named, link_named};
 ghost use Rattle.icl_syntax.specs.Grammar.{prop_word_at};
@@ -9,18 +10,25 @@ ghost use Rattle.icl_parser.specs.Seen.{tok};
 use crate::lexeme::Lexeme;
 use icl_syntax::{BindWord, ItemWord, LinkKind, MemberWord, PortKind, PropWord};
 
+/// Whether a text is a word.
+fn is(text: &[u8], word: &[u8]) -> bool
+    ensures { result ≡ bytes_eq text.now word.now }
+{
+    text == word
+}
+
 /// Scan ports and data ports.
 #[tactic(auto, unfolding(icl_syntax::specs::Words::data_port_named))]
 fn data_port(text: &[u8]) -> Option<PortKind>
     ensures { result ≡ data_port_named text.now }
 {
-    if text == b"ScanInPort" {
+    if is(text, b"ScanInPort") {
         Some(PortKind::ScanInPort)
-    } else if text == b"ScanOutPort" {
+    } else if is(text, b"ScanOutPort") {
         Some(PortKind::ScanOutPort)
-    } else if text == b"DataInPort" {
+    } else if is(text, b"DataInPort") {
         Some(PortKind::DataInPort)
-    } else if text == b"DataOutPort" {
+    } else if is(text, b"DataOutPort") {
         Some(PortKind::DataOutPort)
     } else {
         None
@@ -32,23 +40,23 @@ fn data_port(text: &[u8]) -> Option<PortKind>
 fn control_port(text: &[u8]) -> Option<PortKind>
     ensures { result ≡ control_port_named text.now }
 {
-    if text == b"SelectPort" {
+    if is(text, b"SelectPort") {
         Some(PortKind::SelectPort)
-    } else if text == b"CaptureEnPort" {
+    } else if is(text, b"CaptureEnPort") {
         Some(PortKind::CaptureEnPort)
-    } else if text == b"ShiftEnPort" {
+    } else if is(text, b"ShiftEnPort") {
         Some(PortKind::ShiftEnPort)
-    } else if text == b"UpdateEnPort" {
+    } else if is(text, b"UpdateEnPort") {
         Some(PortKind::UpdateEnPort)
-    } else if text == b"ResetPort" {
+    } else if is(text, b"ResetPort") {
         Some(PortKind::ResetPort)
-    } else if text == b"TCKPort" {
+    } else if is(text, b"TCKPort") {
         Some(PortKind::TCKPort)
-    } else if text == b"TMSPort" {
+    } else if is(text, b"TMSPort") {
         Some(PortKind::TMSPort)
-    } else if text == b"TRSTPort" {
+    } else if is(text, b"TRSTPort") {
         Some(PortKind::TRSTPort)
-    } else if text == b"ClockPort" {
+    } else if is(text, b"ClockPort") {
         Some(PortKind::ClockPort)
     } else {
         None
@@ -60,25 +68,25 @@ fn control_port(text: &[u8]) -> Option<PortKind>
 fn to_port(text: &[u8]) -> Option<PortKind>
     ensures { result ≡ to_port_named text.now }
 {
-    if text == b"ToSelectPort" {
+    if is(text, b"ToSelectPort") {
         Some(PortKind::ToSelectPort)
-    } else if text == b"ToCaptureEnPort" {
+    } else if is(text, b"ToCaptureEnPort") {
         Some(PortKind::ToCaptureEnPort)
-    } else if text == b"ToShiftEnPort" {
+    } else if is(text, b"ToShiftEnPort") {
         Some(PortKind::ToShiftEnPort)
-    } else if text == b"ToUpdateEnPort" {
+    } else if is(text, b"ToUpdateEnPort") {
         Some(PortKind::ToUpdateEnPort)
-    } else if text == b"ToResetPort" {
+    } else if is(text, b"ToResetPort") {
         Some(PortKind::ToResetPort)
-    } else if text == b"ToTCKPort" {
+    } else if is(text, b"ToTCKPort") {
         Some(PortKind::ToTCKPort)
-    } else if text == b"ToTMSPort" {
+    } else if is(text, b"ToTMSPort") {
         Some(PortKind::ToTMSPort)
-    } else if text == b"ToTRSTPort" {
+    } else if is(text, b"ToTRSTPort") {
         Some(PortKind::ToTRSTPort)
-    } else if text == b"ToClockPort" {
+    } else if is(text, b"ToClockPort") {
         Some(PortKind::ToClockPort)
-    } else if text == b"ToIRSelectPort" {
+    } else if is(text, b"ToIRSelectPort") {
         Some(PortKind::ToIRSelectPort)
     } else {
         None
@@ -104,25 +112,25 @@ fn port(text: &[u8]) -> Option<PortKind>
 fn other_item(text: &[u8]) -> Option<ItemWord>
     ensures { result ≡ other_item_named text.now }
 {
-    if text == b"ScanRegister" {
+    if is(text, b"ScanRegister") {
         Some(ItemWord::OfRegister)
-    } else if text == b"ScanMux" {
+    } else if is(text, b"ScanMux") {
         Some(ItemWord::OfMux)
-    } else if text == b"Instance" {
+    } else if is(text, b"Instance") {
         Some(ItemWord::OfChild)
-    } else if text == b"Alias" {
+    } else if is(text, b"Alias") {
         Some(ItemWord::OfAlias)
-    } else if text == b"Enum" {
+    } else if is(text, b"Enum") {
         Some(ItemWord::OfEnum)
-    } else if text == b"Parameter" {
+    } else if is(text, b"Parameter") {
         Some(ItemWord::OfParameter(false))
-    } else if text == b"LocalParameter" {
+    } else if is(text, b"LocalParameter") {
         Some(ItemWord::OfParameter(true))
-    } else if text == b"Attribute" {
+    } else if is(text, b"Attribute") {
         Some(ItemWord::OfAttribute)
-    } else if text == b"ScanInterface" {
+    } else if is(text, b"ScanInterface") {
         Some(ItemWord::OfInterface)
-    } else if text == b"AccessLink" {
+    } else if is(text, b"AccessLink") {
         Some(ItemWord::OfLink)
     } else {
         None
@@ -150,25 +158,25 @@ pub(crate) fn item_word(t: &Lexeme) -> Option<ItemWord>
 fn prop(text: &[u8]) -> Option<PropWord>
     ensures { result ≡ prop_named text.now }
 {
-    if text == b"Source" {
+    if is(text, b"Source") {
         Some(PropWord::Source)
-    } else if text == b"LaunchEdge" {
+    } else if is(text, b"LaunchEdge") {
         Some(PropWord::LaunchEdge)
-    } else if text == b"DefaultLoadValue" {
+    } else if is(text, b"DefaultLoadValue") {
         Some(PropWord::DefaultLoadValue)
-    } else if text == b"RefEnum" {
+    } else if is(text, b"RefEnum") {
         Some(PropWord::RefEnum)
-    } else if text == b"ActivePolarity" {
+    } else if is(text, b"ActivePolarity") {
         Some(PropWord::ActivePolarity)
-    } else if text == b"ScanInSource" {
+    } else if is(text, b"ScanInSource") {
         Some(PropWord::ScanInSource)
-    } else if text == b"CaptureSource" {
+    } else if is(text, b"CaptureSource") {
         Some(PropWord::CaptureSource)
-    } else if text == b"ResetValue" {
+    } else if is(text, b"ResetValue") {
         Some(PropWord::ResetValue)
-    } else if text == b"AccessTogether" {
+    } else if is(text, b"AccessTogether") {
         Some(PropWord::AccessTogether)
-    } else if text == b"Attribute" {
+    } else if is(text, b"Attribute") {
         Some(PropWord::Attribute)
     } else {
         None
@@ -186,11 +194,11 @@ pub(crate) fn prop_word(t: &Lexeme) -> Option<PropWord>
 fn bind(text: &[u8]) -> Option<BindWord>
     ensures { result ≡ bind_named text.now }
 {
-    if text == b"InputPort" {
+    if is(text, b"InputPort") {
         Some(BindWord::BindsPort)
-    } else if text == b"Parameter" {
+    } else if is(text, b"Parameter") {
         Some(BindWord::BindsParameter)
-    } else if text == b"Attribute" {
+    } else if is(text, b"Attribute") {
         Some(BindWord::BindsAttribute)
     } else {
         None
@@ -208,9 +216,9 @@ pub(crate) fn bind_word(t: &Lexeme) -> Option<BindWord>
 fn member(text: &[u8]) -> Option<MemberWord>
     ensures { result ≡ member_named text.now }
 {
-    if text == b"Port" {
+    if is(text, b"Port") {
         Some(MemberWord::MemberPort)
-    } else if text == b"Attribute" {
+    } else if is(text, b"Attribute") {
         Some(MemberWord::MemberAttribute)
     } else {
         None
@@ -228,9 +236,9 @@ pub(crate) fn member_word(t: &Lexeme) -> Option<MemberWord>
 fn link(text: &[u8]) -> Option<LinkKind>
     ensures { result ≡ link_named text.now }
 {
-    if text == b"STD_1149_1_2001" {
+    if is(text, b"STD_1149_1_2001") {
         Some(LinkKind::Std2001)
-    } else if text == b"STD_1149_1_2013" {
+    } else if is(text, b"STD_1149_1_2013") {
         Some(LinkKind::Std2013)
     } else {
         None
@@ -249,16 +257,16 @@ pub(crate) fn link_kind(t: &Lexeme) -> Option<LinkKind>
 pub(crate) fn is_left_out(text: &[u8]) -> bool
     ensures { result ≡ is_left_out text.now }
 {
-    text == b"DataRegister"
-        || text == b"DataMux"
-        || text == b"ClockMux"
-        || text == b"LogicSignal"
-        || text == b"OneHotScanGroup"
-        || text == b"OneHotDataGroup"
-        || text == b"NameSpace"
-        || text == b"UseNameSpace"
-        || text == b"AddressPort"
-        || text == b"WriteEnPort"
-        || text == b"ReadEnPort"
-        || text == b"Chain"
+    is(text, b"DataRegister")
+        || is(text, b"DataMux")
+        || is(text, b"ClockMux")
+        || is(text, b"LogicSignal")
+        || is(text, b"OneHotScanGroup")
+        || is(text, b"OneHotDataGroup")
+        || is(text, b"NameSpace")
+        || is(text, b"UseNameSpace")
+        || is(text, b"AddressPort")
+        || is(text, b"WriteEnPort")
+        || is(text, b"ReadEnPort")
+        || is(text, b"Chain")
 }

@@ -58,10 +58,9 @@ with_count used (Some f) = Some (record { formula = f; used = used; lone = false
 -- a number or a text; a sized number only where nothing stands before it in its innermost expression
 abbrev pub leaf_of : Bool → ℕ → TokenKind → Place → List ℕ → Option Counted
 leaf_of alone used Decimal at text = with_count used (as_decimal (decimal_of text))
-leaf_of alone used Param at text = Some (record { formula = AParam at (drop 1 text); used = used; lone = false })
-leaf_of alone used Quoted at text = Some (record { formula = AQuoted (slice_range text 1 (length text - 1)); used = used; lone = false })
-leaf_of true used Sized at text = Some (record { formula = ASized text; used = used; lone = true })
-leaf_of false used Sized at text = None
+leaf_of alone used Param at text = with_count used (Some (AParam at (drop 1 text)))
+leaf_of alone used Quoted at text = with_count used (Some (AQuoted (slice_range text 1 (length text - 1))))
+leaf_of alone used Sized at text = cond alone (Some (record { formula = ASized text; used = used; lone = true })) None
 leaf_of alone used Word at text = None
 leaf_of alone used Mark at text = None
 

@@ -81,15 +81,18 @@ row = do
   e ← mark 59
   give (record { values = vs; source = s })
 
+-- one row or more
+unfoldable pub rows : Of (List Row)
+rows = row >>= λ first. repeat (λ (rs : List Row). row) appended (first ∷ [])
+
 unfoldable pub mux : Of Meaning
 mux = do
   by ← word (codes "SelectedBy")
   ss ← sigs
   o ← mark 123
-  first ← row
-  rows ← repeat (λ (rs : List Row). row) appended (first ∷ [])
+  rs ← rows
   c ← mark 125
-  give (AMux ss rows)
+  give (AMux ss rs)
 
 -- ---- instances
 

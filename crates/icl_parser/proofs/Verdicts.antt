@@ -1,0 +1,114 @@
+-- What reading a whole list of tokens says of it.
+use Rattle.std.proofs.Common.{◌≡◌, ℕ, zero, suc, ◌≤◌, ◌-◌, true, false, List, [], ◌∷◌, ◌++◌, length, drop, take, Ok, Err, refl, sym, ap, subst, ◌∙◌, arith, length-append}
+use Rattle.std.proofs.Math.Seq.{drop-append_seam}
+use Rattle.std.proofs.lemmas.Bool.{eqb-true}
+use Rattle.std.proofs.lemmas.List.{length-map, length-drop, drop-map}
+use Rattle.std.specs.Prelude.{◌==◌}
+use Rattle.grammar.specs.Reading.{Stop as Unfit, ended}
+use Rattle.grammar.specs.Refusal.{Refused}
+use Rattle.grammar.proofs.Laws.{ok_is}
+use Rattle.grammar.proofs.Verdicts.{found, only, refused}
+use Rattle.icl_syntax.specs.declared.words.Limit.{Limit}
+use Rattle.icl_syntax.specs.Tokens.{Tok}
+use Rattle.icl_syntax.specs.Values.{Block}
+use Rattle.icl_syntax.specs.Grammar.{appended}
+use Rattle.icl_syntax.specs.Modules.{module_of, design}
+use Rattle.icl_parser.specs.declared.fault.ParseFault.{ParseFault}
+use Rattle.icl_parser.specs.declared.fault.ParseFault.TheVariants.{OutOfMemory, LeftOut, ExprLimit, Syntax}
+use Rattle.icl_parser.specs.declared.fault.Stop.{Stop}
+use Rattle.icl_parser.specs.declared.fault.Stop.TheVariants.{Memory, At}
+use Rattle.icl_parser.specs.declared.lexeme.Lexeme.{Lexeme}
+use Rattle.icl_parser.specs.Seen.{Fails, tok, toks}
+use Rattle.icl_parser.specs.Reading.{begins, any, read_put, read_module, read_design, whole_design}
+use Rattle.icl_parser.specs.Refusals.{IsFaultOf, IsRefused, OnRefusal, end_of}
+use Rattle.icl_parser.proofs.Tokens.{nothing}
+use Rattle.icl_parser.proofs.Steps.{go_on, round_fails, ends}
+use Rattle.icl_parser.proofs.Lists.{more_modules}
+use Rattle.icl_parser.proofs.DesignLaws.{module_reads, design_reads}
+
+-- ---- the loop of modules
+
+pub begins_any : (ls : List Lexeme) → (length ls == 0) ≡ false → begins any (toks ls) ≡ true
+begins_any [] h = absurd cc
+begins_any (l ∷ ls) h = refl
+
+pub begins_none : (ls : List Lexeme) → (length ls == 0) ≡ true → begins any (toks ls) ≡ false
+begins_none [] h = refl
+begins_none (l ∷ ls) h = let k : suc (length ls) ≡ 0 = eqb-true (suc (length ls)) 0 h in absurd (omega (arith, k))
+
+pub modules_go_on : (bs : List Block) (ts : List Tok) (x : List Block × List Tok) → begins any ts ≡ true → read_put read_module appended bs ts ≡ Ok x → more_modules x.0 x.1 ≡ more_modules bs ts
+modules_go_on = go_on (λ (bs : List Block). module_of) appended any nothing (λ bs. read_module) (λ bs. module_reads) (λ t h. refl)
+
+modules_round_fails : (bs : List Block) (ts : List Tok) (stop : Stop) → begins any ts ≡ true → Fails stop (read_put read_module appended bs ts) → Fails stop (more_modules bs ts)
+modules_round_fails = round_fails (λ (bs : List Block). module_of) appended any nothing (λ bs. read_module) (λ bs. module_reads) (λ t h. refl)
+
+modules_end : (bs : List Block) (ts : List Tok) → begins any ts ≡ false → more_modules bs ts ≡ Ok (bs, ts)
+modules_end = ends (λ (bs : List Block). module_of) appended any nothing (λ bs. read_module) (λ bs. module_reads) (λ t h. refl)
+
+pub design_fails : (all : List Tok) (bs : List Block) (ts : List Tok) (stop : Stop) → begins any ts ≡ true → Fails stop (read_put read_module appended bs ts) → more_modules bs ts ≡ read_design all → Fails stop (whole_design all)
+unfolding whole_design
+design_fails all bs ts Memory h k e = tt
+design_fails all bs ts (At n why) h k e = ap ended (sym e ∙ modules_round_fails bs ts (At n why) h k)
+
+pub design_ends : (all : List Tok) (bs : List Block) (ts : List Tok) → begins any ts ≡ false → more_modules bs ts ≡ read_design all → whole_design all ≡ Ok bs
+unfolding whole_design
+design_ends all bs [] h e = ap ended (sym e ∙ modules_end bs [] h)
+design_ends all bs (t ∷ ts) h e = absurd cc
+
+-- ---- the three laws of a whole list
+
+pub design_found : (ts : List Tok) (d : List Block) → whole_design ts ≡ Ok d → design.derives ts d
+unfolding whole_design
+design_found ts d h = found design_reads ts d h
+
+design_read : (ts : List Tok) (d : List Block) → design.derives ts d → whole_design ts ≡ Ok d
+unfolding whole_design
+design_read ts d h = only design_reads ts d h
+
+pub design_only : (ts : List Tok) (d e : List Block) → whole_design ts ≡ Ok e → design.derives ts d → e ≡ d
+design_only ts d e h k = ok_is {A = List Block} {E = Unfit Limit} e d (sym h ∙ design_read ts d k)
+
+pub design_not : (ts : List Tok) (d : List Block) (stop : Unfit Limit) → whole_design ts ≡ Err stop → design.derives ts d → ⊥
+design_not ts d stop h k = let yes = design_read ts d k in absurd cc
+
+pub design_refused : (ts : List Tok) (stop : Unfit Limit) → whole_design ts ≡ Err stop → Refused design ts stop
+unfolding whole_design
+design_refused ts stop h = refused design_reads ts stop h
+
+-- ---- where the text is refused
+
+pub left_within : (ts : List Tok) (stop : Unfit Limit) → whole_design ts ≡ Err stop → stop.0 ≤ length ts
+left_within ts stop h =
+    let p = design_refused ts stop h in
+    let k : length ts ≡ length (p.0 ++ p.1) = ap length p.2 in omega (arith, k, length-append p.0 p.1, p.3)
+
+rest_of : (ts front rest : List Tok) (n : ℕ) → ts ≡ front ++ rest → length rest ≡ n → drop (length ts - n) ts ≡ rest
+rest_of ts front rest n e k =
+    let all : length ts ≡ length (front ++ rest) = ap length e in
+    let len : length ts - n ≡ length front = omega (arith, all, length-append front rest, k) in
+    ap (λ m. drop m ts) len ∙ ap (drop (length front)) e ∙ drop-append_seam front rest
+
+pub refused_at : (text : List ℕ) (ts us : List Tok) (stop : Unfit Limit) (fault : ParseFault) → whole_design ts ≡ Err stop → us ≡ drop (length ts - stop.0) ts → IsFaultOf (end_of text) us stop.1 fault → IsRefused text ts fault
+refused_at text ts us stop fault h e told =
+    let p = design_refused ts stop h in
+    let same : us ≡ p.1 = e ∙ rest_of ts p.0 p.1 stop.0 p.2 p.3 in
+    record { front = p.0; rest = p.1; why = stop.1; whole = p.2; viable = p.4; stuck = p.5; told = subst (λ l. IsFaultOf (end_of text) l stop.1 fault) same told }
+
+pub on_refusal : (text : List ℕ) (ts : List Tok) (fault : ParseFault) → IsRefused text ts fault → OnRefusal text ts fault
+on_refusal text ts OutOfMemory h = tt
+on_refusal text ts (LeftOut at word) h = h
+on_refusal text ts (ExprLimit at) h = h
+on_refusal text ts (Syntax at) h = h
+
+take_whole : (ls : List Lexeme) (n : ℕ) → length ls ≤ n → take n ls ≡ ls
+take_whole [] zero h = refl
+take_whole [] (suc n) h = refl
+take_whole (l ∷ ls) zero h = absurd (omega (arith, h))
+take_whole (l ∷ ls) (suc n) h = ap (λ (xs : List Lexeme). l ∷ xs) (take_whole ls n (omega (arith, h)))
+
+-- the tokens that are left, as the code cuts them
+pub rest_toks : (ls : List Lexeme) (n : ℕ) → toks (take (length ls - (length ls - n)) (drop (length ls - n) ls)) ≡ drop (length (toks ls) - n) (toks ls)
+rest_toks ls n =
+    ap toks (take_whole (drop (length ls - n) ls) (length ls - (length ls - n)) (omega (arith, length-drop (length ls - n) ls)))
+    ∙ sym (drop-map tok (length ls - n) ls)
+    ∙ ap (λ m. drop (m - n) (toks ls)) (sym (length-map ls tok))

@@ -1,0 +1,15 @@
+use Rattle.std.proofs.Common.{◌≡◌, ◌<◌, length}
+use Rattle.icl_syntax.specs.Views.{seen_list, seen_expr}
+use Rattle.icl_parser.specs.Seen.{toks}
+use Rattle.icl_parser.specs.Reading.{read_value, read_values}
+use Rattle.icl_parser.proofs.Lists.{more_parted}
+use Rattle.icl_parser.proofs.items.read_values.Given as goal
+
+abbrev pub invariant-loop-alloc : goal.invariant-loop-alloc
+invariant-loop-alloc l = record {
+  shorter : length l.values.rest.now < length l.tokens;
+  goes_on : more_parted 124 read_value (seen_list (seen_list seen_expr) l.values.value) (toks l.values.rest.now) ≡ read_values (toks l.tokens);
+}
+
+abbrev pub decreases-loop-alloc : goal.decreases-loop-alloc
+decreases-loop-alloc l = length l.values.rest.now
