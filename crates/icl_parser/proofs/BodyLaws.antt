@@ -1,8 +1,8 @@
 -- The readers of properties and bodies read their symbols.
-use Rattle.std.proofs.Common.{◌≡◌, ℕ, Bool, true, false, cond, List, [], ◌∷◌, length, Option, Some, None, Result, Ok, Err, refl, ap, is_some}
+use Rattle.std.proofs.Common.{◌≡◌, ℕ, Bool, true, false, cond, List, [], ◌∷◌, Option, Some, None, refl, is_some}
 use Rattle.std.specs.Prelude.{◌||◌}
-use Rattle.grammar.specs.Symbol.{one, give, none, ◌>>=◌, ◌<|>◌, repeat}
-use Rattle.grammar.specs.Reading.{read_one, read_in_turn, read_repeat}
+use Rattle.grammar.specs.Symbol.{one, give, none, ◌>>=◌, repeat}
+use Rattle.grammar.specs.Reading.{read_in_turn, read_repeat}
 use Rattle.grammar.proofs.Laws.{Reads, one_reads, give_reads, none_reads, turn_reads, either_reads, wider_reads}
 use Rattle.icl_lexer.specs.declared.token.TokenKind.{TokenKind}
 use Rattle.icl_lexer.specs.declared.token.TokenKind.TheVariants.{Word, Decimal, Sized, Quoted, Param, Mark}
@@ -13,11 +13,9 @@ use Rattle.icl_syntax.specs.declared.words.PropWord.{PropWord}
 use Rattle.icl_syntax.specs.declared.words.PropWord.TheVariants.{Source, LaunchEdge, DefaultLoadValue, RefEnum, ActivePolarity, ScanInSource, CaptureSource, ResetValue, AccessTogether, Attribute}
 use Rattle.icl_syntax.specs.Tokens.{Tok, if_word, if_mark, is_mark}
 use Rattle.icl_syntax.specs.Values.{Property, ASource, ALaunchEdge, ALoadValue, ARefEnum, APolarity, AScanInSource, ACaptureSource, AResetValue, ATogether}
-use Rattle.icl_syntax.specs.Grammar.{Of, mark, name, maybe, expr_behind, ended_by, sig, sources, free_word, free_prop_at, attribute_said, decimal_token, prop_behind, property, with_property, lacks, body_end, body}
-use Rattle.icl_parser.specs.declared.fault.Stop.{Stop}
-use Rattle.icl_parser.specs.Seen.{Fails}
-use Rattle.icl_parser.specs.Reading.{Reading, gives, any, is_name, no_close, read_mark, read_maybe, read_ended, read_expr_behind, read_attribute_said, read_decimal, read_sources, read_prop_behind, read_free_prop, read_property, read_properties, read_unless, read_body_end, read_braced_body, read_body}
-use Rattle.icl_parser.proofs.Tokens.{nothing, marks, both_false, marks_apart, mark_apart, no_mark, no_mark_closes}
+use Rattle.icl_syntax.specs.Grammar.{Of, mark, maybe, expr_behind, ended_by, sources, free_word, free_prop_at, attribute_said, decimal_token, prop_behind, property, with_property, lacks, body_end, body}
+use Rattle.icl_parser.specs.Reading.{Reading, gives, any, is_name, no_close, read_mark, read_maybe, read_ended, read_expr_behind, read_attribute_said, read_sources, read_prop_behind, read_free_prop, read_property, read_properties, read_unless, read_body_end, read_braced_body, read_body}
+use Rattle.icl_parser.proofs.Tokens.{nothing, marks, both_false, marks_apart, mark_apart, no_mark_closes}
 use Rattle.icl_parser.proofs.Symbols.{then_reads, mark_reads, made_reads, sign_marks}
 use Rattle.icl_parser.proofs.SignalLaws.{value_reads, expr_behind_reads, maybe_reads, name_reads, path_marks, sig_reads, sigs_marks, sigs_reads}
 use Rattle.icl_parser.proofs.Lists.{parts_then_reads, ended_reads}

@@ -1,12 +1,11 @@
 -- One round of the loops that read factors and products.
-use Rattle.std.proofs.Common.{◌≡◌, ℕ, Bool, true, false, List, Option, Result, Ok, refl}
-use Rattle.grammar.specs.Reading.{Stop as Unfit, read_repeat}
-use Rattle.icl_syntax.specs.declared.words.Limit.{Limit}
+use Rattle.std.proofs.Common.{◌≡◌, ℕ, Bool, true, false, List, Option, Ok, refl}
+use Rattle.grammar.specs.Reading.{read_repeat}
 use Rattle.icl_syntax.specs.Tokens.{Tok}
 use Rattle.icl_syntax.specs.Grammar.{Counted, Signed, sum_sign, product_sign, factor, term, operand, with_operand}
 use Rattle.icl_parser.specs.declared.fault.Stop.{Stop}
 use Rattle.icl_parser.specs.Seen.{Fails}
-use Rattle.icl_parser.specs.Reading.{Reading, begins, gives, is_sign, no_close, read_put, read_operand, read_chain, read_factor, read_term, read_sum}
+use Rattle.icl_parser.specs.Reading.{Reading, begins, is_sign, no_close, read_put, read_operand, read_chain, read_factor, read_term, read_sum}
 use Rattle.icl_parser.proofs.Tokens.{nothing}
 use Rattle.icl_parser.proofs.Symbols.{operand_reads, factor_reads, term_reads, more_term, sum_apart}
 use Rattle.icl_parser.proofs.Steps.{Outcome, fails_on, go_on, round_fails, ends}

@@ -1,9 +1,9 @@
 -- The readers of enumerations, interfaces, access links, items and modules read their symbols.
-use Rattle.std.proofs.Common.{◌≡◌, ℕ, Bool, true, false, cond, List, [], ◌∷◌, Option, Some, None, Ok, refl, is_some}
-use Rattle.std.specs.Prelude.{◌||◌, codes}
-use Rattle.grammar.specs.Symbol.{one, give, ◌>>=◌, ◌<|>◌, repeat, many}
-use Rattle.grammar.specs.Reading.{read_one, read_in_turn, read_either, read_repeat}
-use Rattle.grammar.proofs.Laws.{Reads, one_reads, give_reads, turn_reads, repeat_reads, wider_reads}
+use Rattle.std.proofs.Common.{◌≡◌, ℕ, true, false, List, [], ◌∷◌, Option, Some, None, refl, is_some}
+use Rattle.std.specs.Prelude.{codes}
+use Rattle.grammar.specs.Symbol.{one, give, ◌>>=◌, repeat, many}
+use Rattle.grammar.specs.Reading.{read_in_turn}
+use Rattle.grammar.proofs.Laws.{Reads, one_reads, repeat_reads, wider_reads}
 use Rattle.icl_lexer.specs.declared.token.TokenKind.{TokenKind}
 use Rattle.icl_lexer.specs.declared.token.TokenKind.TheVariants.{Word, Decimal, Sized, Quoted, Param, Mark}
 use Rattle.ij_text.specs.declared.Place.{Place}
@@ -13,11 +13,11 @@ use Rattle.icl_syntax.specs.declared.words.ItemWord.TheVariants.{OfPort, OfRegis
 use Rattle.icl_syntax.specs.declared.words.MemberWord.{MemberWord}
 use Rattle.icl_syntax.specs.declared.words.MemberWord.TheVariants.{MemberPort, MemberAttribute}
 use Rattle.icl_syntax.specs.Tokens.{Tok, if_word, if_mark, is_mark}
-use Rattle.icl_syntax.specs.Values.{EnumValue, Instruction, SomeWords, AnInterface, ALink, Thing, Block}
-use Rattle.icl_syntax.specs.Grammar.{Of, mark, word, name, value, ended_by, appended, attribute_said}
-use Rattle.icl_syntax.specs.Modules.{braced, enum_word, words, member_word_at, member_behind, member, with_member, interface, Selected, selected, selecting, instruction, link_kind_at, entity, link, item_begun, item_begin_at, meaning_behind, item, module_of, design}
-use Rattle.icl_parser.specs.Reading.{Reading, gives, any, is_name, no_close, read_mark, read_word, read_name, read_ended, read_many, read_braced, read_value, read_enum_word, read_many_words, read_words, read_member_word, read_member_behind, read_member, read_members, read_interface, read_selected, read_selecting, read_instruction, read_instructions, read_entity, read_link_kind, read_link, read_item_begin, read_meaning_behind, read_item, read_items, read_module, read_design}
-use Rattle.icl_parser.proofs.Tokens.{nothing, marks, marks_apart, no_mark, no_mark_closes}
+use Rattle.icl_syntax.specs.Values.{Instruction, SomeWords, AnInterface, ALink, Block}
+use Rattle.icl_syntax.specs.Grammar.{mark, name, value, ended_by, appended}
+use Rattle.icl_syntax.specs.Modules.{braced, enum_word, words, member_word_at, member_behind, member, with_member, interface, selected, selecting, instruction, link_kind_at, entity, link, item_begun, item_begin_at, meaning_behind, item, module_of, design}
+use Rattle.icl_parser.specs.Reading.{gives, any, is_name, no_close, read_mark, read_ended, read_enum_word, read_many_words, read_words, read_member_word, read_member_behind, read_member, read_members, read_interface, read_selected, read_selecting, read_instruction, read_instructions, read_entity, read_link_kind, read_link, read_item_begin, read_meaning_behind, read_item, read_items, read_module, read_design}
+use Rattle.icl_parser.proofs.Tokens.{nothing, marks_apart, no_mark_closes}
 use Rattle.icl_parser.proofs.Symbols.{then_reads, mark_reads, made_reads, sign_marks}
 use Rattle.icl_parser.proofs.SignalLaws.{value_reads, name_reads}
 use Rattle.icl_parser.proofs.BodyLaws.{attribute_said_reads}

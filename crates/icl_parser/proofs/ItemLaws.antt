@@ -1,8 +1,8 @@
 -- The readers of ports, registers, multiplexers and instances read their symbols.
-use Rattle.std.proofs.Common.{◌≡◌, ℕ, Bool, true, false, cond, List, [], ◌∷◌, Option, Some, None, Ok, refl, is_some}
+use Rattle.std.proofs.Common.{◌≡◌, ℕ, Bool, true, false, List, [], ◌∷◌, Option, None, refl, is_some}
 use Rattle.std.specs.Prelude.{◌||◌, codes}
-use Rattle.grammar.specs.Symbol.{one, give, ◌>>=◌, ◌<|>◌, repeat, many}
-use Rattle.grammar.specs.Reading.{read_one, read_in_turn, read_either, read_repeat}
+use Rattle.grammar.specs.Symbol.{one, give, ◌>>=◌, repeat, many}
+use Rattle.grammar.specs.Reading.{read_in_turn}
 use Rattle.grammar.proofs.Laws.{Reads, one_reads, give_reads, turn_reads, either_reads, wider_reads}
 use Rattle.icl_lexer.specs.declared.token.TokenKind.{TokenKind}
 use Rattle.icl_lexer.specs.declared.token.TokenKind.TheVariants.{Word, Decimal, Sized, Quoted, Param, Mark}
@@ -14,11 +14,11 @@ use Rattle.icl_syntax.specs.declared.words.BindWord.TheVariants.{BindsPort, Bind
 use Rattle.icl_syntax.specs.declared.words.Owner.{Owner}
 use Rattle.icl_syntax.specs.declared.words.Owner.TheVariants.{ScanIn, ScanOut, DataIn, DataOut, Control, Register, Alias}
 use Rattle.icl_syntax.specs.Tokens.{Tok, if_word, if_mark, is_mark, word_at}
-use Rattle.icl_syntax.specs.Values.{Formula, Span, Row, Binding, ABoundPort, ABoundParameter, ABoundAttribute, APort, ARegister, AMux, AChild, AnAlias, AParameter, AnAttribute}
-use Rattle.icl_syntax.specs.Grammar.{Of, mark, word, name, value, maybe, expr_behind, ended_by, appended, parted, range, sig, sigs, attribute_said, body}
+use Rattle.icl_syntax.specs.Values.{Row, ABoundPort, ABoundParameter, ABoundAttribute, APort, ARegister, AMux, AChild, AnAlias, AParameter, AnAttribute}
+use Rattle.icl_syntax.specs.Grammar.{Of, mark, word, name, value, maybe, expr_behind, ended_by, appended, parted, range, sig, sigs, body}
 use Rattle.icl_syntax.specs.Modules.{owner_of, port_range, port, register, alias, parameter, attribute, row, rows, mux, begun_by, bind_begin_at, bound_port, bound_parameter, bound_attribute, bind_behind, bind, braced, binds, child}
-use Rattle.icl_parser.specs.Reading.{Reading, gives, any, is_name, no_close, read_mark, read_word, read_name, read_maybe, read_ended, read_many, read_braced, read_expr_behind, read_value, read_range, read_sig, read_sigs, read_body, read_port_range, read_port, read_register, read_alias, read_parameter, read_attribute, read_values, read_row, read_rows, read_mux, read_bind_begin, read_bound_port, read_bound_parameter, read_bound_attribute, read_bind_behind, read_bind, read_many_binds, read_braced_binds, read_binds, read_child}
-use Rattle.icl_parser.proofs.Tokens.{nothing, marks, both_false, left_false, right_false, marks_apart, mark_apart, no_mark, no_mark_closes}
+use Rattle.icl_parser.specs.Reading.{Reading, gives, any, is_name, no_close, read_mark, read_word, read_maybe, read_ended, read_many, read_braced, read_expr_behind, read_range, read_port_range, read_port, read_register, read_alias, read_parameter, read_attribute, read_values, read_row, read_rows, read_mux, read_bind_begin, read_bound_port, read_bound_parameter, read_bound_attribute, read_bind_behind, read_bind, read_many_binds, read_braced_binds, read_binds, read_child}
+use Rattle.icl_parser.proofs.Tokens.{nothing, marks, both_false, left_false, marks_apart, mark_apart, no_mark_closes}
 use Rattle.icl_parser.proofs.Symbols.{then_reads, mark_reads, made_reads, sign_marks}
 use Rattle.icl_parser.proofs.SignalLaws.{value_reads, expr_behind_reads, maybe_reads, maybe_range_reads, name_reads, path_marks, sig_reads, sigs_marks, sigs_reads}
 use Rattle.icl_parser.proofs.BodyLaws.{attribute_said_reads, body_marks, body_reads}

@@ -1,5 +1,5 @@
 -- Where the loops of items begin.
-use Rattle.std.proofs.Common.{◌≡◌, ℕ, List, [], ◌∷◌, Result, Ok, refl}
+use Rattle.std.proofs.Common.{◌≡◌, ℕ, List, [], ◌∷◌, Ok, refl}
 use Rattle.icl_syntax.specs.Tokens.{Tok}
 use Rattle.icl_syntax.specs.Values.{Formula, Row, Binding, EnumValue, Instruction, Thing, Block}
 use Rattle.icl_parser.specs.declared.fault.Stop.{Stop}

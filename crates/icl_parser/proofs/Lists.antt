@@ -1,11 +1,10 @@
 -- The loops that read lists of parts.
-use Rattle.std.proofs.Common.{◌≡◌, ℕ, Bool, true, false, List, [], ◌∷◌, ◌++◌, map, Option, Result, Ok, refl}
+use Rattle.std.proofs.Common.{◌≡◌, ℕ, Bool, true, false, List, [], ◌∷◌, ◌++◌, map, Ok, refl}
 use Rattle.std.proofs.lemmas.List.{map-append}
 use Rattle.std.specs.Prelude.{◌||◌}
 use Rattle.grammar.specs.Symbol.{give, ◌>>=◌, repeat}
-use Rattle.grammar.specs.Reading.{Stop as Unfit, read_repeat, read_on, read_in_turn}
+use Rattle.grammar.specs.Reading.{read_repeat, read_in_turn}
 use Rattle.grammar.proofs.Laws.{Reads, turn_reads, repeat_reads, wider_reads}
-use Rattle.icl_syntax.specs.declared.words.Limit.{Limit}
 use Rattle.icl_syntax.specs.Tokens.{Tok, is_mark}
 use Rattle.icl_syntax.specs.Values.{Block}
 use Rattle.icl_syntax.specs.Modules.{with_member}
@@ -13,9 +12,9 @@ use Rattle.icl_syntax.specs.Grammar.{Of, mark, appended, parted, ended_by}
 use Rattle.icl_parser.specs.declared.fault.Stop.{Stop}
 use Rattle.icl_parser.specs.Seen.{Fails}
 use Rattle.icl_parser.specs.Reading.{Reading, begins, gives, any, no_close, read_mark, read_put, read_after, read_ended, read_parted, read_member, read_module}
-use Rattle.icl_parser.proofs.Tokens.{nothing, marks, both_false, left_false, right_false}
+use Rattle.icl_parser.proofs.Tokens.{nothing, both_false, right_false}
 use Rattle.icl_parser.proofs.Symbols.{then_reads, mark_reads, made_reads}
-use Rattle.icl_parser.proofs.Steps.{Outcome, start, start_fails, go_on, round_fails, ends}
+use Rattle.icl_parser.proofs.Steps.{Outcome, go_on, round_fails, ends}
 
 -- ---- parts with a mark between them
 

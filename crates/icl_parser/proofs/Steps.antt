@@ -1,7 +1,7 @@
 -- One round of a loop that reads parts.
-use Rattle.std.proofs.Common.{◌≡◌, ℕ, Bool, true, false, List, [], ◌∷◌, Option, Result, Ok, Err, refl, sym, ap, ◌∙◌}
-use Rattle.grammar.specs.Reading.{Stop as Unfit, Reader, read_on, read_repeat}
-use Rattle.grammar.proofs.Laws.{Reads, Stops, ok_is, err_is, repeat_step, repeat_end}
+use Rattle.std.proofs.Common.{◌≡◌, Bool, true, false, List, [], ◌∷◌, Result, Ok, Err, sym, ap, ◌∙◌}
+use Rattle.grammar.specs.Reading.{Stop as Unfit, read_on, read_repeat}
+use Rattle.grammar.proofs.Laws.{Reads, ok_is, err_is, repeat_step, repeat_end}
 use Rattle.icl_syntax.specs.declared.words.Limit.{Limit}
 use Rattle.icl_syntax.specs.Tokens.{Tok}
 use Rattle.icl_syntax.specs.Grammar.{Of}

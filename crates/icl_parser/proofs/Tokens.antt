@@ -1,11 +1,10 @@
 -- Tokens exclude one another.
-use Rattle.std.proofs.Common.{◌≡◌, ℕ, Bool, true, false, not, cond, List, [], ◌∷◌, Option, Some, None, refl, is_some, eqb}
+use Rattle.std.proofs.Common.{◌≡◌, ℕ, Bool, true, false, cond, List, [], ◌∷◌, Option, Some, None, refl, is_some, eqb}
 use Rattle.std.proofs.lemmas.Bool.{eqb-true}
-use Rattle.std.specs.Prelude.{◌||◌, ◌==◌}
+use Rattle.std.specs.Prelude.{◌||◌}
 use Rattle.icl_lexer.specs.declared.token.TokenKind.{TokenKind}
 use Rattle.icl_lexer.specs.declared.token.TokenKind.TheVariants.{Word, Decimal, Sized, Quoted, Param, Mark}
-use Rattle.ij_text.specs.declared.Place.{Place}
-use Rattle.icl_syntax.specs.Tokens.{Tok, if_word, if_mark, is_byte, is_mark, mark_at, word_at}
+use Rattle.icl_syntax.specs.Tokens.{Tok, if_word, if_mark, is_byte, is_mark}
 use Rattle.icl_parser.specs.Reading.{no_close}
 
 abbrev pub nothing : Tok → Bool

@@ -1,11 +1,11 @@
 -- What reading a whole list of tokens says of it.
-use Rattle.std.proofs.Common.{◌≡◌, ℕ, zero, suc, ◌≤◌, ◌-◌, Bool, true, false, List, [], ◌∷◌, ◌++◌, length, drop, take, Option, Some, None, Result, Ok, Err, refl, sym, ap, subst, ◌∙◌, arith, length-append}
+use Rattle.std.proofs.Common.{◌≡◌, ℕ, zero, suc, ◌≤◌, ◌-◌, true, false, List, [], ◌∷◌, ◌++◌, length, drop, take, Ok, Err, refl, sym, ap, subst, ◌∙◌, arith, length-append}
 use Rattle.std.proofs.Math.Seq.{drop-append_seam}
 use Rattle.std.proofs.lemmas.Bool.{eqb-true}
 use Rattle.std.proofs.lemmas.List.{length-map, length-drop, drop-map}
 use Rattle.std.specs.Prelude.{◌==◌}
 use Rattle.grammar.specs.Reading.{Stop as Unfit, ended}
-use Rattle.grammar.specs.Refusal.{CantGoOn, Refused}
+use Rattle.grammar.specs.Refusal.{Refused}
 use Rattle.grammar.proofs.Laws.{ok_is}
 use Rattle.grammar.proofs.Verdicts.{found, only, refused}
 use Rattle.icl_syntax.specs.declared.words.Limit.{Limit}
@@ -22,7 +22,7 @@ use Rattle.icl_parser.specs.Seen.{Fails, tok, toks}
 use Rattle.icl_parser.specs.Reading.{begins, any, read_put, read_module, read_design, whole_design}
 use Rattle.icl_parser.specs.Refusals.{IsFaultOf, IsRefused, OnRefusal, end_of}
 use Rattle.icl_parser.proofs.Tokens.{nothing}
-use Rattle.icl_parser.proofs.Steps.{Outcome, go_on, round_fails, ends}
+use Rattle.icl_parser.proofs.Steps.{go_on, round_fails, ends}
 use Rattle.icl_parser.proofs.Lists.{more_modules}
 use Rattle.icl_parser.proofs.DesignLaws.{module_reads, design_reads}
 

@@ -1,6 +1,6 @@
 -- What each function of the parser reads: the readers of the productions, put together as the productions are.
-use Rattle.std.specs.Prelude.{ℕ, zero, suc, ◌+◌, ◌-◌, Bool, true, false, not, cond, List, [], ◌∷◌, ◌++◌, length, Option, Some, None, Result, Ok, Err, is_some, codes}
-use Rattle.grammar.specs.Reading.{Stop as Unfit, Reader, ended, read_barred, read_on, read_one, read_in_turn, read_either, read_repeat}
+use Rattle.std.specs.Prelude.{ℕ, zero, suc, ◌+◌, ◌-◌, Bool, true, false, not, List, [], ◌∷◌, length, Option, Some, None, Result, Ok, Err, is_some, codes}
+use Rattle.grammar.specs.Reading.{Stop as Unfit, Reader, ended, read_barred, read_one, read_in_turn, read_either, read_repeat}
 use Rattle.ij_text.specs.declared.Place.{Place}
 use Rattle.icl_syntax.specs.declared.tree.LinkKind.{LinkKind}
 use Rattle.icl_syntax.specs.declared.tree.PortKind.{PortKind}
@@ -17,7 +17,7 @@ use Rattle.icl_syntax.specs.declared.words.Owner.TheVariants.{ScanIn, ScanOut, D
 use Rattle.icl_syntax.specs.declared.words.PropWord.{PropWord}
 use Rattle.icl_syntax.specs.declared.words.PropWord.TheVariants.{Source, LaunchEdge, DefaultLoadValue, RefEnum, ActivePolarity, ScanInSource, CaptureSource, ResetValue, AccessTogether, Attribute}
 use Rattle.icl_syntax.specs.Tokens.{Tok, if_word, is_mark, mark_at, word_at, name_at}
-use Rattle.icl_syntax.specs.Values.{Formula, ASized, AnOp, Span, Meant, APath, Signal, Property, ASource, ALaunchEdge, ALoadValue, ARefEnum, APolarity, AScanInSource, ACaptureSource, AResetValue, ATogether, Row, Binding, ABoundPort, ABoundParameter, ABoundAttribute, EnumValue, Instruction, Meaning, APort, ARegister, AMux, AChild, AnAlias, SomeWords, AParameter, AnInterface, ALink, AnAttribute, Thing, Block}
+use Rattle.icl_syntax.specs.Values.{Formula, Span, APath, Signal, Property, ASource, ALaunchEdge, ALoadValue, ARefEnum, APolarity, AScanInSource, ACaptureSource, AResetValue, ATogether, Row, Binding, ABoundPort, ABoundParameter, ABoundAttribute, EnumValue, Instruction, Meaning, APort, ARegister, AMux, AChild, AnAlias, SomeWords, AParameter, AnInterface, ALink, AnAttribute, Thing, Block}
 use Rattle.icl_syntax.specs.Grammar.{Counted, leaf_at, Signed, sum_sign, product_sign, Operand, with_operand, too_deep, appended, Located, number_at, Named, named_at, free_prop_at, AttributeSaid, decimal_token, with_property, lacks}
 use Rattle.icl_syntax.specs.Modules.{owner_of, BindBegin, bind_begin_at, member_word_at, with_member, Selected, link_kind_at, ItemBegin, item_begin_at}
 

@@ -1,7 +1,6 @@
 -- What the functions of the parser take and give, without where it lies in memory.
-use Rattle.std.specs.Prelude.{◌≡◌, ℕ, Bool, List, [], ◌∷◌, map, Option, Some, None, Result, Ok, Err}
-use Rattle.std.proofs.Common.{Bor}
-use Rattle.grammar.specs.Reading.{Stop as Unfit, Reader}
+use Rattle.std.specs.Prelude.{◌≡◌, List, map, Result, Ok, Err}
+use Rattle.grammar.specs.Reading.{Stop as Unfit}
 use Rattle.icl_syntax.specs.declared.words.Limit.{Limit}
 use Rattle.icl_syntax.specs.Tokens.{Tok}
 use Rattle.icl_syntax.specs.Grammar.{Counted, Signed}

@@ -1,6 +1,6 @@
 -- Designs and their texts.
-use Rattle.std.specs.Prelude.{◌≡◌, ℕ, true, false, [], ◌∷◌, ◌++◌, Some, None, codes, refl}
-use Rattle.icl_syntax.specs.declared.tree.PortKind.TheVariants.{ScanInPort, DataInPort}
+use Rattle.std.specs.Prelude.{◌≡◌, true, false, [], ◌∷◌, ◌++◌, Some, None, codes, refl}
+use Rattle.icl_syntax.specs.declared.tree.PortKind.TheVariants.{ScanInPort}
 use Rattle.icl_syntax.specs.declared.tree.Sign.TheVariants.{Plus, Minus, Times}
 use Rattle.icl_syntax.specs.Values.{Formula, ASized, AParam, AnOp, APath, Signal, AScanInSource, ACaptureSource, APort, ARegister, AChild, AnInterface}
 use Rattle.icl_printer.specs.Layout.{layout}

@@ -46,16 +46,16 @@ fn put_mux<K: Sink>(
 /// Writes an instance.
 fn put_child<K: Sink>(
     name: &Name,
-    module: &Name,
+    of: &Name,
     binds: &List<Bind>,
     k: &mut K,
 ) -> Result<(), StoreFault>
-    ensures whole { OnOk result (Adds (K.taken k.old) (K.taken k.new) (layout (child_tokens name.now.items module.now.items (seen_list seen_bind binds.now)))) }
-    ensures part { OnErr result (AddsPart (K.taken k.old) (K.taken k.new) (layout (child_tokens name.now.items module.now.items (seen_list seen_bind binds.now)))) }
+    ensures whole { OnOk result (Adds (K.taken k.old) (K.taken k.new) (layout (child_tokens name.now.items of.now.items (seen_list seen_bind binds.now)))) }
+    ensures part { OnErr result (AddsPart (K.taken k.old) (K.taken k.new) (layout (child_tokens name.now.items of.now.items (seen_list seen_bind binds.now)))) }
     ensures cause { HasCause (K.faults k.old) (K.faults k.new) result StoreFault.Failed }
 {
     put_named(b"Instance", name, k)?;
-    put_named(b"Of", module, k)?;
+    put_named(b"Of", of, k)?;
     put_braced(binds, k)?;
     Ok(())
 }

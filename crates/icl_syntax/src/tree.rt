@@ -12,6 +12,7 @@ pub struct Design {
 /// A `Module`.
 #[derive(Drop)]
 pub struct Module {
+    /// The name, which any word may be.
     pub name: Name,
     /// The place of the word `Module`.
     pub at: Place,
@@ -24,7 +25,9 @@ pub struct Module {
 pub struct Item {
     /// The place of the item's first word.
     pub at: Place,
+    /// The name behind that word.
     pub name: Name,
+    /// What the item declares.
     pub what: What,
 }
 
@@ -122,6 +125,7 @@ pub enum Prop {
     DefaultLoadValue(List<Expr>),
     /// The name of an `Enum`.
     RefEnum(Name),
+    /// The level at which a control port is active.
     ActivePolarity(u32),
     /// Where a scan register shifts in from.
     ScanInSource(Sig),
@@ -129,22 +133,29 @@ pub enum Prop {
     CaptureSource(List<Sig>),
     /// The numbers of a concatenation, the leftmost first.
     ResetValue(List<Expr>),
+    /// The bits of an alias are accessed together.
     AccessTogether,
 }
 
 /// `[left]` or `[left:right]`, at the place of its `[`.
 #[derive(Drop)]
 pub struct Range {
+    /// The place of the `[`.
     pub at: Place,
+    /// The index on the left, farthest from TDO in a scan register.
     pub left: Expr,
+    /// The index on the right, nearest to TDO in a scan register; none in a range of one index.
     pub right: Option<Expr>,
 }
 
 /// A signal at the place of its first token, inverted by a `~`.
 #[derive(Drop)]
 pub struct Sig {
+    /// The place of its first token.
     pub at: Place,
+    /// Whether a `~` stands in front.
     pub inverted: bool,
+    /// What follows the `~`.
     pub what: SigWhat,
 }
 
@@ -163,7 +174,9 @@ pub enum SigWhat {
 /// A row of a `ScanMux`: the values that select it, each the numbers of a concatenation, and its source.
 #[derive(Drop)]
 pub struct MuxRow {
+    /// The values, one or more, with `|` between them.
     pub values: List<List<Expr>>,
+    /// What the multiplexer passes on at these values.
     pub source: Sig,
 }
 
@@ -183,6 +196,7 @@ pub enum Bind {
         name: Name,
         value: Expr,
     },
+    /// An `Attribute` of the instance.
     Attribute {
         name: Name,
         value: Option<Expr>,
@@ -192,15 +206,20 @@ pub enum Bind {
 /// A word of an `Enum`, with the numbers of a concatenation.
 #[derive(Drop)]
 pub struct EnumWord {
+    /// The word.
     pub name: Name,
+    /// What it stands for.
     pub value: List<Expr>,
 }
 
 /// An instruction of an `AccessLink`: its name, and the instance and the scan interface that it selects.
 #[derive(Drop)]
 pub struct LinkInstr {
+    /// The instruction, which the entity's description has.
     pub name: Name,
+    /// The instance.
     pub cell: Name,
+    /// Its scan interface.
     pub interface: Name,
 }
 

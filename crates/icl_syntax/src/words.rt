@@ -36,13 +36,19 @@ pub enum ItemWord {
 /// What has a body.
 #[derive(Clone, Copy, Debug, PartialEq, Eq)]
 pub enum Owner {
+    /// A `ScanInPort`.
     ScanIn,
+    /// A `ScanOutPort`.
     ScanOut,
+    /// A `DataInPort`.
     DataIn,
+    /// A `DataOutPort`.
     DataOut,
     /// A port that is neither a scan port nor a data port.
     Control,
+    /// A `ScanRegister`.
     Register,
+    /// An `Alias`.
     Alias,
 }
 

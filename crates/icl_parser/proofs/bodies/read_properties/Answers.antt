@@ -1,4 +1,4 @@
-use Rattle.std.proofs.Common.{◌≡◌, List, [], map, refl, sym, ap, ◌∙◌, arith}
+use Rattle.std.proofs.Common.{map, sym, ap, ◌∙◌, arith}
 use Rattle.icl_syntax.specs.Grammar.{property, with_property}
 use Rattle.icl_syntax.specs.Views.{seen_list, seen_prop}
 use Rattle.icl_parser.specs.Seen.{toks, seen_read}

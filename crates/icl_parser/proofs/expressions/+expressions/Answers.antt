@@ -1,9 +1,7 @@
-use Rattle.std.proofs.Common.{◌≡◌, List, Result, sym, subst, ◌∙◌, arith}
+use Rattle.std.proofs.Common.{sym, ◌∙◌, arith}
 use Rattle.std.proofs.lemmas.Result.{err_from_is_err_and}
-use Rattle.grammar.specs.Reading.{Stop as Unfit}
-use Rattle.icl_syntax.specs.Grammar.{Counted}
-use Rattle.icl_parser.specs.Seen.{Fails, toks, seen_read, seen_counting}
-use Rattle.icl_parser.proofs.Chains.{factors_start, factors_fail, factors_go_on, factors_round_fails, factors_end, terms_start, terms_fail, terms_go_on, terms_round_fails, terms_end}
+use Rattle.icl_parser.specs.Seen.{toks, seen_read, seen_counting}
+use Rattle.icl_parser.proofs.Chains.{factors_start, factors_fail, factors_go_on, terms_start, terms_fail, terms_go_on}
 use Rattle.icl_parser.proofs.expressions.+expressions.Goals as goal
 
 -- ---- products

@@ -1,4 +1,4 @@
-use Rattle.std.proofs.Common.{◌≡◌, ◌≤◌, ◌<◌, length, ◌+◌, ◌*◌, false, true}
+use Rattle.std.proofs.Common.{◌≡◌, ◌≤◌, ◌<◌, length, ◌+◌, ◌*◌, false}
 use Rattle.grammar.specs.Reading.{read_repeat}
 use Rattle.icl_syntax.specs.Grammar.{with_operand, sum_sign, product_sign}
 use Rattle.icl_parser.specs.Seen.{toks, seen_counting}

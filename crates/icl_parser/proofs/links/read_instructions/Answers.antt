@@ -1,5 +1,5 @@
-use Rattle.std.proofs.Common.{◌≡◌, ℕ, List, [], map, refl, sym, ap, ◌∙◌, arith}
-use Rattle.icl_syntax.specs.Values.{EnumValue, Binding, Instruction, Thing}
+use Rattle.std.proofs.Common.{List, map, sym, ap, ◌∙◌, arith}
+use Rattle.icl_syntax.specs.Values.{Instruction}
 use Rattle.icl_syntax.specs.Grammar.{appended}
 use Rattle.icl_syntax.specs.Views.{seen_list, seen_instr}
 use Rattle.icl_parser.specs.Seen.{toks, seen_read}

@@ -1,5 +1,4 @@
-use Rattle.std.proofs.Common.{◌≡◌, ℕ, List, [], map, refl, sym, ap, ◌∙◌, arith}
-use Rattle.icl_syntax.specs.Values.{EnumValue, Binding, Instruction, Thing}
+use Rattle.std.proofs.Common.{ℕ, List, map, sym, ap, ◌∙◌, arith}
 use Rattle.icl_syntax.specs.Modules.{with_member}
 use Rattle.icl_syntax.specs.Views.{seen_list, bytes_of}
 use Rattle.icl_parser.specs.Seen.{toks, seen_read}

@@ -1,6 +1,4 @@
-use Rattle.std.proofs.Common.{◌≡◌, ◌≤◌, length, List}
-use Rattle.grammar.specs.Reading.{read_repeat}
-use Rattle.icl_syntax.specs.Grammar.{appended}
+use Rattle.std.proofs.Common.{◌≡◌, ◌≤◌, length}
 use Rattle.icl_syntax.specs.Views.{seen_list, seen_item}
 use Rattle.icl_parser.specs.Seen.{toks}
 use Rattle.icl_parser.specs.Reading.{read_item, read_items}

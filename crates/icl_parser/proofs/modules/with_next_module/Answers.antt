@@ -1,4 +1,4 @@
-use Rattle.std.proofs.Common.{◌≡◌, List, ap}
+use Rattle.std.proofs.Common.{ap}
 use Rattle.icl_syntax.specs.Views.{seen_module}
 use Rattle.icl_parser.specs.Seen.{toks}
 use Rattle.icl_parser.specs.Reading.{read_module}

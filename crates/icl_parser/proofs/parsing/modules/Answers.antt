@@ -1,4 +1,4 @@
-use Rattle.std.proofs.Common.{◌≡◌, ◌≤◌, List, length, ap, subst, arith}
+use Rattle.std.proofs.Common.{subst, arith}
 use Rattle.std.proofs.lemmas.List.{length-map}
 use Rattle.icl_syntax.specs.Views.{seen_design}
 use Rattle.icl_parser.specs.Seen.{Fails, tok, toks}

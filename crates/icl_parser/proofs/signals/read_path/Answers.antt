@@ -1,4 +1,4 @@
-use Rattle.std.proofs.Common.{◌≡◌, List, [], ◌∷◌, refl, sym, ap, ◌∙◌, arith}
+use Rattle.std.proofs.Common.{refl, sym, ◌∙◌, arith}
 use Rattle.icl_syntax.specs.Views.{seen_list, bytes_of}
 use Rattle.icl_parser.specs.Seen.{toks, seen_read}
 use Rattle.icl_parser.specs.Reading.{read_name, read_path_behind}

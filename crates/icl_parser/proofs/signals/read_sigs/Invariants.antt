@@ -1,7 +1,4 @@
 use Rattle.std.proofs.Common.{◌≡◌, ◌<◌, length}
-use Rattle.grammar.specs.Reading.{read_repeat}
-use Rattle.icl_syntax.specs.Tokens.{is_mark}
-use Rattle.icl_syntax.specs.Grammar.{appended}
 use Rattle.icl_syntax.specs.Views.{seen_list, seen_sig}
 use Rattle.icl_parser.specs.Seen.{toks}
 use Rattle.icl_parser.specs.Reading.{read_sig, read_sigs}
