@@ -1,5 +1,7 @@
 // The texts of designs.
 use crate::put_design;
+use icl_lexer::lex;
+use icl_parser::parse;
 use icl_syntax::{Design, Expr, Item, Module, MuxRow, PortKind, Sig, SigWhat, Sign, What};
 use ij_bits::{List, OutOfMemory};
 use ij_io::SureSink;
@@ -123,5 +125,40 @@ fn a_row_keeps_its_order(rt: HostRuntime) -> Result<(), Fail> {
         sink.bytes(),
         b"Module a {\nScanMux m SelectedBy 0 {\n1'b0 , \"t\" : ~ c . SO ;\n}\n}\n".as_slice()
     );
+    Ok(())
+}
+
+/// Three wrapped instruments behind segment insertion bits (SIBs).
+const THREE_WRAPPED: &[u8] =
+    b"Module Sib {\n  Attribute kind = \"segment insertion bit\";\n  ScanInPort SI; CaptureEnPort CE; ShiftEnPort SE; UpdateEnPort UE; SelectPort SEL;\n  ResetPort RST { ActivePolarity 0; } TCKPort TCK;\n  ScanOutPort SO { Source SR; }\n  ScanInterface client { Port SI; Port CE; Port SE; Port UE; Port SEL; Port RST; Port TCK; Port SO; }\n  ScanInPort fromSO; ToCaptureEnPort toCE; ToShiftEnPort toSE; ToUpdateEnPort toUE;\n  ToSelectPort toSEL { Source SR; } ToResetPort toRST; ToTCKPort toTCK;\n  ScanOutPort toSI { Source SI; }\n  ScanInterface host { Port fromSO; Port toCE; Port toSE; Port toUE; Port toSEL; Port toRST; Port toTCK; Port toSI; }\n  ScanRegister SR { ScanInSource m; CaptureSource SR; ResetValue 1'b0; }\n  ScanMux m SelectedBy SR { 1'b0 : SI; 1'b1 : fromSO; }\n}\nModule Ins { Parameter W = 8; TCKPort TCK; DataInPort d[$W-1:0]; DataOutPort q[$W-1:0]; }\nModule Wrap {\n  Parameter W = 8;\n  ScanInPort SI; SelectPort SEL; TCKPort TCK; ScanOutPort SO { Source R[0]; }\n  ScanInterface client { Port SI; Port SEL; Port TCK; Port SO; }\n  ScanRegister R[$W-1:0] {\n    ScanInSource SI; CaptureSource ins.q; DefaultLoadValue $W'b0; ResetValue $W'b0;\n  }\n  Instance ins Of Ins { Parameter W = $W; InputPort d = R; InputPort TCK = TCK; }\n}\nModule Net {\n  ScanInPort SI; ScanOutPort SO { Source s3.SO; }\n  ScanInterface client { Port SI; Port SO; }\n  Instance s1 Of Sib { InputPort SI = SI; InputPort fromSO = w1.SO; }\n  Instance s2 Of Sib { InputPort SI = s1.SO; InputPort fromSO = w2.SO; }\n  Instance s3 Of Sib { InputPort SI = s2.SO; InputPort fromSO = w3.SO; }\n  Instance w1 Of Wrap { InputPort SI = s1.toSI; InputPort SEL = s1.toSEL; Parameter W = 4; }\n  Instance w2 Of Wrap { InputPort SI = s2.toSI; InputPort SEL = s2.toSEL; }\n  Instance w3 Of Wrap { InputPort SI = s3.toSI; InputPort SEL = s3.toSEL; Parameter W = 4; }\n}\nModule chip {\n  Instance net Of Net;\n  AccessLink tap Of STD_1149_1_2001 {\n    BSDLEntity chip; IJTAG { ScanInterface { net.client; } }\n  }\n}\n";
+
+/// The text that is printed of the design of a text.
+fn printed(alloc: Global, text: &[u8]) -> Result<SureSink, Fail> {
+    let mut sink = SureSink::new(alloc);
+    if text.len() > 100_000 {
+        return Ok(sink);
+    }
+    let Ok(tokens) = lex(alloc, text) else {
+        return Ok(sink);
+    };
+    let Ok(design) = parse(alloc, text, &tokens) else {
+        return Ok(sink);
+    };
+    put_design(&design, &mut sink)?;
+    Ok(sink)
+}
+
+#[test]
+fn a_printed_design_is_read_again(rt: HostRuntime) -> Result<(), Fail> {
+    let alloc = rt.alloc();
+    let first = printed(alloc, THREE_WRAPPED)?;
+    assert!(rt;
+        first.bytes().starts_with(
+            b"Module Sib {\nAttribute kind = \"segment insertion bit\" ;\nScanInPort SI ;\n"
+        )
+    );
+    assert!(rt; first.bytes().len() > 2000);
+    let second = printed(alloc, first.bytes())?;
+    assert_eq!(rt; second.bytes(), first.bytes());
     Ok(())
 }

@@ -10,7 +10,6 @@ use Rattle.icl_lexer.specs.Cutting.{AreTokens}
 use Rattle.icl_syntax.specs.declared.tree.Design.{Design}
 use Rattle.icl_syntax.specs.Modules.{design}
 use Rattle.icl_syntax.specs.Tokens.{toks_of}
-use Rattle.icl_syntax.specs.Values.{Block}
 use Rattle.icl_parser.specs.declared.fault.ParseFault.{ParseFault}
 use Rattle.icl_parser.specs.declared.fault.ParseFault.TheVariants.{LeftOut, ExprLimit, Syntax, OutOfMemory as NoMemory}
 use Rattle.ijtag_core.specs.IclText.{IsIclText, IsIclFault, IsNoIcl}
