@@ -1,5 +1,5 @@
 -- A text has one design or one fault at most.
-use Rattle.std.proofs.Common.{◌≡◌, ℕ, Bool, true, false, cond, List, [], ◌∷◌, ◌++◌, length, drop, Option, Some, None, Result, Ok, refl, sym, ap, subst, ◌∙◌, ◌-◌}
+use Rattle.std.proofs.Common.{◌≡◌, ℕ, cond, List, [], ◌∷◌, length, Option, Some, None, refl, sym, ap, ◌∙◌}
 use Rattle.grammar.specs.Reading.{Stop as Unfit}
 use Rattle.grammar.specs.Refusal.{Refused}
 use Rattle.grammar.proofs.Verdicts.{refusals_are_one, derived_not_refused}
@@ -11,7 +11,7 @@ use Rattle.icl_syntax.specs.Modules.{design}
 use Rattle.icl_parser.specs.declared.fault.ParseFault.{ParseFault}
 use Rattle.icl_parser.specs.declared.fault.ParseFault.TheVariants.{OutOfMemory, LeftOut, ExprLimit, Syntax}
 use Rattle.icl_parser.specs.Refusals.{left_out_at, IsFaultOf, IsRefused, end_of}
-use Rattle.icl_parser.specs.Laws.{SeenFault, NoMemory, ALeftOut, AnExprLimit, ASyntax, seen_fault}
+use Rattle.icl_parser.specs.Laws.{SeenFault, ALeftOut, AnExprLimit, ASyntax, seen_fault}
 use Rattle.icl_parser.proofs.DesignLaws.{design_reads}
 use Rattle.icl_parser.proofs.Verdicts.{design_read, design_only, rest_of}
 
