@@ -12,3 +12,4 @@ pub mod ItemLaws
 pub mod DesignLaws
 pub mod ItemLoops
 pub mod Verdicts
+pub mod Uniqueness

@@ -61,7 +61,7 @@ pub design_found : (ts : List Tok) (d : List Block) → whole_design ts ≡ Ok d
 unfolding whole_design
 design_found ts d h = found design_reads ts d h
 
-design_read : (ts : List Tok) (d : List Block) → design.derives ts d → whole_design ts ≡ Ok d
+pub design_read : (ts : List Tok) (d : List Block) → design.derives ts d → whole_design ts ≡ Ok d
 unfolding whole_design
 design_read ts d h = only design_reads ts d h
 
@@ -82,7 +82,7 @@ left_within ts stop h =
     let p = design_refused ts stop h in
     let k : length ts ≡ length (p.0 ++ p.1) = ap length p.2 in omega (arith, k, length-append p.0 p.1, p.3)
 
-rest_of : (ts front rest : List Tok) (n : ℕ) → ts ≡ front ++ rest → length rest ≡ n → drop (length ts - n) ts ≡ rest
+pub rest_of : (ts front rest : List Tok) (n : ℕ) → ts ≡ front ++ rest → length rest ≡ n → drop (length ts - n) ts ≡ rest
 rest_of ts front rest n e k =
     let all : length ts ≡ length (front ++ rest) = ap length e in
     let len : length ts - n ≡ length front = omega (arith, all, length-append front rest, k) in

@@ -2,3 +2,4 @@ pub mod Seen
 pub mod SeenParts
 pub mod Reading
 pub mod Refusals
+pub mod Laws

@@ -6,6 +6,7 @@ mod ends;
 mod expressions;
 mod fault;
 mod items;
+mod laws;
 mod leaves;
 mod lexeme;
 mod links;
@@ -18,4 +19,5 @@ mod tests;
 mod words;
 
 pub use fault::ParseFault;
+pub use laws::{designs_are_one, refusals_are_one};
 pub use parsing::parse;
