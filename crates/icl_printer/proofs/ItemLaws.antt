@@ -1,5 +1,5 @@
 -- What stands behind the word and the name of an item, printed and derived again.
-use Rattle.std.proofs.Common.{◌≡◌, Bool, List, [], ◌∷◌, ◌++◌, map, Option, None, refl, sym, ap, ◌∙◌, subst, append_assoc}
+use Rattle.std.proofs.Common.{◌≡◌, Bool, List, [], ◌∷◌, ◌++◌, map, Option, None, refl, sym, ap, subst}
 use Rattle.std.specs.Prelude.{codes}
 use Rattle.std.specs.Option.{option_map}
 use Rattle.icl_syntax.specs.declared.tree.PortKind.{PortKind}
@@ -8,10 +8,10 @@ use Rattle.icl_syntax.specs.declared.words.Owner.TheVariants.{ScanIn, ScanOut, D
 use Rattle.icl_syntax.specs.Tokens.{Tok}
 use Rattle.icl_syntax.specs.Values.{Formula, Span, Signal, Property, Row, Meaning, APort, ARegister, AMux, AnAlias, AParameter, AnAttribute}
 use Rattle.icl_syntax.specs.Grammar.{value, AttributeSaid, attribute_said}
-use Rattle.icl_syntax.specs.Modules.{owner_of, port_range, port, register, alias, parameter, attribute, row, mux}
-use Rattle.icl_printer.specs.Layout.{Spelling, word, mark}
+use Rattle.icl_syntax.specs.Modules.{owner_of, port_range, port, register, alias, parameter, attribute, row, rows, mux}
+use Rattle.icl_printer.specs.Layout.{word, mark}
 use Rattle.icl_printer.specs.Canonical.{in_turn, behind, braced, if_there, formula_tokens, value_tokens, range_tokens, signals_tokens, property_tokens, row_tokens}
-use Rattle.icl_printer.specs.Again.{spellings, AllSpelled, nowhere, bare_formula, bare_value, bare_span, bare_signals, bare_row, bare_meaning}
+use Rattle.icl_printer.specs.Again.{spellings, AllSpelled, nowhere, bare_formula, bare_value, bare_span, bare_row, bare_meaning}
 use Rattle.icl_printer.proofs.Printed.{Printed, Law, p_turn, p_last, p_give, p_mark, p_word, name_law, halves}
 use Rattle.icl_printer.proofs.Loops.{appends, parted_law}
 use Rattle.icl_printer.proofs.SignalLaws.{value_law, behind_expr_law, maybe_expr_law, maybe_range_law, sig_law, sigs_law}
@@ -103,6 +103,14 @@ row_law ts r good h =
     (p_turn (parted_law 124 value bare_value value_tokens refl refl value_law h.0 h.2 g1.0 h.4)
     (λ vs ev. p_turn (p_mark 58 nowhere refl refl) (λ c ec. p_turn (sig_law h3.0 h3.2 g3.0 h3.4) (λ s es. p_last (p_mark 59 nowhere refl refl) (λ e ee. cc (ev, es))))))
 
+rows_law : Law rows (map bare_row) (in_turn row_tokens)
+unfolding rows
+rows_law ts rs good h =
+    let g = halves h.0 h.1 ts h.3 good in
+    let k = appends row bare_row row_tokens row_law h.5.0 h.1 (h.2 ∷ []) rs g.1 h.5.1 in
+    subst (λ (xs : List Row). Printed rows (map bare_row) (in_turn row_tokens xs) rs) (sym k.is)
+    (p_turn (row_law h.0 h.2 g.0 h.4) (λ r er. k.printed (r ∷ []) (ap (λ z. z ∷ []) er)))
+
 pub mux_law : (ts : List Tok) (m : Meaning) → AllSpelled (spellings ts) → mux.derives ts m
     → (ss : List Signal) × (rs : List Row) × (m ≡ AMux ss rs)
     × (Printed mux bare_meaning (word (codes "SelectedBy") ∷ (signals_tokens ss ++ (mark 123 ∷ (in_turn row_tokens rs ++ (mark 125 ∷ []))))) (AMux ss rs))
@@ -114,21 +122,12 @@ mux_law ts m good h =
     let h3 = h2.5 in
     let g3 = halves h3.0 h3.1 h2.1 h3.3 g2.1 in
     let h4 = h3.5 in
-    let g4 = halves h4.0 h4.1 h3.1 h4.3 g3.1 in
-    let h5 = h4.5 in
-    let g5 = halves h5.0 h5.1 h4.1 h5.3 g4.1 in
-    let k = appends row bare_row row_tokens row_law h5.4.0 h5.0 (h4.2 ∷ []) h5.2 g5.0 h5.4.1 in
-    let rs = h4.2 ∷ k.more in
-    let tokens : List Spelling = word (codes "SelectedBy") ∷ (signals_tokens h2.2 ++ (mark 123 ∷ (row_tokens h4.2 ++ (in_turn row_tokens k.more ++ (mark 125 ∷ []))))) in (
+    let g4 = halves h4.0 h4.1 h3.1 h4.3 g3.1 in (
       h2.2,
-      rs,
-      h5.5.5.1 ∙ ap (AMux h2.2) k.is,
-      subst (λ (x : List Spelling). Printed mux bare_meaning x (AMux h2.2 rs))
-          (ap (λ (x : List Spelling). word (codes "SelectedBy") ∷ (signals_tokens h2.2 ++ (mark 123 ∷ x))) (sym (append_assoc (row_tokens h4.2) (in_turn row_tokens k.more) (mark 125 ∷ []))))
-          (p_turn (p_word (codes "SelectedBy") nowhere refl refl)
-          (λ a ea. p_turn (sigs_law h2.0 h2.2 g2.0 h2.4) (λ ss es. p_turn (p_mark 123 nowhere refl refl) (λ o eo. p_turn (row_law h4.0 h4.2 g4.0 h4.4)
-          (λ r er. p_turn (k.printed (r ∷ []) (ap (λ z. z ∷ []) er))
-          (λ xs ex. p_last (p_mark 125 nowhere refl refl) (λ c ec. ap (λ z. AMux z (map bare_row xs)) es ∙ ap (λ z. AMux (bare_signals h2.2) z) (ex ∙ ap (map bare_row) k.is)))))))),
+      h4.2,
+      h4.5.5.1,
+      p_turn (p_word (codes "SelectedBy") nowhere refl refl)
+          (λ a ea. p_turn (sigs_law h2.0 h2.2 g2.0 h2.4) (λ ss es. p_turn (p_mark 123 nowhere refl refl) (λ o eo. p_turn (rows_law h4.0 h4.2 g4.0 h4.4) (λ xs ex. p_last (p_mark 125 nowhere refl refl) (λ c ec. cc (es, ex)))))),
     )
 
 -- ---- instances
