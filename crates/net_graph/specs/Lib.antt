@@ -10,3 +10,7 @@ pub mod OneRegister
 pub mod SeenSteps
 pub mod Groups
 pub mod Steps
+pub mod Held
+pub mod Tracing
+pub mod Writes
+pub mod Selects
