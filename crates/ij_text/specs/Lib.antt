@@ -1,4 +1,5 @@
 pub mod Numbering
+pub mod Words
 pub mod Numbers
 pub mod Answers
 pub mod Examples

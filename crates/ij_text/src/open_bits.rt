@@ -6,9 +6,10 @@ use ij_bits::{Bits, OutOfMemory, Tern};
 use std::alloc::Global;
 use std::marker::Model;
 
-/// Bits, each of them 0, 1 or open. Position 0 is the lowest bit.
+/// Bits, each of them 0, 1 or open, as the digits of a number give them (an `x` stands for open bits). Position 0 is the
+/// lowest bit. Contracts see a list of optional bits, none where the bit is open.
 #[derive(Drop)]
-pub(crate) struct OpenBits {
+pub struct OpenBits {
     value: Bits,
     care: Bits,
 }
@@ -47,7 +48,7 @@ impl OpenBits {
         Ok(())
     }
 
-    /// The bits as a number with open bits.
+    /// The bits as a number with open bits. Takes no memory.
     pub fn into_tern(self) -> Tern
         ensures { open_bits result.value.items result.care.items ≡ self }
     {

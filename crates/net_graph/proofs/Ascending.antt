@@ -1,7 +1,7 @@
 -- Numbers that rise are different.
 use Rattle.std.proofs.Common.{ℕ, zero, suc, ◌≤◌, List, [], ◌∷◌, arith}
 use Rattle.std.specs.Prelude.{Contains}
-use Rattle.net_graph.specs.Different.{AreDifferent}
+use Rattle.ij_bits.specs.Different.{AreDifferent}
 
 -- each number is at least k, and each is above the one before it
 abbrev pub IsAscending : ℕ → List ℕ → Type 0

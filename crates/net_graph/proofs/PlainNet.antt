@@ -1,6 +1,6 @@
 -- The network of the register `net.R` is well formed.
 use Rattle.std.proofs.Common.{◌≡◌, ℕ, zero, suc, ◌+◌, ◌<◌, ◌≤◌, false, List, [], ◌∷◌, length, refl, sym, ap, ◌∙◌, arith}
-use Rattle.std.specs.Prelude.{map, All, Contains}
+use Rattle.std.specs.Prelude.{map, All, Contains, IsTrue}
 use Rattle.std.proofs.lemmas.List.Elements.{All-nil, All-cons}
 use Rattle.std.proofs.lemmas.List.{length-map, length-replicate}
 use Rattle.net_graph.specs.declared.net.BitId.{BitId}
@@ -9,9 +9,10 @@ use Rattle.net_graph.specs.declared.net.Node.{Node}
 use Rattle.net_graph.specs.declared.net.Point.TheVariants.{Entry}
 use Rattle.net_graph.specs.declared.net.Sig.TheVariants.{Bit}
 use Rattle.net_graph.specs.declared.net.Spot.TheVariants.{Held}
-use Rattle.net_graph.specs.Named.{IsSignalOf, IsSpotOf}
-use Rattle.net_graph.specs.Nets.{IsReg, IsThing, IsMux, IsInst, IsNet}
-use Rattle.net_graph.specs.OneRegister.{bits_from, plain_register, plain_thing, plain_top, plain_instance, plain_net}
+use Rattle.net_graph.specs.Named.{IsSignalOf, IsSpotOf, bits_from}
+use Rattle.ij_text.specs.Words.{is_name}
+use Rattle.net_graph.specs.Nets.{IsReg, IsThing, IsMux, IsInst, IsNet, HaveThings}
+use Rattle.net_graph.specs.OneRegister.{plain_register, plain_thing, plain_top, plain_instance, plain_net}
 
 pub length-bits_from : (r k n : ℕ) → length (bits_from r k n) ≡ n
 length-bits_from r k zero = refl
@@ -38,6 +39,9 @@ some_path x e =
 abbrev IsNear : Node → Type 0
 IsNear node = length node.path.items ≤ 64
 
+abbrev HasNames : Node → Type 0
+HasNames node = All (λ name. IsTrue (is_name name.items)) node.path.items
+
 module _ (width : ℕ) (some : 1 ≤ width) (few : width ≤ 64) where
   abbrev net : Net
   net = plain_net width
@@ -51,8 +55,12 @@ module _ (width : ℕ) (some : 1 ≤ width) (few : width ≤ 64) where
 
   thing_fits : IsThing net (plain_thing width)
   thing_fits =
-      record { node = omega arith; wide = omega (arith, thing_long, some); few_bits = omega (arith, thing_long, few); spots = bits_have Held (IsSpotOf net) 0 width (λ p l. l) 0 width (omega arith); words = All-nil _; word_names = tt }
+      record { node = omega arith; named = refl; wide = omega (arith, thing_long, some); few_bits = omega (arith, thing_long, few); spots = bits_have Held (IsSpotOf net) 0 width (λ p l. l) 0 width (omega arith); words = All-nil _; word_names = tt }
+
+  reg_things : HaveThings net
+  reg_things zero l = refl
+  reg_things (suc r) l = absurd (omega (arith, l))
 
   pub plain_net_is_net : IsNet net
   plain_net_is_net =
-      record { regs = All-cons (IsReg net) (plain_register 0 width Entry) [] reg_fits (All-nil (IsReg net)); muxes = All-nil (IsMux net); insts = All-nil (IsInst net); output = omega arith; things = All-cons (IsThing net) (plain_thing width) [] thing_fits (All-nil (IsThing net)); top = omega arith; top_path = refl; node_paths = (λ c. some_path _ (first_of _ _ c), (nothing_in _, tt)); inst_nodes = tt; thing_names = (nothing_in _, tt); few_bits = omega (arith, few); few_muxes = omega arith; few_insts = omega arith; few_nodes = omega arith; few_levels = All-cons IsNear plain_top (plain_instance ∷ []) (omega arith) (All-cons IsNear plain_instance [] (omega arith) (All-nil IsNear)) }
+      record { regs = All-cons (IsReg net) (plain_register 0 width Entry) [] reg_fits (All-nil (IsReg net)); muxes = All-nil (IsMux net); insts = All-nil (IsInst net); output = omega arith; things = All-cons (IsThing net) (plain_thing width) [] thing_fits (All-nil (IsThing net)); top = omega arith; top_path = refl; node_paths = (λ c. some_path _ (first_of _ _ c), (nothing_in _, tt)); inst_nodes = tt; thing_names = (nothing_in _, tt); path_names = All-cons HasNames plain_top (plain_instance ∷ []) (All-nil _) (All-cons HasNames plain_instance [] (All-cons _ _ [] refl (All-nil _)) (All-nil HasNames)); reg_things = reg_things; few_bits = omega (arith, few); few_muxes = omega arith; few_insts = omega arith; few_nodes = omega arith; few_levels = All-cons IsNear plain_top (plain_instance ∷ []) (omega arith) (All-cons IsNear plain_instance [] (omega arith) (All-nil IsNear)) }

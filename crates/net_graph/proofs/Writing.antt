@@ -6,7 +6,7 @@ use Rattle.std.proofs.lemmas.List.{get_or-set_same, get_or-set_other, length-set
 use Rattle.ij_bits.specs.BitLists.{bit}
 use Rattle.net_graph.specs.declared.net.BitId.{BitId}
 use Rattle.net_graph.specs.declared.step.WriteBit.{WriteBit}
-use Rattle.net_graph.specs.Different.{AreDifferent}
+use Rattle.ij_bits.specs.Different.{AreDifferent}
 use Rattle.net_graph.specs.Signals.{Holds, bits_at, hold_at}
 use Rattle.net_graph.specs.Held.{set_hold}
 use Rattle.net_graph.specs.Writes.{write_bit, write_all}

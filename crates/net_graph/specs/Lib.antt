@@ -1,4 +1,3 @@
-pub mod Different
 pub mod Signals
 pub mod Path
 pub mod Chain

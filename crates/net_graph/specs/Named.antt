@@ -1,6 +1,6 @@
 -- What the records of a network name is there: registers and their bits, muxes, outputs of instruments
 -- (IEEE 1687-2014, ICL: the objects of a module and the signals that join them).
-use Rattle.std.specs.Prelude.{◌<◌, ℕ, List, [], map, length, get_or}
+use Rattle.std.specs.Prelude.{◌<◌, ℕ, zero, suc, List, [], ◌∷◌, map, length, get_or}
 use Rattle.net_graph.specs.declared.net.BitId.{BitId}
 use Rattle.net_graph.specs.declared.net.Net.{Net}
 use Rattle.net_graph.specs.declared.net.Point.{Point}
@@ -40,6 +40,19 @@ IsInputOf net Zero = Unit {0}
 IsInputOf net One = Unit {0}
 IsInputOf net (Bit b inverted) = IsBitOf net b
 IsInputOf net (Out inst port pos inverted) = ⊥
+
+-- n bits of register r, from position k on
+abbrev pub bits_from : ℕ → ℕ → ℕ → List BitId
+bits_from r k zero = []
+bits_from r k (suc n) = record { reg = r; pos = k } ∷ bits_from r (suc k) n
+
+-- the thing that a register is for procedures, by its number
+abbrev pub thing_of : Net → ℕ → ℕ
+thing_of net r = get_or (map (λ reg. reg.thing) net.regs.items) r 0
+
+-- the bits of a thing, none for one that isn't there
+abbrev pub bits_of_thing : Net → ℕ → List Spot
+bits_of_thing net t = get_or (map (λ thing. thing.bits.items) net.things.items) t []
 
 abbrev pub IsSpotOf : Net → Spot → Type 0
 IsSpotOf net (Held b) = IsBitOf net b

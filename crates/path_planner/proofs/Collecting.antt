@@ -9,7 +9,7 @@ use Rattle.net_graph.specs.declared.branch.Branch.{Branch}
 use Rattle.net_graph.specs.declared.net.BitId.{BitId}
 use Rattle.net_graph.specs.declared.net.Net.{Net}
 use Rattle.net_graph.specs.declared.step.WriteBit.{WriteBit}
-use Rattle.net_graph.specs.Different.{AreDifferent}
+use Rattle.ij_bits.specs.Different.{AreDifferent}
 use Rattle.net_graph.specs.Path.{select_bits}
 use Rattle.net_graph.specs.Signals.{Holds, bits_at, hold_at}
 use Rattle.net_graph.specs.Held.{set_hold}

@@ -14,7 +14,8 @@ use Rattle.net_graph.specs.declared.net.Spot.{Spot}
 use Rattle.net_graph.specs.declared.net.Spot.TheVariants.{Held, Inward, Outward}
 use Rattle.net_graph.specs.declared.net.Thing.{Thing}
 use Rattle.net_graph.specs.declared.net.Point.TheVariants.{Entry}
-use Rattle.net_graph.specs.OneRegister.{bits_from, plain_register}
+use Rattle.net_graph.specs.Named.{bits_from}
+use Rattle.net_graph.specs.OneRegister.{plain_register}
 use Rattle.pdl_parser.specs.declared.words.Rule.{Rule}
 use Rattle.pdl_parser.specs.Cutting.{words_of}
 use Rattle.pdl_parser.specs.Values.{AProc}

@@ -4,7 +4,7 @@ use Rattle.std.specs.Prelude.{map, not, unwrap_or, All}
 use Rattle.std.specs.Option.{is_some, option_map_or}
 use Rattle.std.proofs.lemmas.List.{length-replicate}
 use Rattle.std.proofs.lemmas.List.Elements.{All-nil, All-head, All-tail}
-use Rattle.net_graph.specs.Different.{AreDifferent}
+use Rattle.ij_bits.specs.Different.{AreDifferent}
 use Rattle.net_graph.specs.declared.step.ReadBit.{ReadBit}
 use Rattle.net_graph.specs.declared.step.WriteBit.{WriteBit}
 use Rattle.svf_writer.specs.Fits.{HasLength, IsWrittenScan}

@@ -3,7 +3,7 @@ use Rattle.std.proofs.Common.{◌≡◌, ℕ, suc, ◌+◌, ◌≤◌, Bool, Lis
 use Rattle.std.specs.Prelude.{map, All}
 use Rattle.std.proofs.lemmas.List.{set_at}
 use Rattle.std.proofs.lemmas.List.Elements.{All-nil, All-cons}
-use Rattle.net_graph.specs.Different.{AreDifferent}
+use Rattle.ij_bits.specs.Different.{AreDifferent}
 use Rattle.net_graph.proofs.Ascending.{IsAscending, ascending_differ}
 use Rattle.headline.specs.OneScan.{write_reg, IsHere}
 use Rattle.register_compiler.specs.Procedure.{write_bits, read_bits}
