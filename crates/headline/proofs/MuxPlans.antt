@@ -1,6 +1,8 @@
 -- The premises of the law can be met: the network of the two rounds is well formed, and its script is planned.
 use Rattle.std.proofs.Common.{◌≡◌, ℕ, zero, suc, ◌<◌, ◌≤◌, Bool, true, false, List, [], ◌∷◌, length, Option, Some, None, refl, sym, ap, arith}
-use Rattle.std.specs.Prelude.{All, Contains, get_or, is_some, replicate}
+use Rattle.std.specs.Prelude.{All, Contains, get_or, is_some, replicate, IsTrue, codes}
+use Rattle.ij_bits.specs.Room.{Listed, full}
+use Rattle.ij_text.specs.Words.{is_name}
 use Rattle.std.proofs.lemmas.Bool.{true≢false}
 use Rattle.std.proofs.lemmas.List.Elements.{All-nil, All-cons}
 use Rattle.net_graph.specs.declared.net.BitId.{BitId}
@@ -14,7 +16,7 @@ use Rattle.net_graph.specs.declared.step.ReadBit.{ReadBit}
 use Rattle.net_graph.specs.declared.step.WriteBit.{WriteBit}
 use Rattle.net_graph.specs.Devices.{IsDevice}
 use Rattle.net_graph.specs.Named.{IsBitOf, IsSignalOf, IsSpotOf}
-use Rattle.net_graph.specs.Nets.{IsNet, IsReg, IsMux, IsRow, IsInst, IsThing, rows_with}
+use Rattle.net_graph.specs.Nets.{IsNet, IsReg, IsMux, IsRow, IsInst, IsThing, HaveThings, rows_with}
 use Rattle.net_graph.specs.OneRegister.{plain_register, plain_top, plain_instance}
 use Rattle.net_graph.specs.Path.{is_select}
 use Rattle.net_graph.specs.Resets.{start_holds}
@@ -83,14 +85,14 @@ mux_fits =
 abbrev Spots : List Spot → Type 0
 Spots spots = All (IsSpotOf rounds_net) spots
 
-wide_thing : (r letter : ℕ) → IsBitOf rounds_net (bit r 0) → IsBitOf rounds_net (bit r 1) → IsThing rounds_net (thing r 2 letter)
-wide_thing r letter a b =
+wide_thing : (r letter : ℕ) → IsTrue (is_name (letter ∷ [])) → IsBitOf rounds_net (bit r 0) → IsBitOf rounds_net (bit r 1) → IsThing rounds_net (thing r 2 letter)
+wide_thing r letter name a b =
     let spots : Spots (Held (bit r 0) ∷ Held (bit r 1) ∷ []) = All-cons (IsSpotOf rounds_net) (Held (bit r 0)) (Held (bit r 1) ∷ []) a (All-cons (IsSpotOf rounds_net) (Held (bit r 1)) [] b (All-nil (IsSpotOf rounds_net))) in
-    record { node = omega arith; wide = refl; few_bits = omega arith; spots = spots; words = All-nil _; word_names = tt }
+    record { node = omega arith; named = name; wide = refl; few_bits = omega arith; spots = spots; words = All-nil _; word_names = tt }
 
 select_thing : IsThing rounds_net (thing 2 1 83)
 select_thing =
-    record { node = omega arith; wide = refl; few_bits = omega arith; spots = All-cons (IsSpotOf rounds_net) (Held (bit 2 0)) [] (omega arith) (All-nil (IsSpotOf rounds_net)); words = All-nil _; word_names = tt }
+    record { node = omega arith; named = refl; wide = refl; few_bits = omega arith; spots = All-cons (IsSpotOf rounds_net) (Held (bit 2 0)) [] (omega arith) (All-nil (IsSpotOf rounds_net)); words = All-nil _; word_names = tt }
 
 some_path : (x : List ℕ) → [] ≡ x ∷ [] → ⊥
 some_path x e =
@@ -114,6 +116,24 @@ no_third c = let n : 66 ≡ 83 = letters_differ 66 83 (only (letter 83) (letter 
 abbrev IsNear : Node → Type 0
 IsNear node = length node.path.items ≤ 64
 
+abbrev IsNamed : Listed ℕ → Type 0
+IsNamed name = IsTrue (is_name name.items)
+
+abbrev HasNames : Node → Type 0
+HasNames node = All IsNamed node.path.items
+
+abbrev instance_name : Listed ℕ
+instance_name = full (codes "net")
+
+named_instance : HasNames plain_instance
+named_instance = All-cons IsNamed instance_name [] refl (All-nil IsNamed)
+
+reg_things : HaveThings rounds_net
+reg_things zero l = refl
+reg_things (suc zero) l = refl
+reg_things (suc (suc zero)) l = refl
+reg_things (suc (suc (suc r))) l = absurd (omega (arith, l))
+
 rounds_net_is_net : IsNet rounds_net
 rounds_net_is_net =
     record {
@@ -121,12 +141,14 @@ rounds_net_is_net =
       muxes = All-cons (IsMux rounds_net) the_mux [] mux_fits (All-nil (IsMux rounds_net));
       insts = All-nil (IsInst rounds_net);
       output = omega arith;
-      things = All-cons (IsThing rounds_net) _ (_ ∷ _ ∷ []) (wide_thing 0 65 (omega arith) (omega arith)) (All-cons (IsThing rounds_net) _ (_ ∷ []) (wide_thing 1 66 (omega arith) (omega arith)) (All-cons (IsThing rounds_net) _ [] select_thing (All-nil (IsThing rounds_net))));
+      things = All-cons (IsThing rounds_net) _ (_ ∷ _ ∷ []) (wide_thing 0 65 refl (omega arith) (omega arith)) (All-cons (IsThing rounds_net) _ (_ ∷ []) (wide_thing 1 66 refl (omega arith) (omega arith)) (All-cons (IsThing rounds_net) _ [] select_thing (All-nil (IsThing rounds_net))));
       top = omega arith;
       top_path = refl;
       node_paths = (λ c. some_path _ (only _ _ c), (no_item _, tt));
+      path_names = All-cons HasNames plain_top (plain_instance ∷ []) (All-nil IsNamed) (All-cons HasNames plain_instance [] named_instance (All-nil HasNames));
       inst_nodes = tt;
       thing_names = (no_second, (no_third, (no_item _, tt)));
+      reg_things = reg_things;
       few_bits = omega arith;
       few_muxes = omega arith;
       few_insts = omega arith;

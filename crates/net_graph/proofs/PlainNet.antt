@@ -1,6 +1,7 @@
 -- The network of the register `net.R` is well formed.
 use Rattle.std.proofs.Common.{◌≡◌, ℕ, zero, suc, ◌+◌, ◌<◌, ◌≤◌, false, List, [], ◌∷◌, length, refl, sym, ap, ◌∙◌, arith}
-use Rattle.std.specs.Prelude.{map, All, Contains, IsTrue}
+use Rattle.std.specs.Prelude.{map, All, Contains, IsTrue, codes}
+use Rattle.ij_bits.specs.Room.{Listed, full}
 use Rattle.std.proofs.lemmas.List.Elements.{All-nil, All-cons}
 use Rattle.std.proofs.lemmas.List.{length-map, length-replicate}
 use Rattle.net_graph.specs.declared.net.BitId.{BitId}
@@ -39,8 +40,17 @@ some_path x e =
 abbrev IsNear : Node → Type 0
 IsNear node = length node.path.items ≤ 64
 
+abbrev IsNamed : Listed ℕ → Type 0
+IsNamed name = IsTrue (is_name name.items)
+
 abbrev HasNames : Node → Type 0
-HasNames node = All (λ name. IsTrue (is_name name.items)) node.path.items
+HasNames node = All IsNamed node.path.items
+
+abbrev instance_name : Listed ℕ
+instance_name = full (codes "net")
+
+named_instance : HasNames plain_instance
+named_instance = All-cons IsNamed instance_name [] refl (All-nil IsNamed)
 
 module _ (width : ℕ) (some : 1 ≤ width) (few : width ≤ 64) where
   abbrev net : Net
@@ -63,4 +73,4 @@ module _ (width : ℕ) (some : 1 ≤ width) (few : width ≤ 64) where
 
   pub plain_net_is_net : IsNet net
   plain_net_is_net =
-      record { regs = All-cons (IsReg net) (plain_register 0 width Entry) [] reg_fits (All-nil (IsReg net)); muxes = All-nil (IsMux net); insts = All-nil (IsInst net); output = omega arith; things = All-cons (IsThing net) (plain_thing width) [] thing_fits (All-nil (IsThing net)); top = omega arith; top_path = refl; node_paths = (λ c. some_path _ (first_of _ _ c), (nothing_in _, tt)); inst_nodes = tt; thing_names = (nothing_in _, tt); path_names = All-cons HasNames plain_top (plain_instance ∷ []) (All-nil _) (All-cons HasNames plain_instance [] (All-cons _ _ [] refl (All-nil _)) (All-nil HasNames)); reg_things = reg_things; few_bits = omega (arith, few); few_muxes = omega arith; few_insts = omega arith; few_nodes = omega arith; few_levels = All-cons IsNear plain_top (plain_instance ∷ []) (omega arith) (All-cons IsNear plain_instance [] (omega arith) (All-nil IsNear)) }
+      record { regs = All-cons (IsReg net) (plain_register 0 width Entry) [] reg_fits (All-nil (IsReg net)); muxes = All-nil (IsMux net); insts = All-nil (IsInst net); output = omega arith; things = All-cons (IsThing net) (plain_thing width) [] thing_fits (All-nil (IsThing net)); top = omega arith; top_path = refl; node_paths = (λ c. some_path _ (first_of _ _ c), (nothing_in _, tt)); inst_nodes = tt; thing_names = (nothing_in _, tt); path_names = All-cons HasNames plain_top (plain_instance ∷ []) (All-nil IsNamed) (All-cons HasNames plain_instance [] named_instance (All-nil HasNames)); reg_things = reg_things; few_bits = omega (arith, few); few_muxes = omega arith; few_insts = omega arith; few_nodes = omega arith; few_levels = All-cons IsNear plain_top (plain_instance ∷ []) (omega arith) (All-cons IsNear plain_instance [] (omega arith) (All-nil IsNear)) }
