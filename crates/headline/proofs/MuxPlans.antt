@@ -134,7 +134,7 @@ reg_things (suc zero) l = refl
 reg_things (suc (suc zero)) l = refl
 reg_things (suc (suc (suc r))) l = absurd (omega (arith, l))
 
-rounds_net_is_net : IsNet rounds_net
+pub rounds_net_is_net : IsNet rounds_net
 rounds_net_is_net =
     record {
       regs = All-cons (IsReg rounds_net) _ (_ ∷ _ ∷ []) first_reg (All-cons (IsReg rounds_net) _ (_ ∷ []) second_reg (All-cons (IsReg rounds_net) _ [] select_reg (All-nil (IsReg rounds_net))));
@@ -156,16 +156,16 @@ rounds_net_is_net =
       few_levels = All-cons IsNear plain_top (plain_instance ∷ []) (omega arith) (All-cons IsNear plain_instance [] (omega arith) (All-nil IsNear));
     }
 
-dev_is_device : IsDevice dev
+pub dev_is_device : IsDevice dev
 dev_is_device =
     record { two_bits = omega arith; few_bits = omega arith; link = record { fits = omega arith; not_bypass = λ e. omega (arith, e) }; identity = tt }
 
 -- ---- the script
 
-abbrev written_first : Holds
+abbrev pub written_first : Holds
 written_first = (true ∷ false ∷ []) ∷ (false ∷ false ∷ []) ∷ (false ∷ []) ∷ []
 
-abbrev opened : Holds
+abbrev pub opened : Holds
 opened = (true ∷ false ∷ []) ∷ (false ∷ false ∷ []) ∷ (true ∷ []) ∷ []
 
 abbrev written_both : Holds
@@ -208,7 +208,7 @@ named ws w rs e =
 on_path : (path : List ℕ) (r : ℕ) → Contains path r → All (Contains path) (r ∷ r ∷ [])
 on_path path r c = All-cons (Contains path) r (r ∷ []) c (All-cons (Contains path) r [] c (All-nil (Contains path)))
 
-first_planned : IsPlannedRound rounds_net (start_holds rounds_net) first_round written_first
+pub first_planned : IsPlannedRound rounds_net (start_holds rounds_net) first_round written_first
 first_planned =
     record {
       named = named _ _ [];
@@ -233,7 +233,7 @@ opens : IsOpening rounds_net written_first opened (shift_in 3 5)
 opens =
     record { scans = record { path = 0 ∷ 2 ∷ []; traced = refl; written = scan_written 5; long = refl; tdi = refl }; widths = refl; off_path = off_path; data_stays = λ b d. data_stays b.reg b.pos d; quiet = refl }
 
-second_planned : IsPlannedRound rounds_net written_first second_round written_both
+pub second_planned : IsPlannedRound rounds_net written_first second_round written_both
 second_planned =
     record {
       named = named _ _ [];
