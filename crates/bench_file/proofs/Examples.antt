@@ -48,7 +48,7 @@ unfolding tables lines_of end_of version instrument path line number decimal pla
 files = refl
 
 -- widths of 0 and 65, the order of the causes in one line, depths, a second memory
-limits : map (λ text. fault (block text)) (codes "word a 0 init 1" ∷ codes "word a 0" ∷ codes "word a 65 init 1" ∷ codes "word a 64 init 0xFFFFFFFFFFFFFFFF reset 0b000000000000000000000000000000000000000000000000000000000000000000001\nend" ∷ codes "in a 64\nin b 65" ∷ codes "mem m 0 1" ∷ codes "mem m 257 1" ∷ codes "mem m 256 64\nend" ∷ codes "mem m 1 0 init 1" ∷ codes "mem m 1 1\nmem n 1 1" ∷ codes "mem m 1 1\nmem m 1 1" ∷ codes "mem m 1 1\nmem n 1 1 init 2" ∷ codes "word a 1 reset 2" ∷ codes "word a 1 init 0bx" ∷ codes "word a 340282366920938463463374607431768211456" ∷ codes "word a 340282366920938463463374607431768211455" ∷ []) ≡ Some (TableWidth (line_at 3)) ∷ Some (TableLimit (line_at 3)) ∷ Some (TableLimit (line_at 3)) ∷ None ∷ Some (TableLimit (line_at 4)) ∷ Some (TableLimit (line_at 3)) ∷ Some (TableLimit (line_at 3)) ∷ None ∷ Some (TableWidth (line_at 3)) ∷ Some (TableLimit (line_at 4)) ∷ Some (TableName (line_at 4)) ∷ Some (TableWidth (line_at 4)) ∷ Some (TableWidth (line_at 3)) ∷ Some (TableSyntax (line_at 3)) ∷ Some (TableSyntax (line_at 3)) ∷ Some (TableLimit (line_at 3)) ∷ []
+limits : map (λ text. fault (block text)) (codes "word a 0 init 1" ∷ codes "word a 0" ∷ codes "word a 65 init 1" ∷ codes "word a 64 init 0xFFFFFFFFFFFFFFFF reset 0b000000000000000000000000000000000000000000000000000000000000000000001\nend" ∷ codes "in a 64\nin b 65" ∷ codes "mem m 0 1" ∷ codes "mem m 257 1" ∷ codes "mem m 256 64\nend" ∷ codes "mem m 1 0 init 1" ∷ codes "mem m 1 1\nmem n 1 1" ∷ codes "mem m 1 1\nmem m 1 1" ∷ codes "mem m 1 1\nmem n 1 1 init 2" ∷ codes "word a 1 reset 2" ∷ codes "word a 1 init 0bx" ∷ codes "word a 340282366920938463463374607431768211456" ∷ []) ≡ Some (TableWidth (line_at 3)) ∷ Some (TableLimit (line_at 3)) ∷ Some (TableLimit (line_at 3)) ∷ None ∷ Some (TableLimit (line_at 4)) ∷ Some (TableLimit (line_at 3)) ∷ Some (TableLimit (line_at 3)) ∷ None ∷ Some (TableWidth (line_at 3)) ∷ Some (TableLimit (line_at 4)) ∷ Some (TableName (line_at 4)) ∷ Some (TableWidth (line_at 4)) ∷ Some (TableWidth (line_at 3)) ∷ Some (TableSyntax (line_at 3)) ∷ Some (TableSyntax (line_at 3)) ∷ []
 unfolding tables lines_of end_of version instrument path line number decimal plain is_wide value_in care_in entry slice
 limits = refl
 
