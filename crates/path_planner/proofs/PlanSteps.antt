@@ -20,9 +20,9 @@ use Rattle.net_graph.specs.Writes.{write_all}
 use Rattle.net_tree.specs.Form.{Items, Describes}
 use Rattle.net_tree.specs.Needs.{needs, group_depth}
 use Rattle.net_tree.specs.Places.{place_of}
-use Rattle.path_planner.specs.declared.plan.ScanPlan.{ScanPlan}
+use Rattle.net_tree.specs.declared.plan.ScanPlan.{ScanPlan}
 use Rattle.path_planner.specs.Collecting.{settle_writes}
-use Rattle.path_planner.specs.Seen.{seen_plan}
+use Rattle.net_tree.specs.ScanPlans.{seen_plan}
 use Rattle.path_planner.specs.Opening.{CanOpen}
 use Rattle.path_planner.specs.Plans.{Settles, ArePlans}
 use Rattle.path_planner.specs.Scannable.{IsScannable}

@@ -1,4 +1,4 @@
--- What setting select bits on a path does to the bits of a holding.
+-- What setting select bits on a path does to what the update stages hold.
 use Rattle.std.proofs.Common.{◌≡◌, ◌≢◌, inl, inr, ℕ, Bool, true, false, List, [], ◌∷◌, refl, sym, ap, ◌∙◌, subst}
 use Rattle.std.proofs.lemmas.Bool.{true≢false}
 use Rattle.net_graph.specs.declared.net.BitId.{BitId}

@@ -18,7 +18,7 @@ use Rattle.net_tree.specs.Lawful.{selects_of}
 abbrev pub is_on : List ℕ → ℕ → Bool
 is_on path r = list_any (λ x. x == r) path
 
--- whether a value agrees with a holding at the select bits off the path
+-- whether a value agrees with what is held at the select bits off the path; an x agrees with both
 abbrev pub agrees_off : Holds → List ℕ → List BitId → List Bool → List Bool → Bool
 agrees_off holds path [] vs cs = true
 agrees_off holds path (b ∷ bs) [] cs = true
@@ -42,7 +42,7 @@ set_selects path (b ∷ bs) (v ∷ vs) holds =
 abbrev pub values_of : Net → Branch → List Tern
 values_of net b = get_or (map (λ row. row.values.items) (rows_of net b.mux)) b.row []
 
--- one needed row, judged by the holding before the scan
+-- one needed row, judged by what is held before the scan
 abbrev pub settle_row : Net → Holds → List ℕ → Branch → Holds → Holds
 settle_row net before path b holds =
     elim (first_value before path (selects_of net b.mux) (values_of net b)) [ Some t ↦ set_selects path (selects_of net b.mux) t.value.items holds | None ↦ holds ]
