@@ -46,7 +46,7 @@ parts_of_dotted [] h = refl
 parts_of_dotted (n ∷ ns) h =
     ap (λ ps. [] ∷ ps) (part_of_name n (dotted ns) ns (All-head (λ name. IsTrue (is_name name)) n ns h) (parts_of_dotted ns (All-tail (λ name. IsTrue (is_name name)) n ns h)))
 
-rest_of : List (List ℕ) → List (List ℕ)
+abbrev rest_of : List (List ℕ) → List (List ℕ)
 rest_of [] = []
 rest_of (n ∷ ns) = ns
 
