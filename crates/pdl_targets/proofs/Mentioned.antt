@@ -14,11 +14,14 @@ none_in (q ∷ qs) r e = by_test (q == r) (none_in qs r) e
     by_test false again e = again e
 
 with_last : (rs : List ℕ) (q r : ℕ) → times (rs ++ q ∷ []) r ≡ times rs r + cond (q == r) 1 0
-with_last [] q r = refl
+with_last [] q r = none_first (cond (q == r) 1 0)
+  where
+    none_first : (n : ℕ) → n ≡ 0 + n
+    none_first n = omega arith
 with_last (p ∷ ps) q r = by_test (p == r) (with_last ps q r)
   where
     by_test : (t : Bool) → times (ps ++ q ∷ []) r ≡ times ps r + cond (q == r) 1 0 → cond t (suc (times (ps ++ q ∷ []) r)) (times (ps ++ q ∷ []) r) ≡ cond t (suc (times ps r)) (times ps r) + cond (q == r) 1 0
-    by_test true e = ap suc e
+    by_test true e = omega (arith, e)
     by_test false e = e
 
 one_more : (registers : List ℕ) (q r : ℕ) → times registers r ≤ 1 → times (cond (is_in registers q) registers (registers ++ q ∷ [])) r ≤ 1
