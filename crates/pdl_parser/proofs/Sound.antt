@@ -1,6 +1,6 @@
 -- The procedures of a text have names of their own, and so have the arguments of each; each argument that is used is
 -- one of them.
-use Rattle.std.proofs.Common.{◌≡◌, ℕ, zero, suc, ◌+◌, ◌<◌, ◌≤◌, Bool, true, false, cond, nat_lt, List, [], ◌∷◌, ◌++◌, map, length, get_or, Option, Some, None, is_some, refl, sym, ap, ◌∙◌, subst, arith, length-append, position, inl, inr}
+use Rattle.std.proofs.Common.{◌≡◌, ℕ, zero, suc, ◌+◌, ◌<◌, ◌≤◌, Bool, true, false, cond, nat_lt, List, [], ◌∷◌, ◌++◌, length, get_or, Option, Some, None, is_some, refl, sym, ap, ◌∙◌, subst, arith, inl, inr}
 use Rattle.std.specs.Prelude.{◌==◌, ◌⊎◌, not, All, unwrap_or}
 use Rattle.std.specs.Char.{is_ascii_digit}
 use Rattle.std.specs.List.{position_or_len}
@@ -10,21 +10,21 @@ use Rattle.std.proofs.lemmas.List.{map-append}
 use Rattle.std.proofs.lemmas.List.Elements.{All-nil, All-push}
 use Rattle.std.proofs.lemmas.Slice.Eq.{bytes_eq-Decides}
 use Rattle.grammar.specs.Symbol.{Symbol, Parts, give, none, ◌>>=◌}
-use Rattle.ij_text.specs.Numbering.{AreDistinct, number_in}
+use Rattle.ij_text.specs.Numbering.{AreDistinct}
 use Rattle.ij_text.specs.Numbers.{Written, number_of_text}
 use Rattle.ij_text.specs.Words.{is_name}
 use Rattle.ij_text.specs.declared.Place.{Place}
 use Rattle.pdl_parser.specs.declared.words.WordKind.{WordKind}
 use Rattle.pdl_parser.specs.declared.words.WordKind.TheVariants.{Plain, Quoted, Unclosed, Open, Close, End}
-use Rattle.pdl_parser.specs.declared.words.Rule.TheVariants.{LeftOut, BadNumber, TooWide, ProcTwice, NoArg}
+use Rattle.pdl_parser.specs.declared.words.Rule.TheVariants.{LeftOut, TooWide, ProcTwice, NoArg}
 use Rattle.pdl_parser.specs.declared.words.CommandWord.{CommandWord}
 use Rattle.pdl_parser.specs.declared.words.CommandWord.TheVariants.{OfNothing, OfPrefix, OfCall, OfWrite, OfRead, OfApply, OfRunLoop, OfReset, OfNote, OfMerge}
 use Rattle.pdl_parser.specs.declared.words.FileWord.{FileWord}
 use Rattle.pdl_parser.specs.declared.words.FileWord.TheVariants.{OfBlank, OfLevel, OfModule, OfProc}
 use Rattle.pdl_parser.specs.Cutting.{Word}
-use Rattle.pdl_parser.specs.Values.{AValue, ANumber, AWord, AnArgument, Command, APrefix, ACall, AWrite, ARead, AnApply, ARunLoop, AReset, ANote, AMergeBegin, AMergeEnd, ALine, AProc}
+use Rattle.pdl_parser.specs.Values.{AValue, ANumber, AWord, AnArgument, Command, ARead, ALine, AProc}
 use Rattle.pdl_parser.specs.Texts.{Verdict, Taken, Barred, Unfit, name_of, is_too_wide, number_verdict, is_in, argument_verdict, value_of, is_loop_option, count_of}
-use Rattle.pdl_parser.specs.Grammar.{Of, if_plain, mark, plain_at, value_in, plain, judged, plain_verdict, maybe, value, merge_mark, command_behind, line_behind, is_nothing, line, Body, with_line, lines, body, new_name, arguments, full_name, full_names, proc_verdict, proc_name, proc_behind, File, in_module, part_behind, part, procs}
+use Rattle.pdl_parser.specs.Grammar.{if_plain, mark, value_in, plain, judged, plain_verdict, value, command_behind, line_behind, is_nothing, line, Body, with_line, lines, body, new_name, arguments, full_name, full_names, proc_verdict, proc_name, proc_behind, File, in_module, part_behind, part, procs}
 use Rattle.pdl_parser.specs.Laws.{IsDeclared, AreDeclared, IsSound}
 
 -- a property of the state that each part keeps holds behind all of them
@@ -235,7 +235,7 @@ proc_kept : (ps : List AProc) (at : Place) (owner : List ℕ) (ts : List Word) (
 unfolding proc_behind
 proc_kept ps at owner ts p s (t1, u1, n, e1, d1, (t2, u2, o, e2, d2, (t3, u3, args, e3, d3, (t4, u4, c, e4, d4, (t5, u5, q, e5, d5, (t6, u6, ls, e6, d6, (t7, u7, e, e7, d7, last))))))) =
     let made = subst (λ (x : AProc). IsSound x × (is_in (full_names ps) (full_name x.owner x.name) ≡ false)) (sym last.1)
-        (record { arguments = arguments_differ t3 args d3; used = body_declared args t6 ls d6 }, name_new (full_names ps) owner t1 n d1) in
+    (record { arguments = arguments_differ t3 args d3; used = body_declared args t6 ls d6 }, name_new (full_names ps) owner t1 n d1) in
     record {
       names = subst AreDistinct (sym (map-append (λ x. full_name x.owner x.name) ps (p ∷ []))) (one_more_name (full_names ps) (full_name p.owner p.name) s.names made.1);
       each = All-push IsSound ps p s.each made.0;

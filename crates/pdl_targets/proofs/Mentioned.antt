@@ -1,8 +1,8 @@
 -- Each register that a step names is mentioned, once.
-use Rattle.std.proofs.Common.{◌≡◌, ◌≤◌, ◌+◌, ℕ, zero, suc, Bool, true, false, cond, List, [], ◌∷◌, ◌++◌, refl, sym, ap, ◌∙◌, subst, arith}
+use Rattle.std.proofs.Common.{◌≡◌, ◌≤◌, ◌+◌, ℕ, suc, Bool, true, false, cond, List, [], ◌∷◌, ◌++◌, refl, sym, ap, ◌∙◌, subst, arith}
 use Rattle.std.specs.Prelude.{◌==◌, ◌||◌}
 use Rattle.std.proofs.lemmas.Bool.{eqb-true}
-use Rattle.pdl_targets.specs.Rounds.{is_in, mention}
+use Rattle.pdl_targets.specs.Rounds.{is_in}
 use Rattle.pdl_targets.specs.Laws.{times, MentionsAreOnce, EachIsMentioned}
 
 none_in : (rs : List ℕ) (r : ℕ) → is_in rs r ≡ false → times rs r ≡ 0
