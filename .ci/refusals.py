@@ -1,0 +1,24 @@
+#!/usr/bin/env python3
+"""Each refusal that a reader or check can answer stands in docs/REFUSALS.md: run at the top of a checkout."""
+import pathlib
+import re
+import sys
+
+# what isn't a reader's refusal: want of memory, and causes that the crates of files and numbers hand to callers
+PASSED_OVER = {'OutOfMemory', 'Failed', 'Wide'}
+
+page = pathlib.Path('docs/REFUSALS.md').read_text()
+missing = []
+count = 0
+for source in sorted(pathlib.Path('crates').glob('*/src/**/*.rt')):
+    text = source.read_text()
+    for name, body in re.findall(r'^pub enum (\w*Fault) \{\n(.*?)^\}', text, re.M | re.S):
+        for variant in re.findall(r'^    ([A-Z]\w*)\b', body, re.M):
+            if variant not in PASSED_OVER:
+                count += 1
+                if not re.search(r'`' + variant + r'\b', page):
+                    missing.append(f'{source}: {name}::{variant}')
+for line in missing:
+    print('not in docs/REFUSALS.md:', line)
+print(f'refusals: {count - len(missing)} passed, {len(missing)} failed')
+sys.exit(1 if missing or not count else 0)
