@@ -3,7 +3,7 @@ ghost use Rattle.net_bench.specs.Counting.{CountsBegin, CountsShow, CountsMove, 
 
 /// A bench that counts the events of its instruments does as one that keeps the list of them: to count after a power-up, a
 /// clock or a play is to count before it, and TDO and the compares are the same (IEEE 1687-2014, hardware rules:
-/// instruments). So what holds of counts in [`Bench`](crate::Bench) holds of the lists.
+/// instruments). So the counts that [`Bench`](crate::Bench) keeps are those of the lists.
 pub fn events_are_counted()
     ensures power_up { CountsBegin }
     ensures tdo { CountsShow }
