@@ -1,11 +1,11 @@
 -- The modules that were passed, one more of them.
-use Rattle.std.proofs.Common.{◌≡◌, ◌+◌, ◌<◌, ℕ, Bool, true, false, cond, List, [], ◌∷◌, ◌++◌, length, map, get_or, take, drop, Some, None, Ok, Result, refl, sym, ap, ◌∙◌}
+use Rattle.std.proofs.Common.{◌≡◌, ◌+◌, ◌<◌, ℕ, Bool, true, false, cond, List, [], ◌∷◌, ◌++◌, length, map, get_or, take, drop, Some, None, Ok, refl, ap, ◌∙◌}
 use Rattle.std.specs.Prelude.{is_some, ◌||◌}
 use Rattle.std.specs.Str.{bytes_eq}
 use Rattle.icl_syntax.specs.declared.tree.Module.{Module}
 use Rattle.icl_syntax.specs.Values.{Block}
 use Rattle.icl_syntax.specs.Views.{seen_module}
-use Rattle.icl_values.specs.Faults.{Answer, over}
+use Rattle.icl_values.specs.Faults.{over}
 use Rattle.icl_values.proofs.Each.{over_goes}
 use Rattle.icl_elab.specs.Parts.{block_named}
 use Rattle.icl_elab.specs.FirstPass.{with_block}

@@ -1,12 +1,11 @@
-use Rattle.std.proofs.Common.{◌≡◌, ◌+◌, ◌-◌, ◌<◌, ℕ, List, map, drop, length, Some, sym, ap, subst, ◌∙◌, arith}
+use Rattle.std.proofs.Common.{◌-◌, ◌<◌, ℕ, List, map, length, Some, sym, ap, subst, ◌∙◌, arith}
 use Rattle.std.proofs.lemmas.Result.{err_from_is_err_and}
-use Rattle.icl_syntax.specs.declared.tree.Module.{Module}
 use Rattle.icl_syntax.specs.Views.{seen_module}
 use Rattle.icl_values.specs.Faults.{seen_fault, over, Answer, Fails}
 use Rattle.icl_values.proofs.Each.{over_goes, over_stops}
 use Rattle.icl_elab.specs.declared.frames.Request.{Request as RequestAt}
 use Rattle.icl_elab.specs.FirstPass.{Progress, Request, enter}
-use Rattle.icl_elab.specs.SeenFrames.{names_of, seen_request, seen_frame, seen_progress, seen_stepped, with_cell}
+use Rattle.icl_elab.specs.SeenFrames.{names_of, seen_request, seen_progress, seen_stepped, with_cell}
 use Rattle.icl_elab.proofs.Levels.{no_level, a_level, below_fails, below_goes}
 use Rattle.icl_elab.proofs.cells.+enter.Goals as goal
 

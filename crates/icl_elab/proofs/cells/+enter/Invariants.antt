@@ -1,8 +1,8 @@
-use Rattle.std.proofs.Common.{◌≡◌, ◌≤◌, ◌-◌, map, drop, length, Some}
+use Rattle.std.proofs.Common.{◌≡◌, ◌≤◌, ◌-◌, map, drop, Some}
 use Rattle.icl_syntax.specs.Views.{seen_module}
 use Rattle.icl_values.specs.Faults.{over}
 use Rattle.icl_elab.specs.FirstPass.{enter}
-use Rattle.icl_elab.specs.SeenFrames.{names_of, seen_request, seen_frame, seen_progress}
+use Rattle.icl_elab.specs.SeenFrames.{names_of, seen_request, seen_progress}
 use Rattle.icl_elab.proofs.cells.+enter.Given as goal
 
 abbrev pub decreases-enter : goal.decreases-enter
