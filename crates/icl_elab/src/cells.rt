@@ -20,18 +20,19 @@ use icl_values::ParamTable;
 use ij_text::Which;
 use std::alloc::Global;
 
-/// A cell: an instance of a module.
+/// A cell: an instance of a module, or the top.
 #[derive(Drop)]
 pub struct Frame<'a> {
     /// The instance's name; the top's is empty.
     pub name: &'a [u8],
-    /// The number of the cell that it stands in.
+    /// The number of the cell that it stands in, counted from 0; none for the top.
     pub parent: Option<u32>,
     /// Its module.
     pub block: &'a Module,
-    /// Its parameters.
+    /// Its parameters, with the values that its instance binds.
     pub params: ParamTable,
-    /// The bounds of each of its parts.
+    /// The left and the right index of each of its parts (ports, registers, multiplexers, instances, aliases, interfaces and
+    /// links), in the order of the text; 0 and 0 for a part without a range.
     pub bounds: Vec<Bounds>,
 }
 
@@ -267,9 +268,15 @@ fn distinct_modules(alloc: Global, modules: &[Module]) -> Result<(), ElabFault>
     Ok(())
 }
 
-/// The cells of a design with this top module, in preorder: each with its name, its parent, its module, its parameters and the
-/// bounds of its parts. The first fault on the way is the answer: the names of the modules differ (`DoubleName`, at the second word
-/// `Module`); the top is one of them (`NoModule`); and then, in preorder, each cell's parameters and items.
+/// The cells of a design with this top module, in preorder (IEEE 1687-2014, ICL: Module, Instance, Parameter): the top, which has
+/// number 0, and behind each cell those of its instances, in the order of the text.
+///
+/// The first fault on the way is the answer. Two modules of one name are `DoubleName` at the second word `Module`; a top that is
+/// no module is `NoModule`. Then each cell, before those in it: 8192 cells more (`Limit`), its parameters (what `evaluate` of
+/// `icl_values` tells), its items in the order of the text (`DoubleName` of a name in the module, the faults of its range,
+/// `NoModule` of an instance, `InstanceLoop` where a module would stand in itself, `NoName` and `DoubleName` of a parameter that
+/// is bound, and `Limit` of register bits and multiplexers), and `Limit` of instruments, their ports and the ports' bits. An
+/// instance inside 64 others is `Limit` of `Hierarchy`. `OutOfMemory` may come at any point.
 #[tactic(auto, unfolding(crate::specs::FirstPass::first_pass))]
 pub fn first_pass<'a>(
     alloc: Global,
