@@ -272,11 +272,12 @@ fn distinct_modules(alloc: Global, modules: &[Module]) -> Result<(), ElabFault>
 /// number 0, and behind each cell those of its instances, in the order of the text.
 ///
 /// The first fault on the way is the answer. Two modules of one name are `DoubleName` at the second word `Module`; a top that is
-/// no module is `NoModule`. Then each cell, before those in it: 8192 cells more (`Limit`), its parameters (what `evaluate` of
-/// `icl_values` tells), its items in the order of the text (`DoubleName` of a name in the module, the faults of its range,
-/// `NoModule` of an instance, `InstanceLoop` where a module would stand in itself, `NoName` and `DoubleName` of a parameter that
-/// is bound, and `Limit` of register bits and multiplexers), and `Limit` of instruments, their ports and the ports' bits. An
-/// instance inside 64 others is `Limit` of `Hierarchy`. `OutOfMemory` may come at any point.
+/// no module is `NoModule`. Then each cell, before those in it: `Limit` of `Hierarchy` where it stands inside 64 others below the
+/// top, or of `Cells` where 8192 cells stand before it; its parameters (what `evaluate` of `icl_values` tells);
+/// its items in the order of the text (`DoubleName` of a name in the module, the faults of its range, `NoModule` of an instance,
+/// `InstanceLoop` where a module would stand in itself, `NoName` and `DoubleName` of a parameter that is bound, and `Limit` of
+/// register bits and multiplexers); and `Limit` of instruments, their ports and the ports' bits. `OutOfMemory` may come at any
+/// point.
 #[tactic(auto, unfolding(crate::specs::FirstPass::first_pass))]
 pub fn first_pass<'a>(
     alloc: Global,
