@@ -4,4 +4,6 @@
 #[cfg(test)]
 mod host_files;
 #[cfg(test)]
+mod largest;
+#[cfg(test)]
 mod pdl_texts;
