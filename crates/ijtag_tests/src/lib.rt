@@ -1,5 +1,9 @@
-//! Tests of public calls on texts that stand in tables.
+//! Tests of public calls: on texts that stand in tables, on real files, and at the largest sizes.
 #![tactic(auto)]
 
+#[cfg(test)]
+mod host_files;
+#[cfg(test)]
+mod largest;
 #[cfg(test)]
 mod pdl_texts;

@@ -34,7 +34,7 @@ fn procedures(alloc: Global, procs: &[Proc]) -> Result<String, Fail> {
 /// What became of a text.
 fn outcome(alloc: Global, text: &[u8]) -> Result<String, Fail> {
     if text.len() > 1000 {
-        return Ok(String::new(alloc));
+        return Err(Fail::new("the text is too long"));
     }
     match parse_pdl(alloc, text) {
         Ok(procs) => procedures(alloc, procs.procs.as_slice()),

@@ -1,14 +1,16 @@
 -- Commands that are read take few clocks when they are played.
-use Rattle.std.proofs.Common.{◌≡◌, ℕ, suc, ◌+◌, ◌≤◌, Bool, true, false, List, [], ◌∷◌, ◌++◌, length, Option, Some, None, refl, ap, ◌∙◌, arith, length-append}
+use Rattle.std.proofs.Common.{◌≡◌, Ok, ℕ, suc, ◌+◌, ◌≤◌, Bool, true, false, List, [], ◌∷◌, ◌++◌, length, Option, Some, None, refl, ap, ◌∙◌, arith, length-append}
 use Rattle.std.specs.Prelude.{map, replicate, unwrap_or}
 use Rattle.std.proofs.lemmas.List.{length-replicate}
 use Rattle.svf_writer.specs.SeenCommands.{SIR, SDR, Reset, Idle, Run, SeenCommand, SeenScan}
-use Rattle.svf_writer.specs.Fits.{HasLength, TakesTdi, FitsAfter, AreFitAfter}
+use Rattle.svf_writer.specs.Fits.{HasLength, TakesTdi, FitsAfter, AreFit, AreFitAfter}
 use Rattle.tap_machine.specs.declared.Stable.{Stable}
 use Rattle.tap_machine.specs.declared.Stable.TheVariants.{Reset as InReset, Idle as InIdle}
-use Rattle.tap_machine.specs.Play.{Kept as Held, Played, quiet, shifts, sdr_pins, sir_pins, to_idle, pins_with, played, kept_now, nothing_kept, scans_in}
+use Rattle.tap_machine.specs.Play.{Kept as Held, Played, quiet, shifts, sdr_pins, sir_pins, to_idle, pins, pins_with, played, kept_now, nothing_kept, scans_in}
+use Rattle.svf_reader.specs.Meaning.{svf}
 use Rattle.svf_reader.specs.Scripts.{with_leave, clocks_from}
 use Rattle.svf_reader.proofs.Few.{read_commands_are_few as few_clocks}
+use Rattle.svf_reader.proofs.Following.{read_commands_fit}
 use Rattle.play_report.specs.Few.{ReadCommandsArePlayable}
 
 length-shifts : (scan k : ℕ) (ts : List Bool) (es : List (Option Bool)) → length (shifts scan k ts es) ≡ length ts
@@ -88,8 +90,11 @@ few_scans (Run n ∷ cs) b = omega (arith, few_scans cs false)
 nothing_held : IsHeld None nothing_kept
 nothing_held n e = absurd (let none : None ≡ Some n = e in cc)
 
-pub read_commands_are_playable : ReadCommandsArePlayable
+pub read_commands_are_playable : (src : List ℕ) (cs : List SeenCommand) → svf src ≡ Ok cs → AreFit cs → (length (pins InReset 0 cs) ≤ 1000000000) × (scans_in cs ≤ 1000000000)
 read_commands_are_playable src cs e fit =
     let few = few_clocks src cs e in
     let count = clocks_are cs None None nothing_kept nothing_kept InReset 0 fit nothing_held nothing_held in
     (omega (arith, few, count), omega (arith, few, few_scans cs true))
+
+pub all_are_playable : ReadCommandsArePlayable
+all_are_playable src cs e = read_commands_are_playable src cs e (read_commands_fit src cs e)

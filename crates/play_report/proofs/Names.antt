@@ -1,5 +1,5 @@
 -- A report doesn't look at the names of a device.
-use Rattle.std.proofs.Common.{◌≡◌, ℕ, Bool, List, [], ◌∷◌, ◌++◌, length, Option, refl, sym, ap, ◌∙◌}
+use Rattle.std.proofs.Common.{◌≡◌, ℕ, Bool, List, [], ◌∷◌, ◌++◌, length, refl, ap, ◌∙◌}
 use Rattle.ij_bits.specs.Room.{Listed}
 use Rattle.net_graph.specs.declared.device.Device.{Device}
 use Rattle.instruments.specs.declared.Counts.{Counts}
@@ -9,8 +9,8 @@ use Rattle.tap_machine.specs.declared.Stable.TheVariants.{Reset as InReset}
 use Rattle.tap_machine.specs.Play.{pins, scans_in}
 use Rattle.net_bench.specs.Bench.{State, clock, tdo, power_up}
 use Rattle.net_bench.specs.Flat.{flat_chip}
-use Rattle.net_bench.specs.Playing.{Compare, after_pins, compares, compare_of, differing, play_from}
-use Rattle.play_report.specs.Names.{ArePlayedAlike, NamesAreNotPlayed}
+use Rattle.net_bench.specs.Playing.{Compare, after_pins, compares, compare_of, differing}
+use Rattle.play_report.specs.Names.{NamesAreNotPlayed}
 use Rattle.play_report.specs.Printed.{differ_lines, register_text, totals_text}
 use Rattle.play_report.specs.Report.{differs_of, play_report}
 

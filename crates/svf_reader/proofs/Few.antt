@@ -85,18 +85,18 @@ comes_counts kept ended text step e = ended_counts kept ended text (left_out (wo
 abbrev AreFew : Kept → List SeenCommand → Type 0
 AreFew kept cs = kept.clocks + clocks_from kept.in_reset cs ≤ 1000000000
 
-abbrev list_ok : List SeenCommand → Result (List SeenCommand) Refusal
+abbrev pub list_ok : List SeenCommand → Result (List SeenCommand) Refusal
 list_ok cs = Ok cs
 
 list_or : Result (List SeenCommand) Refusal → List SeenCommand
 list_or (Ok cs) = cs
 list_or (Err refusal) = []
 
-same_list : (xs cs : List SeenCommand) → list_ok xs ≡ list_ok cs → xs ≡ cs
+pub same_list : (xs cs : List SeenCommand) → list_ok xs ≡ list_ok cs → xs ≡ cs
 unfolding list_or
 same_list xs cs e = ap list_or e
 
-no_list : (refusal : Refusal) (cs : List SeenCommand) (A : Type 0) → (let r : Result (List SeenCommand) Refusal = Err refusal in r) ≡ Ok cs → A
+pub no_list : (refusal : Refusal) (cs : List SeenCommand) (A : Type 0) → (let r : Result (List SeenCommand) Refusal = Err refusal in r) ≡ Ok cs → A
 no_list refusal cs A e = absurd (cc)
 
 none_few : (kept : Kept) (cs : List SeenCommand) → kept.clocks ≤ 1000000000 → list_ok [] ≡ list_ok cs → AreFew kept cs

@@ -10,3 +10,4 @@ pub mod Rereading
 pub mod Scripting
 pub mod Gaps
 pub mod Few
+pub mod Following

@@ -17,5 +17,7 @@ mod tests;
 mod words;
 
 pub use fault::SvfFault;
-pub use laws::{commands_are_read_again, read_commands_are_few, scripts_are_read_again};
+pub use laws::{
+    commands_are_read_again, read_commands_are_few, read_commands_fit, scripts_are_read_again,
+};
 pub use reading::read_svf;

@@ -1,0 +1,165 @@
+// Texts of the largest sizes, with memory enough: no clause says that a reader doesn't give up at them.
+
+use bench_file::read_device;
+use icl_lexer::lex;
+use ij_bits::Bits;
+use pdl_parser::parse_pdl;
+use std::alloc::{AllocError, Global};
+use std::test::Fail;
+use svf_reader::read_svf;
+use svf_writer::command::Command;
+
+/// A text of so many equal pieces between a front and a back.
+fn repeated(
+    alloc: Global,
+    front: &[u8],
+    piece: &[u8],
+    count: u32,
+    back: &[u8],
+) -> Result<Vec<u8>, AllocError> {
+    let mut text = front.to_vec(alloc)?;
+    for _ in 0..count {
+        text.extend_from_slice(piece)?;
+    }
+    text.extend_from_slice(back)?;
+    Ok(text)
+}
+
+/// The number of tokens of an ICL text.
+fn token_count(alloc: Global, text: &[u8]) -> Result<usize, Fail> {
+    if text.len() < 1_000_001 || text.len() > 2_000_000 {
+        return Err(Fail::new("the text has another size"));
+    }
+    match lex(alloc, text) {
+        Ok(tokens) => Ok(tokens.len()),
+        Err(_) => Err(Fail::new("the text is not cut")),
+    }
+}
+
+#[test]
+fn large_icl_texts_are_cut(rt: HostRuntime) -> Result<(), Fail> {
+    let alloc = rt.alloc();
+    let rows: [(&[u8], &[u8], u32, &[u8], usize); 3] = [
+        (
+            b"Module a {",
+            b" ScanInPort p; // q\n",
+            60_000,
+            b"}",
+            180_004,
+        ),
+        (b"Module ", b"a", 1_000_001, b" {}", 4),
+        (b"Module a {} /*", b" \n", 500_000, b"*/", 4),
+    ];
+    for (front, piece, count, back, wanted) in rows {
+        let text = repeated(alloc, front, piece, count, back)?;
+        assert_eq!(rt; token_count(alloc, text.as_slice())?, wanted);
+    }
+    Ok(())
+}
+
+/// The number of commands of each procedure of a PDL text.
+fn pdl_counts(alloc: Global, text: &[u8]) -> Result<Vec<usize>, Fail> {
+    if text.len() < 1_000_001 || text.len() > 2_000_000 {
+        return Err(Fail::new("the text has another size"));
+    }
+    let Ok(procs) = parse_pdl(alloc, text) else {
+        return Err(Fail::new("the text is not parsed"));
+    };
+    let mut counts = Vec::new(alloc);
+    for proc in procs.procs.as_slice() {
+        counts.push(proc.body.len())?;
+    }
+    Ok(counts)
+}
+
+#[test]
+fn large_pdl_texts_are_parsed(rt: HostRuntime) -> Result<(), Fail> {
+    let alloc = rt.alloc();
+    let front = b"iProcsForModule m\niProc p {} {\n".as_slice();
+    let rows: [(&[u8], u32, &[u8], usize); 3] = [
+        (b"iApply;\n", 130_000, b"}", 130_000),
+        (b"iWrite R[3:0] 0b0101; ", 50_000, b"\n}", 50_000),
+        (b"# iApply\n", 120_000, b"iApply\n}", 1),
+    ];
+    for (piece, count, back, wanted) in rows {
+        let text = repeated(alloc, front, piece, count, back)?;
+        let counts = pdl_counts(alloc, text.as_slice())?;
+        assert_eq!(rt; counts.as_slice(), [wanted].as_slice());
+    }
+    Ok(())
+}
+
+#[test]
+fn many_svf_commands_are_read(rt: HostRuntime) -> Result<(), Fail> {
+    let alloc = rt.alloc();
+    let text = repeated(alloc, b"", b"SDR 4 TDI (5);\n", 100_000, b"")?;
+    assert_eq!(rt; text.len(), 1_500_000);
+    let Ok(commands) = read_svf(alloc, text.as_slice()) else {
+        return Err(Fail::new("the text is not read"));
+    };
+    assert_eq!(rt; commands.len(), 100_000);
+    Ok(())
+}
+
+/// The lowest digits, at 0 and 3, and the two highest ones of 65,536 bits.
+fn end_digits(bits: &Bits) -> Result<[u8; 4], Fail> {
+    if bits.len() != 65_536 {
+        return Err(Fail::new("the part has another length"));
+    }
+    Ok([
+        bits.hex_digit(0),
+        bits.hex_digit(3),
+        bits.hex_digit(16_382),
+        bits.hex_digit(16_383),
+    ])
+}
+
+/// Each part of a scan of 65,536 bits has the digits that stand in it, the last one lowest.
+#[test]
+fn the_longest_scan_is_read(rt: HostRuntime) -> Result<(), Fail> {
+    let alloc = rt.alloc();
+    let part = repeated(alloc, b"(8", b"0123456789abcde\n", 1092, b"123)")?;
+    let mut text = b"SDR 65536 TDI".to_vec(alloc)?;
+    for name in [b"TDO".as_slice(), b"MASK", b"SMASK", b";"] {
+        text.extend_from_slice(part.as_slice())?;
+        text.extend_from_slice(name)?;
+    }
+    assert!(rt; text.len() <= 100_000);
+    let Ok(commands) = read_svf(alloc, text.as_slice()) else {
+        return Err(Fail::new("the text is not read"));
+    };
+    assert_eq!(rt; commands.len(), 1);
+    let Command::Sdr(scan) = commands.get(0) else {
+        return Err(Fail::new("the command is another one"));
+    };
+    assert_eq!(rt; scan.len, 65_536);
+    for bits in [&scan.tdi, &scan.tdo, &scan.mask, &scan.smask] {
+        let Some(bits) = bits else {
+            return Err(Fail::new("a part is missing"));
+        };
+        assert_eq!(rt; end_digits(bits)?, *b"3E08");
+    }
+    Ok(())
+}
+
+/// The longest instruction register, the greatest identity value, and the greatest opcodes that differ.
+#[test]
+fn the_largest_device_is_read(rt: HostRuntime) -> Result<(), Fail> {
+    let alloc = rt.alloc();
+    let text = repeated(
+        alloc,
+        b"device 1\nir 64\nidcode FFFFFFFF FFFFFFFFFFFFFFFE\nlink tap ",
+        b"a",
+        1_000_000,
+        b" FFFFFFFFFFFFFFFD\n",
+    )?;
+    assert!(rt; text.len() <= 2_000_000);
+    let Ok(device) = read_device(alloc, text.as_slice()) else {
+        return Err(Fail::new("the text is not read"));
+    };
+    assert_eq!(rt; device.ir, 64);
+    assert_eq!(rt; device.idcode, Some((0xffff_ffff, 0xffff_ffff_ffff_fffe)));
+    assert_eq!(rt; device.instr.len(), 1_000_000);
+    assert_eq!(rt; device.opcode, 0xffff_ffff_ffff_fffd);
+    Ok(())
+}
