@@ -2,6 +2,7 @@
 
 use bench_file::read_device;
 use icl_lexer::lex;
+use icl_parser::parse;
 use ij_bits::Bits;
 use pdl_parser::parse_pdl;
 use std::alloc::{AllocError, Global};
@@ -25,34 +26,38 @@ fn repeated(
     Ok(text)
 }
 
-/// The number of tokens of an ICL text.
-fn token_count(alloc: Global, text: &[u8]) -> Result<usize, Fail> {
+/// The number of tokens and of modules of an ICL text.
+fn icl_counts(alloc: Global, text: &[u8]) -> Result<(usize, usize), Fail> {
     if text.len() < 1_000_001 || text.len() > 2_000_000 {
         return Err(Fail::new("the text has another size"));
     }
-    match lex(alloc, text) {
-        Ok(tokens) => Ok(tokens.len()),
-        Err(_) => Err(Fail::new("the text is not cut")),
+    let Ok(tokens) = lex(alloc, text) else {
+        return Err(Fail::new("the text is not cut"));
+    };
+    match parse(alloc, text, &tokens) {
+        Ok(design) => Ok((tokens.len(), design.modules.len())),
+        Err(_) => Err(Fail::new("the text is not parsed")),
     }
 }
 
 #[test]
-fn large_icl_texts_are_cut(rt: HostRuntime) -> Result<(), Fail> {
+fn large_icl_texts_are_cut_and_parsed(rt: HostRuntime) -> Result<(), Fail> {
     let alloc = rt.alloc();
-    let rows: [(&[u8], &[u8], u32, &[u8], usize); 3] = [
+    let rows: [(&[u8], &[u8], u32, &[u8], (usize, usize)); 4] = [
         (
-            b"Module a {",
-            b" ScanInPort p; // q\n",
-            60_000,
-            b"}",
-            180_004,
+            b"",
+            b"Module a { Attribute b = \"c\"; } // d\n",
+            30_000,
+            b"",
+            (270_000, 30_000),
         ),
-        (b"Module ", b"a", 1_000_001, b" {}", 4),
-        (b"Module a {} /*", b" \n", 500_000, b"*/", 4),
+        (b"Module a {", b" ScanInPort p;", 80_000, b"}", (240_004, 1)),
+        (b"Module ", b"a", 1_000_001, b" {}", (4, 1)),
+        (b"Module a {} /*", b" \n", 1_000_000 / 2, b"*/", (4, 1)),
     ];
     for (front, piece, count, back, wanted) in rows {
         let text = repeated(alloc, front, piece, count, back)?;
-        assert_eq!(rt; token_count(alloc, text.as_slice())?, wanted);
+        assert_eq!(rt; icl_counts(alloc, text.as_slice())?, wanted);
     }
     Ok(())
 }
