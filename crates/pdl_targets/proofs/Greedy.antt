@@ -12,10 +12,10 @@ either : (a b : Bool) → (a || b) ≡ true → (a ≡ true) ⊎ (b ≡ true)
 either true b e = inl refl
 either false b e = inr e
 
-is_first : (q : ℕ) (qs : List ℕ) → is_in (q ∷ qs) q ≡ true
+pub is_first : (q : ℕ) (qs : List ℕ) → is_in (q ∷ qs) q ≡ true
 is_first q qs = or_left (q == q) (is_in qs q) (eq-eqb q q refl)
 
-is_behind : (p : ℕ) (qs : List ℕ) (q : ℕ) → is_in qs q ≡ true → is_in (p ∷ qs) q ≡ true
+pub is_behind : (p : ℕ) (qs : List ℕ) (q : ℕ) → is_in qs q ≡ true → is_in (p ∷ qs) q ≡ true
 is_behind p qs q e = or_right (p == q) (is_in qs q) e
 
 pub not_in : (rs : List ℕ) (r : ℕ) → times rs r ≡ 0 → is_in rs r ≡ false
@@ -72,7 +72,7 @@ module _ (places : Places) where
       by_clash ih true = inl (refl, ih taken)
       by_clash ih false = in_order_behind (left_over places (taken ++ r ∷ []) rs) r rs (ih (taken ++ r ∷ []))
 
-  all_in_order : (registers : List ℕ) (n : ℕ) (rs : List ℕ) → IsInOrder rs registers → All (λ qs. IsInOrder qs registers) (rounds_upto places n rs)
+  pub all_in_order : (registers : List ℕ) (n : ℕ) (rs : List ℕ) → IsInOrder rs registers → All (λ qs. IsInOrder qs registers) (rounds_upto places n rs)
   all_in_order registers zero rs h = all_nil (λ qs. IsInOrder qs registers)
   all_in_order registers (suc n) [] h = all_nil (λ qs. IsInOrder qs registers)
   all_in_order registers (suc n) (r ∷ rs) h =

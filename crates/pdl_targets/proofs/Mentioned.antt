@@ -5,7 +5,7 @@ use Rattle.std.proofs.lemmas.Bool.{eqb-true}
 use Rattle.pdl_targets.specs.Rounds.{is_in}
 use Rattle.pdl_targets.specs.Laws.{times, MentionsAreOnce, EachIsMentioned}
 
-none_in : (rs : List ℕ) (r : ℕ) → is_in rs r ≡ false → times rs r ≡ 0
+pub none_in : (rs : List ℕ) (r : ℕ) → is_in rs r ≡ false → times rs r ≡ 0
 none_in [] r e = refl
 none_in (q ∷ qs) r e = by_test (q == r) (none_in qs r) e
   where
