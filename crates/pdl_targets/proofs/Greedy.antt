@@ -8,7 +8,7 @@ use Rattle.pdl_targets.proofs.Apart.{all_nil, all_cons, fewer}
 
 -- ---- registers in a list
 
-either : (a b : Bool) → (a || b) ≡ true → (a ≡ true) ⊎ (b ≡ true)
+pub either : (a b : Bool) → (a || b) ≡ true → (a ≡ true) ⊎ (b ≡ true)
 either true b e = inl refl
 either false b e = inr e
 
