@@ -28,15 +28,15 @@ use Rattle.pdl_targets.proofs.Selects.{then_of, writes_select_nothing, reads_sel
 -- ---- values that are found
 
 -- a value is such one, if there is one
-abbrev OfOption : {A : Type 0} → (A → Type 0) → Option A → Type 0
+abbrev pub OfOption : {A : Type 0} → (A → Type 0) → Option A → Type 0
 OfOption P None = Unit {0}
 OfOption P (Some a) = P a
 
-then_with : {A B : Type 0} (P : A → Type 0) (Q : B → Type 0) (x : Found A) (next : A → Found B) → OfFound P x → ((a : A) → P a → OfFound Q (next a)) → OfFound Q (found_then x next)
+pub then_with : {A B : Type 0} (P : A → Type 0) (Q : B → Type 0) (x : Found A) (next : A → Found B) → OfFound P x → ((a : A) → P a → OfFound Q (next a)) → OfFound Q (found_then x next)
 then_with P Q (Is a) next p h = h a p
 then_with P Q (Fails fault) next p h = tt
 
-both_found : {A : Type 0} (P Q R : A → Type 0) → ((a : A) → P a → Q a → R a) → (x : Found A) → OfFound P x → OfFound Q x → OfFound R x
+pub both_found : {A : Type 0} (P Q R : A → Type 0) → ((a : A) → P a → Q a → R a) → (x : Found A) → OfFound P x → OfFound Q x → OfFound R x
 both_found P Q R f (Is a) p q = f a p q
 both_found P Q R f (Fails fault) p q = tt
 
