@@ -1,6 +1,6 @@
 -- The bit steps of a whole procedure.
-use Rattle.std.proofs.Common.{◌≡◌, ◌≤◌, ℕ, ◌+◌, ◌==◌, Bool, true, false, cond, List, [], ◌∷◌, length, refl, arith}
-use Rattle.std.specs.Prelude.{All, nat_lt, Option, Some, None}
+use Rattle.std.proofs.Common.{◌≡◌, ap, ◌∙◌, ◌≤◌, ℕ, ◌+◌, ◌==◌, Bool, true, false, cond, List, [], ◌∷◌, length, refl, arith}
+use Rattle.std.specs.Prelude.{All, filter, flat_map, nat_lt, Option, Some, None}
 use Rattle.std.proofs.lemmas.Bool.{ltb-false}
 use Rattle.std.proofs.lemmas.List.Elements.{All-map, All-filter, All-weaker}
 use Rattle.ij_text.specs.declared.Place.{Place}
@@ -17,10 +17,11 @@ use Rattle.pdl_expand.specs.Values.{ADeed, Writes, Reads, Applies, Runs, Resets,
 use Rattle.pdl_targets.specs.Targets.{AFault, Found, Is, Fails, write_bits, read_bits}
 use Rattle.pdl_targets.specs.Rounds.{Places, is_in, rounds, part_on, groups}
 use Rattle.pdl_targets.specs.Binding.{Queue, empty, Answer, Bound, with_step, applied, run_of, run, run_value, feed, bound_from, bound}
-use Rattle.pdl_targets.specs.Laws.{OfFound, IsQueue, QueueBegins, QueueGoesOn, IsForOnePath, HasPaths, AppliesHavePaths, StepsAreOfTheNetwork}
+use Rattle.pdl_targets.specs.Laws.{OfFound, rounds_of, DoesTheQueue, AppliesDoTheQueue, IsQueue, QueueBegins, QueueGoesOn, IsForOnePath, HasPaths, AppliesHavePaths, StepsAreOfTheNetwork}
 use Rattle.pdl_targets.proofs.Apart.{all_nil, all_cons}
 use Rattle.pdl_targets.proofs.Lasting.{stay_once}
 use Rattle.pdl_targets.proofs.LastingReads.{reads_stay_once}
+use Rattle.pdl_targets.proofs.Parted.{have_each_write, have_each_read}
 use Rattle.pdl_targets.proofs.Together.{are_together, need_one_row, none_is_empty}
 use Rattle.pdl_targets.proofs.Bits.{OfOption, then_with, writes_are_of_the_network, reads_are_of_the_network}
 use Rattle.pdl_targets.proofs.Gathered.{puts_all, puts_all_reads, with_writes_named, with_reads_named, none_named, writes_differ, reads_differ}
@@ -151,3 +152,18 @@ applies_have_paths net places steps k d less = (all_good net places (IsNet net) 
 pub steps_are_of_the_network : StepsAreOfTheNetwork
 unfolding bound
 steps_are_of_the_network net places steps well k d less = (all_good net places (IsNet net) (λ well. well) steps empty (begins net places (IsNet net) (λ well. well)) k d less).1 well
+
+rounds_applied : (gs : List SeenGroup) → rounds_of (applied gs) ≡ gs
+rounds_applied [] = refl
+rounds_applied (g ∷ gs) = refl
+
+pub applies_do_the_queue : AppliesDoTheQueue
+applies_do_the_queue net places q at node h =
+    unless_found (DoesTheQueue q) (nat_lt 4096 (q.rounds + length (groups places q.writes q.reads q.registers))) _ _
+    (λ e. record {
+      writes = λ test. ap (λ (gs : List SeenGroup). length (filter test (flat_map (λ g. g.writes) gs))) (rounds_applied (groups places q.writes q.reads q.registers)) ∙ have_each_write places q.writes q.reads q.registers h.0 test;
+      reads = λ test. ap (λ (gs : List SeenGroup). length (filter test (flat_map (λ g. g.reads) gs))) (rounds_applied (groups places q.writes q.reads q.registers)) ∙ have_each_read places q.writes q.reads q.registers h.0 test;
+      no_writes = refl;
+      no_reads = refl;
+      no_registers = refl;
+    })
