@@ -30,7 +30,7 @@ under_found : {A : Type 0} (N : Type 0) (P : A → Type 0) (x : Found A) → (N 
 under_found N P (Is a) h = h
 under_found N P (Fails fault) h = tt
 
-unless_found : {A : Type 0} (P : A → Type 0) (t : Bool) (fault : AFault) (x : Found A) → (t ≡ false → OfFound P x) → OfFound P (cond t (Fails fault) x)
+pub unless_found : {A : Type 0} (P : A → Type 0) (t : Bool) (fault : AFault) (x : Found A) → (t ≡ false → OfFound P x) → OfFound P (cond t (Fails fault) x)
 unless_found P true fault x h = tt
 unless_found P false fault x h = h refl
 
@@ -153,7 +153,7 @@ pub steps_are_of_the_network : StepsAreOfTheNetwork
 unfolding bound
 steps_are_of_the_network net places steps well k d less = (all_good net places (IsNet net) (λ well. well) steps empty (begins net places (IsNet net) (λ well. well)) k d less).1 well
 
-rounds_applied : (gs : List SeenGroup) → rounds_of (applied gs) ≡ gs
+pub rounds_applied : (gs : List SeenGroup) → rounds_of (applied gs) ≡ gs
 rounds_applied [] = refl
 rounds_applied (g ∷ gs) = refl
 
