@@ -5,7 +5,7 @@ use Rattle.std.proofs.lemmas.Bool.{eqb-true}
 use Rattle.pdl_targets.specs.Rounds.{is_in}
 use Rattle.pdl_targets.specs.Laws.{times, MentionsAreOnce, EachIsMentioned}
 
-none_in : (rs : List ℕ) (r : ℕ) → is_in rs r ≡ false → times rs r ≡ 0
+pub none_in : (rs : List ℕ) (r : ℕ) → is_in rs r ≡ false → times rs r ≡ 0
 none_in [] r e = refl
 none_in (q ∷ qs) r e = by_test (q == r) (none_in qs r) e
   where
@@ -39,11 +39,11 @@ pub mentions_are_once : MentionsAreOnce
 mentions_are_once registers [] r few = few
 mentions_are_once registers (q ∷ qs) r few = mentions_are_once (cond (is_in registers q) registers (registers ++ q ∷ [])) qs r (one_more registers q r few)
 
-or_more : (a b c : Bool) → ((a || b) || c) ≡ (a || (b || c))
+pub or_more : (a b c : Bool) → ((a || b) || c) ≡ (a || (b || c))
 or_more true b c = refl
 or_more false b c = refl
 
-is_in_last : (rs : List ℕ) (q r : ℕ) → is_in (rs ++ q ∷ []) r ≡ (is_in rs r || (q == r))
+pub is_in_last : (rs : List ℕ) (q r : ℕ) → is_in (rs ++ q ∷ []) r ≡ (is_in rs r || (q == r))
 is_in_last [] q r = by_test (q == r)
   where
     by_test : (t : Bool) → (t || false) ≡ t
