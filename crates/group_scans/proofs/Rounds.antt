@@ -1,15 +1,24 @@
--- The place of a register has one row of each mux.
+-- The place of a register has one row of each mux, and so has what a group of an iApply needs.
 use Rattle.std.proofs.Common.{◌≡◌, Bool, true, false, List, [], ◌∷◌, ◌++◌, inl, inr, refl, sym, ap, ◌∙◌}
-use Rattle.std.specs.Prelude.{Contains}
+use Rattle.std.specs.Prelude.{ℕ, Contains, flat_map}
+use Rattle.std.proofs.lemmas.List.Elements.{All-weaker}
 use Rattle.net_graph.specs.declared.branch.Branch.{Branch}
 use Rattle.net_graph.specs.declared.net.Net.{Net}
 use Rattle.net_graph.specs.declared.net.Point.{Point}
 use Rattle.net_graph.specs.declared.net.Point.TheVariants.{Reg, Mux}
+use Rattle.net_graph.specs.Groups.{registers_of}
+use Rattle.net_graph.specs.SeenSteps.{SeenGroup, SeenStep, Apply, Run, Reset}
+use Rattle.net_graph.specs.Steps.{IsStep}
 use Rattle.net_tree.specs.Form.{Items, Describes}
+use Rattle.net_tree.specs.Needs.{needs, IsExclusive}
 use Rattle.net_tree.specs.Places.{Placed, placed, same_point, find_place, place_of}
 use Rattle.path_planner.proofs.Among.{Among, contains_among}
 use Rattle.path_planner.proofs.Inside.{IsAround, around}
-use Rattle.group_scans.specs.Rounds.{RegistersNeedOneRow}
+use Rattle.pdl_targets.specs.Rounds.{groups}
+use Rattle.pdl_targets.specs.Laws.{HaveOneRow, HasPaths}
+use Rattle.pdl_targets.proofs.Procedures.{applies_have_paths, steps_are_of_the_network}
+use Rattle.pdl_targets.proofs.Together.{need_one_row}
+use Rattle.group_scans.specs.Rounds.{RegistersNeedOneRow, places_in, GroupsNeedOneRowEach, StepIsPlannable, ProceduresArePlannable}
 
 -- a place with a row in it is that of an item
 place_found : (xs : List Placed) (item : Point) (b : Branch) → Among b (find_place xs item) → (x : Placed) × Among x xs × (x.place ≡ find_place xs item)
@@ -38,3 +47,23 @@ one_branch_each net form item d a b i j m =
 
 pub registers_need_one_row : RegistersNeedOneRow
 registers_need_one_row net form r d (a, b, i, j, m, n) = n (ap (λ (z : Branch). z.row) (one_branch_each net form (Reg r) d a b i j m))
+
+each_has_one_row : (net : Net) (form : Items) → Describes net form → (r : ℕ) → HaveOneRow (places_in form r)
+each_has_one_row net form d r a b i j m = ap (λ (z : Branch). z.row) (one_branch_each net form (Reg r) d a b i j m)
+
+not_exclusive : (form : Items) (g : SeenGroup) → HaveOneRow (flat_map (places_in form) (registers_of g)) → ¬ IsExclusive (needs form g)
+not_exclusive form g h (a, b, i, j, m, n) = n (h a b i j m)
+
+pub groups_need_one_row_each : GroupsNeedOneRowEach
+groups_need_one_row_each net form writes reads registers d =
+    All-weaker (λ g. HaveOneRow (flat_map (places_in form) (registers_of g))) (λ g. ¬ IsExclusive (needs form g)) (λ g h. not_exclusive form g h) (groups (places_in form) writes reads registers) (need_one_row (places_in form) writes reads registers (each_has_one_row net form d))
+
+plannable : (net : Net) (form : Items) (s : SeenStep) → Describes net form → HasPaths (places_in form) s → IsStep net s → StepIsPlannable net form s
+plannable net form (Apply rounds) d h k =
+    (k.0, λ i e l. let p = h i e l in record { named = p.named; valid = k.1 i e l; together = not_exclusive form _ (p.rows (each_has_one_row net form d)) })
+plannable net form (Run n) d h k = k
+plannable net form Reset d h k = tt
+
+pub procedures_are_plannable : ProceduresArePlannable
+procedures_are_plannable net form steps n d k e l =
+    plannable net form _ d (applies_have_paths net (places_in form) steps k e l) (steps_are_of_the_network net (places_in form) steps n k e l)
