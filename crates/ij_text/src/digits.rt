@@ -63,8 +63,8 @@ fn next_decimal(n: u128, b: u8) -> Option<u128>
         .checked_add(u128::from(b.saturating_sub(b'0')))
 }
 
-/// The value of a decimal, if it is below 2^128.
-pub(crate) fn decimal(text: &[u8]) -> Option<u128>
+/// The value of a decimal, if it is below 2^128. It has digits alone, and `_`, which counts nothing.
+pub fn decimal(text: &[u8]) -> Option<u128>
     ensures { MatchOption result (2 ^ 128 ≤ decimal_from 0 text.now) (λ n. n ≡ decimal_from 0 text.now) }
 {
     let mut n = 0;
@@ -74,7 +74,8 @@ pub(crate) fn decimal(text: &[u8]) -> Option<u128>
     Some(n)
 }
 
-fn hex_value(b: u8) -> u8
+/// The value of a hexadecimal digit, in either case.
+pub fn hex_value(b: u8) -> u8
     ensures { result ≡ hex_value b }
 {
     if b < b':' {

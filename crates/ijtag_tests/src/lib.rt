@@ -4,6 +4,8 @@
 #[cfg(test)]
 mod host_files;
 #[cfg(test)]
+mod ij_text;
+#[cfg(test)]
 mod largest;
 #[cfg(test)]
 mod pdl_texts;

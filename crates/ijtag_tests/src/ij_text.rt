@@ -1,13 +1,8 @@
 // Names with numbers, and texts of numbers.
-use crate::{FitFault, Name, Names, Number, NumberFault, Place, fit, read_number};
-use ij_bits::{List, OutOfMemory, Tern};
+use ij_bits::{OutOfMemory, Tern};
+use ij_text::{FitFault, Names, Number, NumberFault, Place, fit, name_of, read_number};
 use std::alloc::Global;
 use std::test::Fail;
-
-fn name_of(alloc: Global, bytes: &[u8]) -> Result<Name, OutOfMemory> {
-    let vec = Vec::from_slice(alloc, bytes)?;
-    Ok(List::from(vec))
-}
 
 #[test]
 fn a_known_name_keeps_its_number(rt: HostRuntime) -> Result<(), Fail> {
