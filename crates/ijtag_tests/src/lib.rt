@@ -4,8 +4,8 @@
 #[cfg(test)]
 mod host_files;
 #[cfg(test)]
-mod ij_text;
-#[cfg(test)]
 mod largest;
+#[cfg(test)]
+mod names_and_numbers;
 #[cfg(test)]
 mod pdl_texts;
