@@ -1,3 +1,4 @@
 pub mod Numbering
 pub mod Numbers
 pub mod Widths
+pub mod Behind

@@ -1,3 +1,5 @@
+pub mod Places
+pub mod Bytes
 pub mod Numbering
 pub mod Words
 pub mod Numbers

@@ -1,5 +1,6 @@
 // Digits and their values.
 ghost use Rattle.std.specs.Prelude.{◌≡◌, ◌+◌, ◌*◌, ◌^◌, ◌<◌, ◌≤◌, ◌++◌, ◌∷◌, [], cond, true, length, map, Some, None, nat_lt, IfOk, OnOk, MatchOption, ◌==◌, ◌/◌, ◌%◌};
+ghost use Rattle.std.specs.Char.{is_ascii_hexdigit};
 ghost use Rattle.ij_text.specs.Numbers.{are_digits, decimal_from, digit_bits, go_on, hex_value, is_digit, next_decimal, text_bits};
 
 use crate::open_bits::OpenBits;
@@ -63,8 +64,8 @@ fn next_decimal(n: u128, b: u8) -> Option<u128>
         .checked_add(u128::from(b.saturating_sub(b'0')))
 }
 
-/// The value of a decimal, if it is below 2^128.
-pub(crate) fn decimal(text: &[u8]) -> Option<u128>
+/// The value of a decimal, if it is below 2^128. It has digits alone, and `_`, which counts nothing.
+pub fn decimal(text: &[u8]) -> Option<u128>
     ensures { MatchOption result (2 ^ 128 ≤ decimal_from 0 text.now) (λ n. n ≡ decimal_from 0 text.now) }
 {
     let mut n = 0;
@@ -74,8 +75,10 @@ pub(crate) fn decimal(text: &[u8]) -> Option<u128>
     Some(n)
 }
 
-fn hex_value(b: u8) -> u8
-    ensures { result ≡ hex_value b }
+/// The value of a hexadecimal digit, in either case.
+pub fn hex_value(b: u8) -> u8
+    ensures value { result ≡ hex_value b }
+    ensures digit { is_ascii_hexdigit b ≡ true → result < 16 }
 {
     if b < b':' {
         b.saturating_sub(b'0')

@@ -8,6 +8,13 @@ use indexmap::IndexMap;
 use std::alloc::Global;
 use std::marker::Model;
 
+/// A name of these bytes.
+pub fn name_of(alloc: Global, bytes: &[u8]) -> Result<Name, OutOfMemory>
+    ensures { IfOk result (λ name. name.items ≡ bytes.now) }
+{
+    Ok(List::from(Vec::from_slice(alloc, bytes)?))
+}
+
 /// A list of distinct names, each of which has a number: its position, counted from 0 in the order in which the names came.
 ///
 /// Contracts see the list of the names. Only [`intern`](Names::intern) takes memory, by the allocator that the list was

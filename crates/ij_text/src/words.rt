@@ -3,13 +3,15 @@ ghost use Rattle.std.specs.Prelude.{◌≡◌};
 ghost use Rattle.std.specs.List.{list_all};
 ghost use Rattle.ij_text.specs.Words as words;
 
-fn begins_name(b: u8) -> bool
+/// Whether a byte is a letter or `_`.
+pub fn begins_name(b: u8) -> bool
     ensures { result ≡ words.begins_name b }
 {
     b.is_ascii_alphabetic() || b == b'_'
 }
 
-fn in_name(b: u8) -> bool
+/// Whether a byte is a letter, a digit or `_`.
+pub fn in_name(b: u8) -> bool
     ensures { result ≡ words.in_name b }
 {
     begins_name(b) || b.is_ascii_digit()

@@ -2,8 +2,12 @@
 #![tactic(auto)]
 
 #[cfg(test)]
+mod device_files;
+#[cfg(test)]
 mod host_files;
 #[cfg(test)]
 mod largest;
+#[cfg(test)]
+mod names_and_numbers;
 #[cfg(test)]
 mod pdl_texts;

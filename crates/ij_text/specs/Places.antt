@@ -1,0 +1,19 @@
+-- Where the bytes of a text stand.
+use Rattle.std.specs.Prelude.{ℕ, suc, ◌==◌, cond, List, [], ◌∷◌, take}
+use Rattle.ij_text.specs.declared.Place.{Place}
+
+abbrev pub first_place : Place
+first_place = record { line = 1; col = 1 }
+
+-- behind a line feed (10) a line begins
+abbrev pub next_place : Place → ℕ → Place
+next_place p b = cond (b == 10) (record { line = suc p.line; col = 1 }) (record { line = p.line; col = suc p.col })
+
+-- the place of the byte behind some bytes that begin at a place
+abbrev pub place_behind : Place → List ℕ → Place
+place_behind p [] = p
+place_behind p (b ∷ bs) = place_behind (next_place p b) bs
+
+-- the place of a byte of a text
+abbrev pub place_at : List ℕ → ℕ → Place
+place_at text n = place_behind first_place (take n text)
