@@ -1,6 +1,7 @@
 // Hexadecimal texts as bits.
-ghost use Rattle.std.specs.Prelude.{◌≡◌, ◌+◌, ◌^◌, ◌/◌, ◌<◌, ◌≤◌, ◌==◌, not, [], ◌++◌, length, drop, IfOk, IfSome};
+ghost use Rattle.std.specs.Prelude.{◌≡◌, ◌+◌, ◌^◌, ◌/◌, ◌%◌, ◌<◌, ◌≤◌, ◌==◌, not, [], ◌++◌, length, drop, IfOk, IfSome};
 ghost use Rattle.ij_bits.specs.BitLists.{number_of};
+ghost use Rattle.ij_text.specs.Numbers.{hex_value as digit_value};
 ghost use Rattle.svf_reader.specs.Answers.{Gives};
 ghost use Rattle.svf_reader.specs.Values.{hex_bits, has_one, fitted, is_wide};
 ghost use Rattle.svf_reader.specs.Meaning.{hex_value};
@@ -10,8 +11,17 @@ use crate::fault::Refused;
 use crate::pieces::next_word;
 use crate::words::is_close;
 use ij_bits::Bits;
-use ij_text::hex_value as digit_value;
 use std::alloc::{AllocError, Global};
+
+/// A digit's value, found without a branch; 16 is as 0.
+fn digit_value(b: u8) -> u8
+    ensures value { result ≡ digit_value b % 16 }
+    ensures small { result < 16 }
+{
+    let letter = 9 * u8::from(b >= b':');
+    let is_there = u8::from((b >= b'0') & ((b < b'G') | (b > b'V')));
+    is_there * ((b % 16 + letter) % 16)
+}
 
 /// The number that at most 16 digits stand for.
 fn digits_number(digits: &[u8]) -> u64
@@ -20,7 +30,7 @@ fn digits_number(digits: &[u8]) -> u64
 {
     let mut value = 0u64;
     for d in digits {
-        value = 16 * value + u64::from(digit_value(*d) % 16);
+        value = 16 * value + u64::from(digit_value(*d));
     }
     value
 }
@@ -31,7 +41,7 @@ fn have_one(digits: &[u8]) -> bool
 {
     let mut one = false;
     for d in digits {
-        one |= digit_value(*d) % 16 != 0;
+        one |= digit_value(*d) != 0;
     }
     one
 }
