@@ -11,16 +11,19 @@ use crate::fault::Refused;
 use crate::pieces::next_word;
 use crate::words::is_close;
 use ij_bits::Bits;
+use ij_text::hex_value;
 use std::alloc::{AllocError, Global};
 
-/// A digit's value, found without a branch; 16 is as 0.
+/// A digit's value, found without asking whether it is a letter; 16 is as 0.
 fn digit_value(b: u8) -> u8
     ensures value { result ≡ digit_value b % 16 }
     ensures small { result < 16 }
 {
-    let letter = 9 * u8::from(b >= b':');
-    let is_there = u8::from((b >= b'0') & ((b < b'G') | (b > b'V')));
-    is_there * ((b % 16 + letter) % 16)
+    if b < b'0' || b > 127 || (b > b'F' && b < b'W') {
+        return hex_value(b) % 16;
+    }
+    let letter = (b + 70) / 128;
+    (b + 9 * letter) % 16
 }
 
 /// The number that at most 16 digits stand for.
@@ -147,7 +150,7 @@ fn gathered(alloc: Global, text: &[u8]) -> Result<Vec<u8>, AllocError>
 }
 
 /// The bits of a hexadecimal text up to its `)`, of which the last digit has position 0.
-pub(crate) fn hex_value(alloc: Global, len: u32, text: &[u8]) -> Result<Bits, Refused>
+pub(crate) fn text_bits(alloc: Global, len: u32, text: &[u8]) -> Result<Bits, Refused>
     ensures { Gives (λ bits. bits.items) result (hex_value len (digits_of text.now)) }
 {
     if let Some(digits) = lone_word(text) {
