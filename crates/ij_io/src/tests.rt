@@ -13,7 +13,14 @@ fn copied<S: Shelf>(alloc: Global, shelf: &mut S) -> Result<Vec<u8>, Fail> {
         shelf: &mut *shelf,
         name: "b",
     };
-    put_pieces(&mut file, &[bytes.as_slice(), b"", b"xy"])?;
+    put_words(
+        &mut file,
+        &[
+            Word::Text(bytes.as_slice()),
+            Word::Text(b""),
+            Word::Text(b"xy"),
+        ],
+    )?;
     file.write(b"z")?;
     Ok(shelf.load(alloc, "b", 8)?)
 }
@@ -72,7 +79,10 @@ fn the_named_calls_fail_and_change_nothing(rt: HostRuntime) -> Result<(), Fail> 
     }
     assert_eq!(rt; sink.bytes(), b"abef".as_slice());
     let mut sure = SureSink::new(alloc);
-    put_pieces(&mut sure, &[b"ab", b"", b"c"])?;
-    assert_eq!(rt; sure.bytes(), b"abc".as_slice());
+    put_words(
+        &mut sure,
+        &[Word::Text(b"ab"), Word::Number(0), Word::Text(b"c")],
+    )?;
+    assert_eq!(rt; sure.bytes(), b"ab0c".as_slice());
     Ok(())
 }

@@ -5,7 +5,7 @@ use ij_io::{HostShelf, HostSink};
 use ijtag_core::{Status, ijtag};
 use std::alloc::AllocError;
 use std::env;
-use std::io::ErrorKind;
+use std::io::{BufWriter, ErrorKind};
 use std::process::ExitCode;
 use std::rt::Env;
 
@@ -23,8 +23,11 @@ fn main(rt: HostRuntime) -> ExitCode {
         return ExitCode::from(Status::OutOfMemory.code());
     };
     let alloc = rt.alloc();
+    let Ok(stdout) = BufWriter::new(alloc, rt.stdout()) else {
+        return ExitCode::from(Status::OutOfMemory.code());
+    };
     let mut shelf = HostShelf::new(rt, alloc);
-    let mut out = HostSink::new(rt.stdout());
+    let mut out = HostSink::new(stdout);
     let mut err = HostSink::new(rt.stderr());
     let status = ijtag(alloc, &words, &mut shelf, &mut out, &mut err);
     ExitCode::from(status.code())

@@ -66,10 +66,6 @@ named_line text name = concat (text ∷ name ∷ codes "\n" ∷ [])
 abbrev pub unapplied_text : ℕ → List ℕ
 unapplied_text line = concat (codes "refused pdl Unapplied " ∷ decimal line ∷ codes ":3\n" ∷ [])
 
--- the line and the column
-unfoldable pub place_text : Place → List ℕ
-place_text at = decimal at.line ++ (codes ":" ++ decimal at.col)
-
 -- behind the place a word may stand
 unfoldable pub line_end : Option (List ℕ) → List ℕ
 line_end None = codes "\n"
@@ -77,7 +73,7 @@ line_end (Some word) = concat (codes " " ∷ word ∷ codes "\n" ∷ [])
 
 -- a refusal of a text: its stage, its cause, the place, and the word that it tells
 unfoldable pub located_line : List ℕ → List ℕ → Place → Option (List ℕ) → List ℕ
-located_line stage cause at word = concat (stage ∷ cause ∷ codes " " ∷ []) ++ (place_text at ++ line_end word)
+located_line stage cause at word = stage ++ (cause ++ (codes " " ++ (decimal at.line ++ (codes ":" ++ (decimal at.col ++ line_end word)))))
 
 unfoldable pub svf_cause : Cause → List ℕ
 svf_cause (LeftOut word) = codes "LeftOut"

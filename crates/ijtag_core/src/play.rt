@@ -20,8 +20,8 @@ use play_report::put_play;
 use register_compiler::make_device;
 use std::alloc::Global;
 
-/// Plays commands on the bench of a design and prints the report. A refusal leaves a first part of the report.
-fn put_report<O: Sink>(
+/// Plays commands on the bench of a design and writes the report. A refusal leaves a first part of the report.
+fn put_lines<O: Sink>(
     alloc: Global,
     playable: &Playable,
     out: &mut O,
@@ -46,6 +46,24 @@ fn put_report<O: Sink>(
     } else {
         Ok(Verdict::Differs)
     }
+}
+
+/// Plays commands on the bench of a design and prints the report, so that none of it is kept back. A refusal leaves a first part of the report.
+fn put_report<O: Sink>(
+    alloc: Global,
+    playable: &Playable,
+    out: &mut O,
+) -> Result<Verdict, StoreFault>
+    requires clocks { length (pins InReset 0 playable.now.commands) ≤ 1000000000 }
+    requires scans { scans_in playable.now.commands ≤ 1000000000 }
+    ensures printed { OnOk result (Adds (O.taken out.old) (O.taken out.new) (play_report playable.now.design.width (device_of playable.now.design.opcode) playable.now.commands)) }
+    ensures verdict { IfOk result (λ verdict. seen_verdict verdict ≡ verdict_of (differs_of playable.now.design.width (device_of playable.now.design.opcode) playable.now.commands)) }
+    ensures part { OnErr result (AddsPart (O.taken out.old) (O.taken out.new) (play_report playable.now.design.width (device_of playable.now.design.opcode) playable.now.commands)) }
+    ensures cause { HasCause (O.faults out.old) (O.faults out.new) result StoreFault.Failed }
+{
+    let verdict = put_lines(alloc, playable, out)?;
+    out.flush()?;
+    Ok(verdict)
 }
 
 /// Loads the files of the command, accepts them, and only then plays the SVF text and prints the report. No file changes. A stop

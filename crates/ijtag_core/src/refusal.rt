@@ -1,13 +1,12 @@
 // What a file or a text is refused for, and the line that tells it.
-ghost use Rattle.std.specs.Prelude.{◌≡◌, OnOk, OnErr, option_map};
+ghost use Rattle.std.specs.Prelude.{◌≡◌, Some, None, OnOk, OnErr, option_map};
 ghost use Rattle.ij_io.specs.Bytes.{Adds, AddsPart};
 ghost use Rattle.ij_io.specs.Causes.{HasCause};
-ghost use Rattle.ijtag_core.specs.Stops.{refusal_text, named_line, unapplied_text, place_text, line_end, located_line, svf_cause, svf_word, svf_line, icl_cause, icl_word, icl_line};
+ghost use Rattle.ijtag_core.specs.Stops.{refusal_text, named_line, unapplied_text, located_line, svf_cause, svf_word, svf_line, icl_cause, icl_word, icl_line};
 ghost use Rattle.ijtag_core.specs.Seen.{seen_cause, seen_icl_cause, seen_refusal};
 
-use ij_io::{Sink, StoreFault, put_pieces};
+use ij_io::{Sink, StoreFault, Word, put_words};
 use ij_text::{Name, Place};
-use svf_writer::decimal::put_decimal;
 
 /// Why a command of an SVF text is refused (Serial Vector Format, revision E).
 #[derive(Drop)]
@@ -117,54 +116,99 @@ pub(crate) enum Refusal<'a> {
 }
 
 /// Prints a name behind a text, on a line of its own.
-pub(crate) fn put_named<K: Sink>(text: &[u8], name: &str, k: &mut K) -> Result<(), StoreFault>
+#[tactic(auto, unfolding(ij_io::specs::Words::words_text))]
+pub(crate) fn put_named<'a, K: Sink>(
+    text: &'a [u8],
+    name: &'a str,
+    k: &mut K,
+) -> Result<(), StoreFault>
     ensures whole { OnOk result (Adds (K.taken k.old) (K.taken k.new) (named_line text.now name.now)) }
     ensures part { OnErr result (AddsPart (K.taken k.old) (K.taken k.new) (named_line text.now name.now)) }
     ensures cause { HasCause (K.faults k.old) (K.faults k.new) result StoreFault.Failed }
 {
-    put_pieces(k, &[text, name.as_bytes(), b"\n"])
+    put_words(
+        k,
+        &[
+            Word::Text(text),
+            Word::Text(name.as_bytes()),
+            Word::Text(b"\n"),
+        ],
+    )
 }
 
 /// Prints the line of a command that no iApply follows. Its column is 3, behind two spaces.
+#[tactic(auto, unfolding(ij_io::specs::Words::words_text))]
 fn put_unapplied<K: Sink>(line: u32, k: &mut K) -> Result<(), StoreFault>
     ensures whole { OnOk result (Adds (K.taken k.old) (K.taken k.new) (unapplied_text line)) }
     ensures part { OnErr result (AddsPart (K.taken k.old) (K.taken k.new) (unapplied_text line)) }
     ensures cause { HasCause (K.faults k.old) (K.faults k.new) result StoreFault.Failed }
 {
-    k.write(b"refused pdl Unapplied ")?;
-    put_decimal(line, k)?;
-    k.write(b":3\n")?;
-    Ok(())
+    put_words(
+        k,
+        &[
+            Word::Text(b"refused pdl Unapplied "),
+            Word::Number(line as u64),
+            Word::Text(b":3\n"),
+        ],
+    )
 }
 
-/// Prints a line and a column.
-#[tactic(auto, unfolding(crate::specs::Stops::place_text))]
-fn put_place<K: Sink>(at: Place, k: &mut K) -> Result<(), StoreFault>
-    ensures whole { OnOk result (Adds (K.taken k.old) (K.taken k.new) (place_text at)) }
-    ensures part { OnErr result (AddsPart (K.taken k.old) (K.taken k.new) (place_text at)) }
+/// Prints the line of a refused text that tells a word.
+#[tactic(auto, unfolding(ij_io::specs::Words::words_text, crate::specs::Stops::located_line, crate::specs::Stops::line_end))]
+fn put_told<'a, K: Sink>(
+    stage: &'a [u8],
+    cause: &'a [u8],
+    at: Place,
+    word: &'a [u8],
+    k: &mut K,
+) -> Result<(), StoreFault>
+    ensures whole { OnOk result (Adds (K.taken k.old) (K.taken k.new) (located_line stage.now cause.now at (Some word.now))) }
+    ensures part { OnErr result (AddsPart (K.taken k.old) (K.taken k.new) (located_line stage.now cause.now at (Some word.now))) }
     ensures cause { HasCause (K.faults k.old) (K.faults k.new) result StoreFault.Failed }
 {
-    put_decimal(at.line, k)?;
-    k.write(b":")?;
-    put_decimal(at.col, k)?;
-    Ok(())
+    put_words(
+        k,
+        &[
+            Word::Text(stage),
+            Word::Text(cause),
+            Word::Text(b" "),
+            Word::Number(at.line as u64),
+            Word::Text(b":"),
+            Word::Number(at.col as u64),
+            Word::Text(b" "),
+            Word::Text(word),
+            Word::Text(b"\n"),
+        ],
+    )
 }
 
-/// Prints what stands behind the place: a word, where there is one, and the line's end.
-#[tactic(auto, unfolding(crate::specs::Stops::line_end))]
-fn put_line_end<K: Sink>(word: Option<&[u8]>, k: &mut K) -> Result<(), StoreFault>
-    ensures whole { OnOk result (Adds (K.taken k.old) (K.taken k.new) (line_end (option_map (λ w. w.now) word.entry))) }
-    ensures part { OnErr result (AddsPart (K.taken k.old) (K.taken k.new) (line_end (option_map (λ w. w.now) word.entry))) }
+/// Prints the line of a refused text that tells no word.
+#[tactic(auto, unfolding(ij_io::specs::Words::words_text, crate::specs::Stops::located_line, crate::specs::Stops::line_end))]
+fn put_untold<'a, K: Sink>(
+    stage: &'a [u8],
+    cause: &'a [u8],
+    at: Place,
+    k: &mut K,
+) -> Result<(), StoreFault>
+    ensures whole { OnOk result (Adds (K.taken k.old) (K.taken k.new) (located_line stage.now cause.now at None)) }
+    ensures part { OnErr result (AddsPart (K.taken k.old) (K.taken k.new) (located_line stage.now cause.now at None)) }
     ensures cause { HasCause (K.faults k.old) (K.faults k.new) result StoreFault.Failed }
 {
-    match word {
-        Some(word) => put_pieces(k, &[b" ", word, b"\n"]),
-        None => k.write(b"\n"),
-    }
+    put_words(
+        k,
+        &[
+            Word::Text(stage),
+            Word::Text(cause),
+            Word::Text(b" "),
+            Word::Number(at.line as u64),
+            Word::Text(b":"),
+            Word::Number(at.col as u64),
+            Word::Text(b"\n"),
+        ],
+    )
 }
 
 /// Prints the line of a refused text.
-#[tactic(auto, unfolding(crate::specs::Stops::located_line))]
 fn put_located<K: Sink>(
     stage: &[u8],
     cause: &[u8],
@@ -176,10 +220,10 @@ fn put_located<K: Sink>(
     ensures part { OnErr result (AddsPart (K.taken k.old) (K.taken k.new) (located_line stage.now cause.now at (option_map (λ w. w.now) word.entry))) }
     ensures cause { HasCause (K.faults k.old) (K.faults k.new) result StoreFault.Failed }
 {
-    put_pieces(k, &[stage, cause, b" "])?;
-    put_place(at, k)?;
-    put_line_end(word, k)?;
-    Ok(())
+    match word {
+        Some(word) => put_told(stage, cause, at, word, k),
+        None => put_untold(stage, cause, at, k),
+    }
 }
 
 /// Prints the line of a refused SVF text.
@@ -209,7 +253,7 @@ pub(crate) fn put_refusal<K: Sink>(refusal: &Refusal<'_>, k: &mut K) -> Result<(
 {
     match refusal {
         Refusal::Long(name) => put_named(b"refused file Long ", name, k),
-        Refusal::FirstForm => put_pieces(k, &[b"refused core FirstForm\n"]),
+        Refusal::FirstForm => k.write(b"refused core FirstForm\n"),
         Refusal::Unapplied(line) => put_unapplied(*line, k),
         Refusal::Icl(cause, at) => put_icl_refusal(cause, *at, k),
         Refusal::Svf(cause, at) => put_svf_refusal(cause, *at, k),

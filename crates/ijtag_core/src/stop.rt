@@ -8,7 +8,7 @@ ghost use Rattle.ijtag_core.specs.Seen.{seen_stop};
 
 use crate::Status;
 use crate::refusal::{Refusal, put_named, put_refusal};
-use ij_io::{Sink, StoreFault, put_pieces};
+use ij_io::{Sink, StoreFault};
 
 /// Why a run stops short, with the file's name where it is a file's fault.
 #[derive(Drop)]
@@ -51,12 +51,12 @@ fn put_stop<K: Sink>(stop: &Stop<'_>, k: &mut K) -> Result<(), StoreFault>
     ensures cause { HasCause (K.faults k.old) (K.faults k.new) result StoreFault.Failed }
 {
     match stop {
-        Stop::Usage => put_pieces(k, &[b"usage: ijtag compile|play\n"]),
+        Stop::Usage => k.write(b"usage: ijtag compile|play\n"),
         Stop::Refused(refusal) => put_refusal(refusal, k),
         Stop::ReadFault(name) => put_named(b"read fault ", name, k),
         Stop::WriteFault(name) => put_named(b"write fault ", name, k),
-        Stop::OutputFault => put_pieces(k, &[b"write fault output\n"]),
-        Stop::OutOfMemory => put_pieces(k, &[b"out of memory\n"]),
+        Stop::OutputFault => k.write(b"write fault output\n"),
+        Stop::OutOfMemory => k.write(b"out of memory\n"),
     }
 }
 

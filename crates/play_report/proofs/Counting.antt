@@ -1,6 +1,6 @@
 -- Compares clock by clock.
 use Rattle.std.proofs.Common.{◌≡◌, ℕ, suc, ◌+◌, ◌≤◌, Bool, true, false, cond, List, [], ◌∷◌, ◌++◌, length, Option, Some, None, refl, ap, sym, ◌∙◌, arith, append_assoc, length-append, ◌<◌, drop}
-use Rattle.std.specs.Prelude.{get_or}
+use Rattle.std.specs.Prelude.{get_or, codes, decimal}
 use Rattle.std.proofs.lemmas.List.{at_drop_more}
 use Rattle.svf_writer.specs.SeenCommands.{SIR, SDR, Reset, Idle, Run, SeenCommand}
 use Rattle.tap_machine.specs.Play.{scans_in}
@@ -90,3 +90,10 @@ one_scan (Run n) cs = omega arith
 pub scans_next : (cs : List SeenCommand) (i : ℕ) (c : SeenCommand) → i < length cs → c ≡ get_or cs i c → scans_in (drop i cs) ≡ scans_in (c ∷ []) + scans_in (drop (i + 1) cs)
 scans_next cs i c within is =
     at_drop_more scans_in cs i c within ∙ ap (λ d. scans_in (d ∷ drop (i + 1) cs)) (sym is) ∙ one_scan c (drop (i + 1) cs)
+
+-- the line of a compare, its two digits as the texts that were written
+pub differ_is : {e f : List ℕ} (scan bit : ℕ) (expect found : Bool) → e ≡ digit expect ∷ [] → f ≡ digit found ∷ []
+    → codes "differs scan " ++ (decimal scan ++ (codes " bit " ++ (decimal bit ++ (codes " expected " ++ (e ++ (codes " read " ++ (f ++ 10 ∷ []))))))) ≡ differ_text (record { scan = scan; bit = bit; expect = expect; found = found })
+differ_is {e} {f} scan bit expect found is_expect is_found =
+    ap (λ (d : List ℕ). codes "differs scan " ++ (decimal scan ++ (codes " bit " ++ (decimal bit ++ (codes " expected " ++ (d ++ (codes " read " ++ (f ++ 10 ∷ [])))))))) is_expect
+    ∙ ap (λ (d : List ℕ). codes "differs scan " ++ (decimal scan ++ (codes " bit " ++ (decimal bit ++ (codes " expected " ++ (digit expect ∷ (codes " read " ++ (d ++ 10 ∷ [])))))))) is_found

@@ -9,9 +9,9 @@ use Rattle.ijtag_core.proofs.refusal.put_refusal.Goals as goal
 pub returns-in-FirstForm-clause-whole : goal.returns-in-FirstForm-clause-whole
 unfolding refusal_text
 returns-in-FirstForm-clause-whole g c =
-    subst (λ (r : Refusal). OnOk c.put_pieces.result (Adds (g.K.Sink.taken c.args.k.now) (g.K.Sink.taken c.put_pieces.new.k) (refusal_text (seen_refusal r)))) (sym c.in-FirstForm.is) c.put_pieces.ensures.whole
+    subst (λ (r : Refusal). OnOk c.write.result (Adds (g.K.Sink.taken c.args.k.now) (g.K.Sink.taken c.write.new.self) (refusal_text (seen_refusal r)))) (sym c.in-FirstForm.is) c.write.ensures.whole
 
 pub returns-in-FirstForm-clause-part : goal.returns-in-FirstForm-clause-part
 unfolding refusal_text
 returns-in-FirstForm-clause-part g c =
-    subst (λ (r : Refusal). OnErr c.put_pieces.result (AddsPart (g.K.Sink.taken c.args.k.now) (g.K.Sink.taken c.put_pieces.new.k) (refusal_text (seen_refusal r)))) (sym c.in-FirstForm.is) c.put_pieces.ensures.part
+    subst (λ (r : Refusal). OnErr c.write.result (AddsPart (g.K.Sink.taken c.args.k.now) (g.K.Sink.taken c.write.new.self) (refusal_text (seen_refusal r)))) (sym c.in-FirstForm.is) c.write.ensures.part

@@ -1,32 +1,14 @@
-use Rattle.ij_io.proofs.Adding.{adds_both, adds_front, adds_then_part, at_refusal}
+use Rattle.ij_io.proofs.Adding.{whole_as, part_as}
+use Rattle.ij_io.specs.Words.{words_text}
+use Rattle.play_report.proofs.Counting.{differ_is}
 use Rattle.play_report.proofs.lines.put_differ.Goals as goal
 
-pub returns-in_err-write-clause-part : goal.returns-in_err-write-clause-part
-returns-in_err-write-clause-part g c = at_refusal c.from_residual.result (adds_front _ c.in_err-write.ensures.part)
-
-pub returns-in_err-put_decimal-clause-part : goal.returns-in_err-put_decimal-clause-part
-returns-in_err-put_decimal-clause-part g c = at_refusal c.from_residual-in_err-put_decimal.result (adds_then_part c.in_ok-write.ensures.whole (adds_front _ c.in_err-put_decimal.ensures.part))
-
-pub returns-in_err-write-2-clause-part : goal.returns-in_err-write-2-clause-part
-returns-in_err-write-2-clause-part g c = at_refusal c.from_residual-in_err-write-2.result (adds_then_part c.in_ok-write.ensures.whole (adds_then_part c.in_ok-put_decimal.ensures.whole (adds_front _ c.in_err-write-2.ensures.part)))
-
-pub returns-in_err-put_decimal-2-clause-part : goal.returns-in_err-put_decimal-2-clause-part
-returns-in_err-put_decimal-2-clause-part g c = at_refusal c.from_residual-in_err-put_decimal-2.result (adds_then_part c.in_ok-write.ensures.whole (adds_then_part c.in_ok-put_decimal.ensures.whole (adds_then_part c.in_ok-write-2.ensures.whole (adds_front _ c.in_err-put_decimal-2.ensures.part))))
-
-pub returns-in_err-write-3-clause-part : goal.returns-in_err-write-3-clause-part
-returns-in_err-write-3-clause-part g c = at_refusal c.from_residual-in_err-write-3.result (adds_then_part c.in_ok-write.ensures.whole (adds_then_part c.in_ok-put_decimal.ensures.whole (adds_then_part c.in_ok-write-2.ensures.whole (adds_then_part c.in_ok-put_decimal-2.ensures.whole (adds_front _ c.in_err-write-3.ensures.part)))))
-
-pub returns-in_err-put_bit-clause-part : goal.returns-in_err-put_bit-clause-part
-returns-in_err-put_bit-clause-part g c = at_refusal c.from_residual-in_err-put_bit.result (adds_then_part c.in_ok-write.ensures.whole (adds_then_part c.in_ok-put_decimal.ensures.whole (adds_then_part c.in_ok-write-2.ensures.whole (adds_then_part c.in_ok-put_decimal-2.ensures.whole (adds_then_part c.in_ok-write-3.ensures.whole (adds_front _ c.in_err-put_bit.ensures.part))))))
-
-pub returns-in_err-write-4-clause-part : goal.returns-in_err-write-4-clause-part
-returns-in_err-write-4-clause-part g c = at_refusal c.from_residual-in_err-write-4.result (adds_then_part c.in_ok-write.ensures.whole (adds_then_part c.in_ok-put_decimal.ensures.whole (adds_then_part c.in_ok-write-2.ensures.whole (adds_then_part c.in_ok-put_decimal-2.ensures.whole (adds_then_part c.in_ok-write-3.ensures.whole (adds_then_part c.in_ok-put_bit.ensures.whole (adds_front _ c.in_err-write-4.ensures.part)))))))
-
-pub returns-in_err-put_bit-2-clause-part : goal.returns-in_err-put_bit-2-clause-part
-returns-in_err-put_bit-2-clause-part g c = at_refusal c.from_residual-in_err-put_bit-2.result (adds_then_part c.in_ok-write.ensures.whole (adds_then_part c.in_ok-put_decimal.ensures.whole (adds_then_part c.in_ok-write-2.ensures.whole (adds_then_part c.in_ok-put_decimal-2.ensures.whole (adds_then_part c.in_ok-write-3.ensures.whole (adds_then_part c.in_ok-put_bit.ensures.whole (adds_then_part c.in_ok-write-4.ensures.whole (adds_front _ c.in_err-put_bit-2.ensures.part))))))))
-
-pub returns-in_err-write-5-clause-part : goal.returns-in_err-write-5-clause-part
-returns-in_err-write-5-clause-part g c = at_refusal c.from_residual-in_err-write-5.result (adds_then_part c.in_ok-write.ensures.whole (adds_then_part c.in_ok-put_decimal.ensures.whole (adds_then_part c.in_ok-write-2.ensures.whole (adds_then_part c.in_ok-put_decimal-2.ensures.whole (adds_then_part c.in_ok-write-3.ensures.whole (adds_then_part c.in_ok-put_bit.ensures.whole (adds_then_part c.in_ok-write-4.ensures.whole (adds_then_part c.in_ok-put_bit-2.ensures.whole c.in_err-write-5.ensures.part))))))))
-
 pub returns-clause-whole : goal.returns-clause-whole
-returns-clause-whole g c = (adds_both c.in_ok-write.ensures.whole (adds_both c.in_ok-put_decimal.ensures.whole (adds_both c.in_ok-write-2.ensures.whole (adds_both c.in_ok-put_decimal-2.ensures.whole (adds_both c.in_ok-write-3.ensures.whole (adds_both c.in_ok-put_bit.ensures.whole (adds_both c.in_ok-write-4.ensures.whole (adds_both c.in_ok-put_bit-2.ensures.whole c.in_ok-write-5.ensures.whole))))))))
+unfolding words_text
+returns-clause-whole g c =
+    let a = c.args in whole_as c.put_words.result _ _ (differ_is a.scan a.bit a.expect a.found c.digit_of.ensures c.digit_of-2.ensures) c.put_words.ensures.whole
+
+pub returns-clause-part : goal.returns-clause-part
+unfolding words_text
+returns-clause-part g c =
+    let a = c.args in part_as c.put_words.result _ _ (differ_is a.scan a.bit a.expect a.found c.digit_of.ensures c.digit_of-2.ensures) c.put_words.ensures.part

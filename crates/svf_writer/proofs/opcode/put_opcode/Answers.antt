@@ -5,7 +5,7 @@ use Rattle.ij_io.proofs.Adding.{at_refusal}
 use Rattle.ij_io.proofs.Fronts.{AddsFront, front_start, front_next, front_part}
 use Rattle.svf_writer.specs.Written.{hex_lines, hex_text}
 use Rattle.svf_writer.proofs.Opcodes.{bits_of-length, next_digit, opcode_digit}
-use Rattle.svf_writer.proofs.Lines.{all_lines}
+use Rattle.ij_io.proofs.HexLines.{all_lines}
 use Rattle.svf_writer.proofs.opcode.put_opcode.Goals as goal
 
 pub loop-j-init : goal.loop-j-init

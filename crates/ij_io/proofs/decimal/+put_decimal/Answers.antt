@@ -1,7 +1,7 @@
 use Rattle.ij_io.proofs.Adding.{at_refusal}
-use Rattle.svf_writer.proofs.Digits.{more_added, front_part_added, last_part_added, one_added, one_part_added}
-use Rattle.svf_writer.proofs.decimal.+put_decimal.Goals as goal
-use Rattle.svf_writer.proofs.decimal.+put_decimal.Goals.{then-n-ge10+in_ok-put_decimal, else-n-ge10}
+use Rattle.ij_io.proofs.Digits.{more_added, front_part_added, last_part_added, one_added, one_part_added}
+use Rattle.ij_io.proofs.decimal.+put_decimal.Goals as goal
+use Rattle.ij_io.proofs.decimal.+put_decimal.Goals.{then-n-ge10+in_ok-put_decimal, else-n-ge10}
 
 pub returns-in_err-put_decimal-clause-part : goal.returns-in_err-put_decimal-clause-part
 returns-in_err-put_decimal-clause-part g t c =

@@ -3,10 +3,14 @@ ghost use Rattle.std.specs.Prelude.{decimal, OnOk, OnErr};
 ghost use Rattle.ij_io.specs.Bytes.{Adds, AddsPart};
 ghost use Rattle.ij_io.specs.Causes.{HasCause};
 
-use ij_io::{Sink, StoreFault};
+use crate::{Sink, StoreFault};
 
-/// Writes the digits of a number, the highest first. It takes no memory.
-pub fn put_decimal<K: Sink>(n: u32, k: &mut K) -> Result<(), StoreFault>
+/// Writes the decimal digits of a number, the highest first, with no leading zero (0 is `0`). It takes no memory.
+///
+/// # Errors
+///
+/// The sink's, which then took some first digits.
+pub fn put_decimal<K: Sink>(n: u64, k: &mut K) -> Result<(), StoreFault>
     ensures whole { OnOk result (Adds (K.taken k.old) (K.taken k.new) (decimal n)) }
     ensures part { OnErr result (AddsPart (K.taken k.old) (K.taken k.new) (decimal n)) }
     ensures cause { HasCause (K.faults k.old) (K.faults k.new) result StoreFault.Failed }

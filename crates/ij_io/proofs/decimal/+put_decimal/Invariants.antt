@@ -1,4 +1,4 @@
-use Rattle.svf_writer.proofs.decimal.+put_decimal.Given as goal
+use Rattle.ij_io.proofs.decimal.+put_decimal.Given as goal
 
 -- proposed from what the function passes where it calls itself
 abbrev pub decreases-put_decimal : goal.decreases-put_decimal

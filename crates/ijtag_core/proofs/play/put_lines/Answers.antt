@@ -4,7 +4,7 @@ use Rattle.ij_io.proofs.Adding.{at_refusal}
 use Rattle.play_report.proofs.Names.{names_are_not_played}
 use Rattle.register_compiler.specs.Procedure.{device_of}
 use Rattle.ijtag_core.proofs.Verdicts.{agrees, differs}
-use Rattle.ijtag_core.proofs.play.put_report.Goals as goal
+use Rattle.ijtag_core.proofs.play.put_lines.Goals as goal
 
 pub returns-in_err-differs-clause-part : goal.returns-in_err-differs-clause-part
 returns-in_err-differs-clause-part g c =
