@@ -1,18 +1,15 @@
 -- Worked examples at the edges of table files and of what fits a network, computed.
-use Rattle.std.specs.Prelude.{◌≡◌, ℕ, List, [], ◌∷◌, ◌++◌, Option, Some, None, Result, Ok, Err, codes, refl, replicate, map, false}
+use Rattle.std.specs.Prelude.{◌≡◌, ℕ, List, [], ◌∷◌, ◌++◌, Option, Some, None, Result, Ok, Err, codes, refl, map}
 use Rattle.std.specs.Fmt.{digits}
 use Rattle.ij_bits.specs.Room.{full}
 use Rattle.ij_text.specs.declared.Place.{Place}
-use Rattle.net_graph.specs.declared.net.BitId.{BitId}
-use Rattle.net_graph.specs.declared.net.Inst.{Inst}
 use Rattle.net_graph.specs.declared.net.Net.{Net}
-use Rattle.net_graph.specs.declared.net.Node.{Node}
 use Rattle.net_graph.specs.declared.net.Point.TheVariants.{Entry as ScanIn}
 use Rattle.net_graph.specs.declared.net.Sig.TheVariants.{Zero}
 use Rattle.instruments.specs.declared.model.Operand.TheVariants.{Word, Input, Old}
-use Rattle.instruments.specs.declared.model.Slot.TheVariants.{Word as ToWord, Entry as ToEntry}
-use Rattle.instruments.specs.declared.model.Amount.TheVariants.{Number, Copy, Plus, Minus, Entry}
-use Rattle.instruments.specs.Seen.{SeenModel, SeenPort}
+use Rattle.instruments.specs.declared.model.Slot.TheVariants.{Word as ToWord}
+use Rattle.instruments.specs.declared.model.Amount.TheVariants.{Copy, Plus, Minus}
+use Rattle.instruments.specs.Seen.{SeenModel}
 use Rattle.bench_file.specs.declared.fault.TableFault.{TableFault}
 use Rattle.bench_file.specs.declared.fault.TableFault.TheVariants.{TableSyntax, TableName, TableWidth, TableLimit, TableTwice}
 use Rattle.bench_file.specs.declared.fault.FitsFault.TheVariants.{NoTable, ExtraTable, PortWidth}

@@ -2,7 +2,7 @@
 use Rattle.std.proofs.Common.{◌≡◌, ◌<◌, ◌-◌, ◌++◌, ℕ, zero, suc, Bool, true, false, List, [], ◌∷◌, length, Option, Some, None, Ok, Err, refl, sym, ap, ◌∙◌, arith}
 use Rattle.std.specs.Prelude.{nat_le}
 use Rattle.ij_text.specs.declared.Which.TheVariants.{Hierarchy, Cells}
-use Rattle.icl_syntax.specs.Values.{Block}
+use Rattle.icl_syntax.specs.Values.{SeenModule}
 use Rattle.icl_values.specs.Faults.{Answer, Fault, Fails, ◌>>=◌, refuse_if, over, Limit}
 use Rattle.icl_values.specs.Values.{Params}
 use Rattle.icl_elab.specs.declared.counts.Counts.{Counts}
@@ -10,22 +10,22 @@ use Rattle.icl_elab.specs.FirstPass.{Request, Passed, Progress, Entered, paramet
 use Rattle.icl_elab.specs.SeenFrames.{Stepped, with_cell}
 
 -- a cell whose items are fine, but not their counts
-pub no_counts : (blocks : List Block) (above : List (List ℕ)) (parent : Option ℕ) (c : Counts) (r : Request) (ps : Params) (s : Passed) (e : Option Fault)
+pub no_counts : (blocks : List SeenModule) (above : List (List ℕ)) (parent : Option ℕ) (c : Counts) (r : Request) (ps : Params) (s : Passed) (e : Option Fault)
     → parameters r.given r.block ≡ Ok ps → pass_items blocks above ps c r.block ≡ Ok s → Fails e (finish parent r.block s) → Fails e (enter_one blocks above parent c r)
 unfolding enter_one
 no_counts blocks above parent c r ps s None h k g = tt
 no_counts blocks above parent c r ps s (Some e) h k g = rw h (rw k (rw g refl))
 
-pub no_level : (levels : ℕ) (blocks : List Block) (above : List (List ℕ)) (parent : Option ℕ) (s : Progress) (r : Request) → levels ≡ 0 → enter levels blocks above parent s r ≡ Err (Limit Hierarchy 64)
+pub no_level : (levels : ℕ) (blocks : List SeenModule) (above : List (List ℕ)) (parent : Option ℕ) (s : Progress) (r : Request) → levels ≡ 0 → enter levels blocks above parent s r ≡ Err (Limit Hierarchy 64)
 unfolding enter
 no_level zero blocks above parent s r e = refl
 no_level (suc levels) blocks above parent s r e = absurd (omega (arith, e))
 
 -- below a cell
-abbrev pub below : ℕ → List Block → List (List ℕ) → ℕ → Answer Stepped → Answer Progress
+abbrev pub below : ℕ → List SeenModule → List (List ℕ) → ℕ → Answer Stepped → Answer Progress
 below levels blocks inside cell a = a >>= λ w. over (enter levels blocks inside (Some cell)) w.progress w.requests
 
-one_level : (levels : ℕ) (blocks : List Block) (above : List (List ℕ)) (parent : Option ℕ) (s : Progress) (r : Request)
+one_level : (levels : ℕ) (blocks : List SeenModule) (above : List (List ℕ)) (parent : Option ℕ) (s : Progress) (r : Request)
     → enter (suc levels) blocks above parent s r ≡ below levels blocks (r.block.name ∷ above) (length s.frames) (with_cell blocks (r.block.name ∷ above) parent s r)
 unfolding enter with_cell
 one_level levels blocks above parent s r = by_room (nat_le 8192 (length s.frames))
@@ -45,15 +45,15 @@ one_level levels blocks above parent s r = by_room (nat_le 8192 (length s.frames
     by_room true = refl
     by_room false = by_entered (enter_one blocks (r.block.name ∷ above) parent s.counts r)
 
-pub a_level : (levels : ℕ) (blocks : List Block) (above inside : List (List ℕ)) (parent : Option ℕ) (s : Progress) (r : Request) → 0 < levels → inside ≡ r.block.name ∷ above
+pub a_level : (levels : ℕ) (blocks : List SeenModule) (above inside : List (List ℕ)) (parent : Option ℕ) (s : Progress) (r : Request) → 0 < levels → inside ≡ r.block.name ∷ above
     → enter levels blocks above parent s r ≡ below (levels - 1) blocks inside (length s.frames) (with_cell blocks inside parent s r)
 a_level zero blocks above inside parent s r lt e = absurd (omega (arith, lt))
 a_level (suc levels) blocks above inside parent s r lt e = rw e (let n : suc levels - 1 ≡ levels = omega arith in rw n (one_level levels blocks above parent s r))
 
-pub below_fails : (levels : ℕ) (blocks : List Block) (inside : List (List ℕ)) (cell : ℕ) (a : Answer Stepped) (e : Option Fault) (whole : Answer Progress) → whole ≡ below levels blocks inside cell a → Fails e a → Fails e whole
+pub below_fails : (levels : ℕ) (blocks : List SeenModule) (inside : List (List ℕ)) (cell : ℕ) (a : Answer Stepped) (e : Option Fault) (whole : Answer Progress) → whole ≡ below levels blocks inside cell a → Fails e a → Fails e whole
 below_fails levels blocks inside cell a None whole h k = tt
 below_fails levels blocks inside cell a (Some e) whole h k = h ∙ ap (below levels blocks inside cell) k
 
-pub below_goes : (levels : ℕ) (blocks : List Block) (inside : List (List ℕ)) (cell : ℕ) (a : Answer Stepped) (w : Stepped) (whole : Answer Progress) → whole ≡ below levels blocks inside cell a → a ≡ Ok w
+pub below_goes : (levels : ℕ) (blocks : List SeenModule) (inside : List (List ℕ)) (cell : ℕ) (a : Answer Stepped) (w : Stepped) (whole : Answer Progress) → whole ≡ below levels blocks inside cell a → a ≡ Ok w
     → over (enter levels blocks inside (Some cell)) w.progress w.requests ≡ whole
 below_goes levels blocks inside cell a w whole h k = sym (h ∙ ap (below levels blocks inside cell) k)

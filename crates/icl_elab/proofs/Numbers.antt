@@ -8,7 +8,7 @@ use Rattle.std.proofs.lemmas.Slice.Eq.{bytes_eq-Decides}
 use Rattle.ij_text.specs.declared.Place.{Place}
 use Rattle.icl_syntax.specs.declared.tree.PortKind.{PortKind}
 use Rattle.icl_syntax.specs.declared.tree.PortKind.TheVariants.{ScanInPort, ScanOutPort, DataInPort, DataOutPort, SelectPort, CaptureEnPort, ShiftEnPort, UpdateEnPort, ResetPort, TCKPort, TMSPort, TRSTPort, ClockPort, ToSelectPort, ToCaptureEnPort, ToShiftEnPort, ToUpdateEnPort, ToResetPort, ToTCKPort, ToTMSPort, ToTRSTPort, ToClockPort, ToIRSelectPort}
-use Rattle.icl_syntax.specs.Values.{Signal, Row, Property, ASource, ALaunchEdge, ALoadValue, ARefEnum, APolarity, AScanInSource, ACaptureSource, AResetValue, ATogether, Instruction, Meaning, APort, ARegister, AMux, AChild, AnAlias, SomeWords, AParameter, AnInterface, ALink, AnAttribute}
+use Rattle.icl_syntax.specs.Values.{SeenSig, SeenRow, SeenProp, ASource, ALaunchEdge, ALoadValue, ARefEnum, APolarity, AScanInSource, ACaptureSource, AResetValue, ATogether, SeenLinkInstr, SeenWhat, APort, ARegister, AMux, AChild, AnAlias, SomeWords, AParameter, AnInterface, ALink, AnAttribute}
 use Rattle.icl_values.specs.Faults.{◌>>=◌, refuse_if, each, over, WrongKind, RowsOverlap}
 use Rattle.icl_elab.specs.Parts.{is_port, is_interface}
 use Rattle.icl_elab.specs.Ranges.{width}
@@ -62,7 +62,7 @@ known_child frames at cell name h e = by_child (child_cell frames cell name) ref
     by_child None f g = absurd cc
     by_child (Some c) f g = subst (IsHereInstance frames cell name) (ok_is (here_of c) h g) (child_is frames cell name c f)
 
-inside_child : (frames : List Frame) (here : Here) (at : Place) (name : List ℕ) (what : Meaning) (h : Here) → inside frames here at name what ≡ Ok h → IsHereInstance frames here.number name h
+inside_child : (frames : List Frame) (here : Here) (at : Place) (name : List ℕ) (what : SeenWhat) (h : Here) → inside frames here at name what ≡ Ok h → IsHereInstance frames here.number name h
 inside_child frames here at name (AChild module' binds) h e = known_child frames at here.number name h e
 inside_child frames here at name (APort kind range props) h e = absurd cc
 inside_child frames here at name (ARegister range props) h e = absurd cc
@@ -78,7 +78,7 @@ instance_frame : (frames : List Frame) (cell : ℕ) (name : List ℕ) (h : Here)
 instance_frame frames cell name h i = record { frame = h.frame; is = i.0; parent = i.1; named = i.2 }
 
 -- a part that passes a test
-pub record IsMemberThat (test : Meaning → Bool) (frame : Frame) (part : ℕ) : Type 0 where
+pub record IsMemberThat (test : SeenWhat → Bool) (frame : Frame) (part : ℕ) : Type 0 where
   pub member : Member
   pub is : slice_get (members frame) part ≡ Some member
   pub passes : test member.item.what ≡ true
@@ -107,7 +107,7 @@ module _ (frames : List Frame) (here : Here) where
       let t = find_passes (λ (n : Member). is_interface n.item.what && bytes_eq name n.item.name) (members frame) m e in
       record { member = m; is = member_there is_interface frame name m e; passes = (and_parts (is_interface m.item.what) (bytes_eq name m.item.name) t).0 }
 
-  selected_is : (at : Place) (i : Instruction) (s : Selection) → selection frames here at i ≡ Ok s → IsSelectedFrame frames here.number s
+  selected_is : (at : Place) (i : SeenLinkInstr) (s : Selection) → selection frames here at i ≡ Ok s → IsSelectedFrame frames here.number s
   unfolding instance_frame
   selected_is at i s h =
       let a = both (named here.frame at i.cell) _ s h in
@@ -126,7 +126,7 @@ module _ (frames : List Frame) (here : Here) where
   FrameNumbers m role = HasNumbers (IsInstanceFrame frames here.number m.item.name) (IsMemberThat is_port here.frame) (IsSelectedFrame frames here.number) role
 
   -- its numbers, and its kind
-  pub record IsFoundNumbered (m : Member) (what : Meaning) (f : Found) : Type 0 where
+  pub record IsFoundNumbered (m : Member) (what : SeenWhat) (f : Found) : Type 0 where
     pub numbers : FrameNumbers m f.role
     pub port : is_port what ≡ true → is_port_role f.role ≡ true
     pub interface : is_interface what ≡ true → is_interface_role f.role ≡ true
@@ -172,10 +172,10 @@ module _ (frames : List Frame) (here : Here) where
   abbrev IsPortRole : Role → Type 0
   IsPortRole role = is_port_role role ≡ true
 
-  control_kept : (role r : Role) (ss : List Signal) → IsPortRole role → (control_signals frames here ss >>= λ u. Ok role) ≡ Ok r → IsPortRole r
+  control_kept : (role r : Role) (ss : List SeenSig) → IsPortRole role → (control_signals frames here ss >>= λ u. Ok role) ≡ Ok r → IsPortRole r
   control_kept role r ss g h = let a = both (control_signals frames here ss) _ r h in subst IsPortRole (ok_is role r a.then') g
 
-  source_kept : (kind : PortKind) (m : Member) (role r : Role) (ss : List Signal) → IsPortRole role → source_role frames here kind m role ss ≡ Ok r → IsPortRole r
+  source_kept : (kind : PortKind) (m : Member) (role r : Role) (ss : List SeenSig) → IsPortRole role → source_role frames here kind m role ss ≡ Ok r → IsPortRole r
   source_kept ScanOutPort m role r ss g h = let a = both (first_scan frames here m.item.at ss) _ r h in subst IsPortRole (ok_is (ScanOutput (Some a.first)) r a.then') refl
   source_kept DataOutPort m role r ss g h = let a = both (data_signals frames here m.item.at (width m.bounds) ss) _ r h in subst IsPortRole (ok_is (DataOutput (Some a.first)) r a.then') refl
   source_kept ScanInPort m role r ss g h = control_kept role r ss g h
@@ -200,7 +200,7 @@ module _ (frames : List Frame) (here : Here) where
   source_kept ToClockPort m role r ss g h = control_kept role r ss g h
   source_kept ToIRSelectPort m role r ss g h = control_kept role r ss g h
 
-  prop_kept : (kind : PortKind) (m : Member) (f g : Found) (p : Property) → IsPortFound f → port_prop frames here kind m f p ≡ Ok g → IsPortFound g
+  prop_kept : (kind : PortKind) (m : Member) (f g : Found) (p : SeenProp) → IsPortFound f → port_prop frames here kind m f p ≡ Ok g → IsPortFound g
   unfolding port_prop
   prop_kept kind m f g (ASource ss) i h =
       let a = both (source_role frames here kind m f.role ss) _ g h in
@@ -244,7 +244,7 @@ module _ (frames : List Frame) (here : Here) where
   abbrev IsPlainFound : Found → Type 0
   IsPlainFound f = IsPlain f.role
 
-  alias_kept : (m : Member) (f g : Found) (p : Property) → IsPlainFound f → alias_prop frames here m f p ≡ Ok g → IsPlainFound g
+  alias_kept : (m : Member) (f g : Found) (p : SeenProp) → IsPlainFound f → alias_prop frames here m f p ≡ Ok g → IsPlainFound g
   unfolding alias_prop
   alias_kept m f g (ARefEnum name) i h = let a = both (words_named here.frame m name) _ g h in subst IsPlainFound (ok_is (record f { words = a.first }) g a.then') i
   alias_kept m f g (ASource x) i h = subst IsPlainFound (ok_is f g h) i
@@ -258,10 +258,10 @@ module _ (frames : List Frame) (here : Here) where
 
   -- ---- parts
 
-  plain_found : (m : Member) (what : Meaning) (f : Found) → is_port what ≡ false → is_interface what ≡ false → IsPlainFound f → IsFoundNumbered m what f
+  plain_found : (m : Member) (what : SeenWhat) (f : Found) → is_port what ≡ false → is_interface what ≡ false → IsPlainFound f → IsFoundNumbered m what f
   plain_found m what f a b p = record { numbers = plain_numbers m f.role p; port = λ e. absurd (true≢false (sym e ∙ a)); interface = λ e. absurd (true≢false (sym e ∙ b)) }
 
-  mux_plain : (at : Place) (select : List Signal) (rows : List Row) (role : Role) → mux_role frames here at select rows ≡ Ok role → IsPlain role
+  mux_plain : (at : Place) (select : List SeenSig) (rows : List SeenRow) (role : Role) → mux_role frames here at select rows ≡ Ok role → IsPlain role
   unfolding mux_role
   mux_plain at select rows role h =
       let a = both (select_signals frames here at select) _ role h in
@@ -269,7 +269,7 @@ module _ (frames : List Frame) (here : Here) where
       let c = both (refuse_if (some_meet b.first) (RowsOverlap at)) _ role b.then' in
       subst IsPlain (ok_is (AScanMux a.first b.first) role c.then') tt
 
-  found_is : (m : Member) (what : Meaning) (f : Found) → found_at frames here m what ≡ Ok f → IsFoundNumbered m what f
+  found_is : (m : Member) (what : SeenWhat) (f : Found) → found_at frames here m what ≡ Ok f → IsFoundNumbered m what f
   found_is m (APort kind range props) f h =
       let p = over_all (port_prop frames here kind m) IsPortFound (λ x y q g e. prop_kept kind m x y q g e) (found (port_role frames here kind)) f props (kind_is kind) h in
       record { numbers = plain_numbers m f.role (port_plain f.role p); port = λ e. p; interface = λ e. absurd cc }

@@ -11,8 +11,8 @@ use Rattle.icl_syntax.specs.declared.words.Owner.{Owner}
 use Rattle.icl_syntax.specs.declared.words.Owner.TheVariants.{ScanIn, ScanOut, DataIn, DataOut, Control, Register, Alias}
 use Rattle.icl_syntax.specs.declared.words.PropWord.{PropWord}
 use Rattle.icl_syntax.specs.declared.words.PropWord.TheVariants.{Source, LaunchEdge, DefaultLoadValue, RefEnum, ActivePolarity, ScanInSource, CaptureSource, ResetValue, AccessTogether, Attribute}
-use Rattle.icl_syntax.specs.Tokens.{Tok, if_word, if_mark, is_mark}
-use Rattle.icl_syntax.specs.Values.{Property, ASource, ALaunchEdge, ALoadValue, ARefEnum, APolarity, AScanInSource, ACaptureSource, AResetValue, ATogether}
+use Rattle.icl_syntax.specs.Tokens.{SeenToken, if_word, if_mark, is_mark}
+use Rattle.icl_syntax.specs.Values.{SeenProp, ASource, ALaunchEdge, ALoadValue, ARefEnum, APolarity, AScanInSource, ACaptureSource, AResetValue, ATogether}
 use Rattle.icl_syntax.specs.Grammar.{Of, mark, maybe, expr_behind, ended_by, sources, free_word, free_prop_at, attribute_said, decimal_token, prop_behind, property, with_property, lacks, body_end, body}
 use Rattle.icl_parser.specs.Reading.{Reading, gives, any, is_name, no_close, read_mark, read_maybe, read_ended, read_expr_behind, read_attribute_said, read_sources, read_prop_behind, read_free_prop, read_property, read_properties, read_unless, read_body_end, read_braced_body, read_body}
 use Rattle.icl_parser.proofs.Tokens.{nothing, marks, both_false, marks_apart, mark_apart, no_mark_closes}
@@ -69,7 +69,7 @@ prop_ended_reads owner ResetValue = ended_reads 59 (made_reads (λ v. Some (ARes
 prop_ended_reads owner AccessTogether = alone_reads (Some ATogether)
 prop_ended_reads owner Attribute = ended_reads 59 (made_reads (λ a. None) attribute_said_reads) (λ t h. marks_apart 59 (61 ∷ sign_marks) refl t h)
 
-free_prop_reads : (owner : Owner) (ps : List Property) → Reads {W = Limit} (one (free_prop_at owner ps)) no_close nothing false (read_free_prop owner ps)
+free_prop_reads : (owner : Owner) (ps : List SeenProp) → Reads {W = Limit} (one (free_prop_at owner ps)) no_close nothing false (read_free_prop owner ps)
 free_prop_reads owner ps = wider_reads (one_reads Limit (free_prop_at owner ps)) no_close nothing (λ t h. no_mark_closes t (by_kind t.kind _ h)) (λ t h. refl)
   where
     by_kind : (k : TokenKind) (o : Option PropWord) → is_some (free_word owner ps (if_word k o None)) ≡ true → if_mark k false true ≡ true
@@ -80,17 +80,17 @@ free_prop_reads owner ps = wider_reads (one_reads Limit (free_prop_at owner ps))
     by_kind Param o h = absurd cc
     by_kind Mark o h = absurd cc
 
-pub property_reads : (owner : Owner) (ps : List Property) → Reads (property owner ps) no_close nothing false (read_property owner ps)
+pub property_reads : (owner : Owner) (ps : List SeenProp) → Reads (property owner ps) no_close nothing false (read_property owner ps)
 unfolding property read_property
 property_reads owner ps = then_reads (λ w. ended_by 59 (prop_behind owner w)) any nothing false (λ w. read_ended 59 (read_prop_behind owner w)) (free_prop_reads owner ps) (λ w. prop_ended_reads owner w) (λ t h. refl)
 
 -- ---- bodies
 
-pub unless_reads : {A : Type 0} (b : Bool) {S : Of A} {first more : Tok → Bool} {r : Reading A} → Reads S first more false r → Reads (cond b none S) first more false (read_unless b r)
+pub unless_reads : {A : Type 0} (b : Bool) {S : Of A} {first more : SeenToken → Bool} {r : Reading A} → Reads S first more false r → Reads (cond b none S) first more false (read_unless b r)
 unless_reads true {S} {first} {more} {r} law = wider_reads none_reads first more (λ t h. absurd cc) (λ t h. refl)
 unless_reads false law = law
 
-body_end_reads : (owner : Owner) (ps : List Property) (c : ℕ) → Reads (body_end owner ps c) (is_mark c) nothing false (read_body_end owner ps c)
+body_end_reads : (owner : Owner) (ps : List SeenProp) (c : ℕ) → Reads (body_end owner ps c) (is_mark c) nothing false (read_body_end owner ps c)
 unfolding read_body_end
 body_end_reads owner ps c = unless_reads (lacks owner ps) (made_reads (λ e. ps) (mark_reads c))
 
@@ -118,6 +118,6 @@ body_reads owner =
 
 -- ---- where the loop of properties begins
 
-pub properties_start : (owner : Owner) (ps : List Property) (ts : List Tok) → ps ≡ [] → read_repeat no_close (read_property owner) with_property ps ts ≡ read_properties owner ts
+pub properties_start : (owner : Owner) (ps : List SeenProp) (ts : List SeenToken) → ps ≡ [] → read_repeat no_close (read_property owner) with_property ps ts ≡ read_properties owner ts
 unfolding read_properties
 properties_start owner ps ts e = rw e refl

@@ -12,8 +12,8 @@ use Rattle.icl_syntax.specs.declared.words.ItemWord.{ItemWord}
 use Rattle.icl_syntax.specs.declared.words.ItemWord.TheVariants.{OfPort, OfRegister, OfMux, OfChild, OfAlias, OfEnum, OfParameter, OfAttribute, OfInterface, OfLink}
 use Rattle.icl_syntax.specs.declared.words.MemberWord.{MemberWord}
 use Rattle.icl_syntax.specs.declared.words.MemberWord.TheVariants.{MemberPort, MemberAttribute}
-use Rattle.icl_syntax.specs.Tokens.{Tok, if_word, if_mark, is_mark}
-use Rattle.icl_syntax.specs.Values.{Instruction, SomeWords, AnInterface, ALink, Block}
+use Rattle.icl_syntax.specs.Tokens.{SeenToken, if_word, if_mark, is_mark}
+use Rattle.icl_syntax.specs.Values.{SeenLinkInstr, SomeWords, AnInterface, ALink, SeenModule}
 use Rattle.icl_syntax.specs.Grammar.{mark, name, value, ended_by, appended}
 use Rattle.icl_syntax.specs.Modules.{braced, enum_word, words, member_word_at, member_behind, member, with_member, interface, selected, selecting, instruction, link_kind_at, entity, link, item_begun, item_begin_at, meaning_behind, item, module_of, design}
 use Rattle.icl_parser.specs.Reading.{gives, any, is_name, no_close, read_mark, read_ended, read_enum_word, read_many_words, read_words, read_member_word, read_member_behind, read_member, read_members, read_interface, read_selected, read_selecting, read_instruction, read_instructions, read_entity, read_link_kind, read_link, read_item_begin, read_meaning_behind, read_item, read_items, read_module, read_design}
@@ -24,7 +24,7 @@ use Rattle.icl_parser.proofs.BodyLaws.{attribute_said_reads}
 use Rattle.icl_parser.proofs.ItemLaws.{word_reads, braced_reads, port_reads, register_reads, alias_reads, parameter_reads, attribute_reads, mux_reads, child_reads}
 use Rattle.icl_parser.proofs.Lists.{parts_then_reads, ended_reads}
 
-name_closes : (t : Tok) → is_name t ≡ true → no_close t ≡ true
+name_closes : (t : SeenToken) → is_name t ≡ true → no_close t ≡ true
 name_closes t h = no_mark_closes t (by_kind t.kind h)
   where
     by_kind : (k : TokenKind) → if_word k true false ≡ true → if_mark k false true ≡ true
@@ -131,7 +131,7 @@ link_reads =
     (λ of. then_reads (λ k. mark 123 >>= λ o. entity >>= λ e. many instruction >>= λ is. mark 125 >>= λ c. give (ALink k e is)) (is_mark 123) nothing false _ link_kind_reads
     (λ k. then_reads (λ o. entity >>= λ e. many instruction >>= λ is. mark 125 >>= λ c. give (ALink k e is)) any nothing false _ (mark_reads 123)
     (λ o. then_reads (λ e. many instruction >>= λ is. mark 125 >>= λ c. give (ALink k e is)) any nothing false _ entity_reads
-    (λ e. parts_then_reads (λ (is : List Instruction). instruction) appended (λ is. read_instruction) (λ is. instruction_reads) [] (λ is. mark 125 >>= λ c. give (ALink k e is)) (λ is. read_in_turn (read_mark 125) (λ c. gives (ALink k e is))) (λ is. made_reads (λ c. ALink k e is) (mark_reads 125)))
+    (λ e. parts_then_reads (λ (is : List SeenLinkInstr). instruction) appended (λ is. read_instruction) (λ is. instruction_reads) [] (λ is. mark 125 >>= λ c. give (ALink k e is)) (λ is. read_in_turn (read_mark 125) (λ c. gives (ALink k e is))) (λ is. made_reads (λ c. ALink k e is) (mark_reads 125)))
     (λ t h. refl))
     (λ t h. refl))
     (λ t h. refl))
@@ -181,4 +181,4 @@ module_reads =
 
 pub design_reads : Reads design any any true read_design
 unfolding design read_design
-design_reads = wider_reads (repeat_reads (λ (bs : List Block). module_of) appended any nothing (λ bs. read_module) (λ bs. module_reads) (λ t h. refl) []) any any (λ t h. h) (λ t h. absurd cc)
+design_reads = wider_reads (repeat_reads (λ (bs : List SeenModule). module_of) appended any nothing (λ bs. read_module) (λ bs. module_reads) (λ t h. refl) []) any any (λ t h. h) (λ t h. absurd cc)

@@ -13,8 +13,8 @@ use Rattle.icl_syntax.specs.declared.words.BindWord.{BindWord}
 use Rattle.icl_syntax.specs.declared.words.BindWord.TheVariants.{BindsPort, BindsParameter, BindsAttribute}
 use Rattle.icl_syntax.specs.declared.words.Owner.{Owner}
 use Rattle.icl_syntax.specs.declared.words.Owner.TheVariants.{ScanIn, ScanOut, DataIn, DataOut, Control, Register, Alias}
-use Rattle.icl_syntax.specs.Tokens.{Tok, if_word, if_mark, is_mark, word_at}
-use Rattle.icl_syntax.specs.Values.{Row, ABoundPort, ABoundParameter, ABoundAttribute, APort, ARegister, AMux, AChild, AnAlias, AParameter, AnAttribute}
+use Rattle.icl_syntax.specs.Tokens.{SeenToken, if_word, if_mark, is_mark, word_at}
+use Rattle.icl_syntax.specs.Values.{SeenRow, ABoundPort, ABoundParameter, ABoundAttribute, APort, ARegister, AMux, AChild, AnAlias, AParameter, AnAttribute}
 use Rattle.icl_syntax.specs.Grammar.{Of, mark, word, name, value, maybe, expr_behind, ended_by, appended, parted, range, sig, sigs, body}
 use Rattle.icl_syntax.specs.Modules.{owner_of, port_range, port, register, alias, parameter, attribute, row, rows, mux, begun_by, bind_begin_at, bound_port, bound_parameter, bound_attribute, bind_behind, bind, braced, binds, child}
 use Rattle.icl_parser.specs.Reading.{Reading, gives, any, is_name, no_close, read_mark, read_word, read_maybe, read_ended, read_many, read_braced, read_expr_behind, read_range, read_port_range, read_port, read_register, read_alias, read_parameter, read_attribute, read_values, read_row, read_rows, read_mux, read_bind_begin, read_bound_port, read_bound_parameter, read_bound_attribute, read_bind_behind, read_bind, read_many_binds, read_braced_binds, read_binds, read_child}
@@ -39,7 +39,7 @@ port_range_reads Register = maybe_range_reads
 port_range_reads Alias = maybe_range_reads
 
 -- a body doesn't begin as a range does, nor as signals go on
-body_no : (ds : List ℕ) → marks ds ≡ marks ds → (t : Tok) → (is_mark 59 t ≡ true → marks ds t ≡ false) → (is_mark 123 t ≡ true → marks ds t ≡ false) → marks body_marks t ≡ true → marks ds t ≡ false
+body_no : (ds : List ℕ) → marks ds ≡ marks ds → (t : SeenToken) → (is_mark 59 t ≡ true → marks ds t ≡ false) → (is_mark 123 t ≡ true → marks ds t ≡ false) → marks body_marks t ≡ true → marks ds t ≡ false
 body_no ds e t f g h = by_cases (is_mark 59 t) (is_mark 123 t) f g h
   where
     by_cases : (a b : Bool) → (a ≡ true → marks ds t ≡ false) → (b ≡ true → marks ds t ≡ false) → a || (b || false) ≡ true → marks ds t ≡ false
@@ -47,10 +47,10 @@ body_no ds e t f g h = by_cases (is_mark 59 t) (is_mark 123 t) f g h
     by_cases false true f g h = g refl
     by_cases false false f g h = absurd cc
 
-body_no_range : (t : Tok) → marks body_marks t ≡ true → is_mark 91 t ≡ false
+body_no_range : (t : SeenToken) → marks body_marks t ≡ true → is_mark 91 t ≡ false
 body_no_range t h = left_false (is_mark 91 t) false (body_no (91 ∷ []) refl t (marks_apart 59 (91 ∷ []) refl t) (marks_apart 123 (91 ∷ []) refl t) h)
 
-body_no_sigs : (t : Tok) → marks body_marks t ≡ true → marks sigs_marks t ≡ false
+body_no_sigs : (t : SeenToken) → marks body_marks t ≡ true → marks sigs_marks t ≡ false
 body_no_sigs t h = body_no sigs_marks refl t (marks_apart 59 sigs_marks refl t) (marks_apart 123 sigs_marks refl t) h
 
 pub port_reads : (kind : PortKind) → Reads (port kind) any nothing false (read_port kind)
@@ -119,11 +119,11 @@ pub rows_reads : Reads rows no_close no_close false read_rows
 unfolding rows read_rows
 rows_reads =
     wider_reads
-    (then_reads (λ first. repeat (λ (rs : List Row). row) appended (first ∷ [])) no_close (λ t. no_close t || false) true _ row_reads (λ first. parts_reads (λ (rs : List Row). row) appended (λ rs. read_row) (λ rs. row_reads) (first ∷ [])) (λ t h. refl))
+    (then_reads (λ first. repeat (λ (rs : List SeenRow). row) appended (first ∷ [])) no_close (λ t. no_close t || false) true _ row_reads (λ first. parts_reads (λ (rs : List SeenRow). row) appended (λ rs. read_row) (λ rs. row_reads) (first ∷ [])) (λ t h. refl))
     no_close no_close (λ t h. h) (λ t h. both_false _ _ (both_false _ _ h refl) refl)
 
 -- a `}` closes
-closes : (t : Tok) → is_mark 125 t ≡ true → no_close t ≡ false
+closes : (t : SeenToken) → is_mark 125 t ≡ true → no_close t ≡ false
 closes t h = rw h refl
 
 pub mux_reads : Reads mux any nothing false read_mux

@@ -8,7 +8,7 @@ use Rattle.icl_lexer.specs.declared.token.TokenKind.{TokenKind}
 use Rattle.icl_lexer.specs.declared.token.TokenKind.TheVariants.{Word, Decimal, Sized, Quoted, Param, Mark}
 use Rattle.ij_text.specs.declared.Place.{Place}
 use Rattle.icl_syntax.specs.declared.words.Limit.{Limit}
-use Rattle.icl_syntax.specs.Tokens.{Tok, if_word, if_mark, is_mark, name_at}
+use Rattle.icl_syntax.specs.Tokens.{SeenToken, if_word, if_mark, is_mark, name_at}
 use Rattle.icl_syntax.specs.Values.{APath}
 use Rattle.icl_syntax.specs.Grammar.{Of, mark, name, expr, value, maybe, expr_behind, range, number_of, number_located, number_at, Named, named_at, path_behind, named_sig, plain_sig, sig, sigs}
 use Rattle.icl_parser.specs.Reading.{Reading, gives, any, is_name, no_close, read_name, read_maybe, read_value, read_expr_behind, read_range, read_number, read_path_behind, read_named_behind, read_named_sig, read_plain_sig, read_inverted, read_straight, read_sig, read_sigs}
@@ -27,7 +27,7 @@ unfolding read_expr_behind
 expr_behind_reads c = after_reads c expr_reads
 
 -- what begins with a mark, if the mark is there
-pub maybe_reads : {A : Type 0} (c : ℕ) {S : Of A} (more : Tok → Bool) {r : Reading A} → Reads S (is_mark c) more false r → Reads (maybe S) (is_mark c) (λ t. is_mark c t || more t) true (read_maybe c r)
+pub maybe_reads : {A : Type 0} (c : ℕ) {S : Of A} (more : SeenToken → Bool) {r : Reading A} → Reads S (is_mark c) more false r → Reads (maybe S) (is_mark c) (λ t. is_mark c t || more t) true (read_maybe c r)
 maybe_reads {A} c {S} more {r} law =
     wider_reads
     (either_reads (S >>= λ a. give (Some a)) (give None) (is_mark c) more nothing nothing true (read_in_turn r (λ a. gives (Some a))) (gives None)
@@ -122,7 +122,7 @@ named_reads =
     is_name (marks path_marks) (λ t h. h) (λ t h. both_false _ _ h refl)
 
 -- a token that is neither a word nor a mark
-abbrev pub is_value : Tok → Bool
+abbrev pub is_value : SeenToken → Bool
 is_value t = if_word t.kind false (no_mark t)
 
 number_reads : Reads {W = Limit} (one number_at) is_value nothing false read_number

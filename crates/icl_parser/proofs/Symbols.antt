@@ -10,20 +10,20 @@ use Rattle.icl_lexer.specs.declared.token.TokenKind.TheVariants.{Word, Decimal, 
 use Rattle.ij_text.specs.declared.Place.{Place}
 use Rattle.icl_syntax.specs.declared.words.Limit.{Limit}
 use Rattle.icl_syntax.specs.declared.words.Limit.TheVariants.{OfExpression}
-use Rattle.icl_syntax.specs.Tokens.{Tok, if_mark, is_mark, mark_at}
+use Rattle.icl_syntax.specs.Tokens.{SeenToken, if_mark, is_mark, mark_at}
 use Rattle.icl_syntax.specs.Grammar.{Of, mark, Counted, leaf_of, leaf_at, Signed, sum_sign, product_sign, too_many, operator, operand, with_operand, chain, in_parentheses, too_deep, factor, term, sum_of, expr}
 use Rattle.icl_parser.specs.Reading.{Reading, gives, is_sign, no_close, read_mark, read_leaf, operator_of, read_operator, read_operand, read_chain, read_parentheses, read_factor, read_term, read_sum, read_expr}
 use Rattle.icl_parser.proofs.Tokens.{nothing, no_mark, marks, some_cond, either_true, both_false, right_false, marks_apart, no_mark_is, no_mark_closes, mark_closes}
 
 -- ---- a reader that reads the same
 
-pub same_reads : {A : Type 0} {S : Of A} {first more : Tok → Bool} {nullable : Bool} {r : Reading A} (r' : Reading A) → ((ts : List Tok) → r ts ≡ r' ts) → Reads S first more nullable r → Reads S first more nullable r'
+pub same_reads : {A : Type 0} {S : Of A} {first more : SeenToken → Bool} {nullable : Bool} {r : Reading A} (r' : Reading A) → ((ts : List SeenToken) → r ts ≡ r' ts) → Reads S first more nullable r → Reads S first more nullable r'
 same_reads {A} {S} {first} {more} {nullable} r' h law = subst (λ q. Reads S first more nullable q) (fun_ext h) law
 
 -- ---- one part after another, told by the laws of the parts
 
-pub then_reads : {A B : Type 0} {S : Of A} {firstS moreS : Tok → Bool} {r : Reading A} (next : A → Of B) (firstN moreN : Tok → Bool) (nullN : Bool) (rn : A → Reading B)
-    → Reads S firstS moreS false r → ((a : A) → Reads (next a) firstN moreN nullN (rn a)) → ((t : Tok) → firstN t ≡ true → moreS t ≡ false)
+pub then_reads : {A B : Type 0} {S : Of A} {firstS moreS : SeenToken → Bool} {r : Reading A} (next : A → Of B) (firstN moreN : SeenToken → Bool) (nullN : Bool) (rn : A → Reading B)
+    → Reads S firstS moreS false r → ((a : A) → Reads (next a) firstN moreN nullN (rn a)) → ((t : SeenToken) → firstN t ≡ true → moreS t ≡ false)
     → Reads (S >>= next) firstS (λ t. cond nullN (moreN t || moreS t) (moreN t)) false (read_in_turn r rn)
 then_reads {A} {B} {S} {firstS} {moreS} {r} next firstN moreN nullN rn law laws apart = turn_reads S next firstS moreS firstN moreN false nullN r rn law laws apart
 
@@ -31,7 +31,7 @@ pub mark_reads : (c : ℕ) → Reads (mark c) (is_mark c) nothing false (read_ma
 mark_reads c = wider_reads (one_reads Limit (mark_at c)) (is_mark c) nothing (λ t h. some_cond (is_mark c t) t.at h) (λ t h. refl)
 
 -- a part, and a value made of it
-pub made_reads : {A B : Type 0} {S : Of A} {first more : Tok → Bool} {r : Reading A} (make : A → B) → Reads S first more false r → Reads (S >>= λ a. give (make a)) first more false (read_in_turn r (λ a. gives (make a)))
+pub made_reads : {A B : Type 0} {S : Of A} {first more : SeenToken → Bool} {r : Reading A} (make : A → B) → Reads S first more false r → Reads (S >>= λ a. give (make a)) first more false (read_in_turn r (λ a. gives (make a)))
 made_reads {A} {B} {S} {first} {more} {r} make law =
     turn_reads S (λ a. give (make a)) first more nothing nothing false true r (λ a. gives (make a)) law (λ a. give_reads (make a)) (λ t h. absurd cc)
 
@@ -41,7 +41,7 @@ bars_sign : (o : Option Signed) → is_some (too_many o) ≡ true → is_some o 
 bars_sign None h = absurd cc
 bars_sign (Some s) h = refl
 
-operator_zero : (lone : Bool) (sign : Tok → Option Signed) (ts : List Tok) → read_barred (λ t. too_many (sign t)) ts ≡ read_operator 0 lone sign ts
+operator_zero : (lone : Bool) (sign : SeenToken → Option Signed) (ts : List SeenToken) → read_barred (λ t. too_many (sign t)) ts ≡ read_operator 0 lone sign ts
 unfolding read_operator
 operator_zero lone sign [] = refl
 operator_zero lone sign (t ∷ ts) = by_cases (sign t)
@@ -50,7 +50,7 @@ operator_zero lone sign (t ∷ ts) = by_cases (sign t)
     by_cases None = refl
     by_cases (Some s) = refl
 
-operator_lone : (spare : ℕ) (sign : Tok → Option Signed) (ts : List Tok) → Err (length ts, None) ≡ read_operator (suc spare) true sign ts
+operator_lone : (spare : ℕ) (sign : SeenToken → Option Signed) (ts : List SeenToken) → Err (length ts, None) ≡ read_operator (suc spare) true sign ts
 unfolding read_operator
 operator_lone spare sign [] = refl
 operator_lone spare sign (t ∷ ts) = by_cases (sign t)
@@ -59,7 +59,7 @@ operator_lone spare sign (t ∷ ts) = by_cases (sign t)
     by_cases None = refl
     by_cases (Some s) = refl
 
-operator_there : (spare : ℕ) (sign : Tok → Option Signed) (ts : List Tok) → read_one sign ts ≡ read_operator (suc spare) false sign ts
+operator_there : (spare : ℕ) (sign : SeenToken → Option Signed) (ts : List SeenToken) → read_one sign ts ≡ read_operator (suc spare) false sign ts
 unfolding read_operator
 operator_there spare sign [] = refl
 operator_there spare sign (t ∷ ts) = by_cases (sign t)
@@ -68,7 +68,7 @@ operator_there spare sign (t ∷ ts) = by_cases (sign t)
     by_cases None = refl
     by_cases (Some s) = refl
 
-pub operator_reads : (spare : ℕ) (lone : Bool) (sign : Tok → Option Signed) → Reads (operator spare lone sign) (is_sign sign) nothing false (read_operator spare lone sign)
+pub operator_reads : (spare : ℕ) (lone : Bool) (sign : SeenToken → Option Signed) → Reads (operator spare lone sign) (is_sign sign) nothing false (read_operator spare lone sign)
 operator_reads zero lone sign =
     same_reads (read_operator 0 lone sign) (operator_zero lone sign)
     (wider_reads (barred_reads Signed (λ t. too_many (sign t))) (is_sign sign) nothing (λ t h. bars_sign (sign t) h) (λ t h. refl))
@@ -77,9 +77,9 @@ operator_reads (suc spare) false sign = same_reads (read_operator (suc spare) fa
 
 -- ---- chains
 
-module _ (head part : ℕ → Of Counted) (rh rp : ℕ → Reading Counted) (sign : Tok → Option Signed) (first more : Tok → Bool)
+module _ (head part : ℕ → Of Counted) (rh rp : ℕ → Reading Counted) (sign : SeenToken → Option Signed) (first more : SeenToken → Bool)
     (law_head : (used : ℕ) → Reads (head used) first more false (rh used)) (law : (used : ℕ) → Reads (part used) first more false (rp used))
-    (apart : (t : Tok) → is_sign sign t ≡ true → more t ≡ false) where
+    (apart : (t : SeenToken) → is_sign sign t ≡ true → more t ≡ false) where
   pub operand_reads : (a : Counted) → Reads (operand part sign a) (is_sign sign) more false (read_operand rp sign a)
   unfolding read_operand
   operand_reads a =
@@ -113,7 +113,7 @@ leaf_kind alone used Quoted at text h = refl
 leaf_kind alone used Param at text h = refl
 leaf_kind alone used Mark at text h = absurd cc
 
-leaf_no_mark : (alone : Bool) (used : ℕ) (t : Tok) → is_some (leaf_at alone used t) ≡ true → no_mark t ≡ true
+leaf_no_mark : (alone : Bool) (used : ℕ) (t : SeenToken) → is_some (leaf_at alone used t) ≡ true → no_mark t ≡ true
 leaf_no_mark alone used t h = leaf_kind alone used t.kind t.at t.text h
 
 -- `+` and `-`
@@ -140,14 +140,14 @@ three_signs false true r a b c h = absurd cc
 three_signs false false true a b c h = absurd cc
 three_signs false false false a b c h = refl
 
-no_sum : (t : Tok) → marks sum_marks t ≡ false → is_sign sum_sign t ≡ false
+no_sum : (t : SeenToken) → marks sum_marks t ≡ false → is_sign sum_sign t ≡ false
 no_sum t h = two_signs (is_mark 43 t) (is_mark 45 t) _ _ h
 
-no_product : (t : Tok) → marks product_marks t ≡ false → is_sign product_sign t ≡ false
+no_product : (t : SeenToken) → marks product_marks t ≡ false → is_sign product_sign t ≡ false
 no_product t h = three_signs (is_mark 42 t) (is_mark 47 t) (is_mark 37 t) _ _ _ h
 
 -- a sign of a sum is none of a product
-sum_no_product : (t : Tok) → is_sign sum_sign t ≡ true → is_sign product_sign t ≡ false
+sum_no_product : (t : SeenToken) → is_sign sum_sign t ≡ true → is_sign product_sign t ≡ false
 sum_no_product t h = no_product t (by_signs (is_mark 43 t) (is_mark 45 t) _ _ h (marks_apart 43 product_marks refl t) (marks_apart 45 product_marks refl t))
   where
     by_signs : (p m : Bool) (a b : Signed) → is_some (cond p (Some a) (cond m (Some b) None)) ≡ true → (p ≡ true → marks product_marks t ≡ false) → (m ≡ true → marks product_marks t ≡ false) → marks product_marks t ≡ false
@@ -158,17 +158,17 @@ sum_no_product t h = no_product t (by_signs (is_mark 43 t) (is_mark 45 t) _ _ h 
 -- ---- factors and expressions
 
 -- by which an expression begins: anything that isn't `}`
-abbrev pub more_term : Tok → Bool
+abbrev pub more_term : SeenToken → Bool
 more_term t = is_sign product_sign t || false
 
-abbrev pub more_sum : Tok → Bool
+abbrev pub more_sum : SeenToken → Bool
 more_sum t = is_sign sum_sign t || (is_sign product_sign t || false)
 
 -- `+`, `-`, `*`, `/` and `%`
 abbrev pub sign_marks : List ℕ
 sign_marks = 43 ∷ 45 ∷ 42 ∷ 47 ∷ 37 ∷ []
 
-pub sum_ends : (t : Tok) → marks sign_marks t ≡ false → more_sum t ≡ false
+pub sum_ends : (t : SeenToken) → marks sign_marks t ≡ false → more_sum t ≡ false
 sum_ends t h =
     let two : marks sum_marks t ≡ false = front (is_mark 43 t) (is_mark 45 t) _ h in
     let three : marks product_marks t ≡ false = right_false (is_mark 45 t) _ (right_false (is_mark 43 t) _ h) in
@@ -179,7 +179,7 @@ sum_ends t h =
     front false true r h = h
     front false false r h = refl
 
-pub sum_apart : (t : Tok) → is_sign sum_sign t ≡ true → more_term t ≡ false
+pub sum_apart : (t : SeenToken) → is_sign sum_sign t ≡ true → more_term t ≡ false
 sum_apart t h = both_false _ _ (sum_no_product t h) refl
 
 parentheses_reads : (whole : ℕ → Of Counted) (rw' : ℕ → Reading Counted) → ((used : ℕ) → Reads (whole used) no_close more_sum false (rw' used)) → (used : ℕ) → Reads (in_parentheses whole used) (is_mark 40) nothing false (read_parentheses rw' used)

@@ -4,18 +4,18 @@ use Rattle.std.proofs.lemmas.Bool.{eqb-true}
 use Rattle.std.specs.Prelude.{◌||◌}
 use Rattle.icl_lexer.specs.declared.token.TokenKind.{TokenKind}
 use Rattle.icl_lexer.specs.declared.token.TokenKind.TheVariants.{Word, Decimal, Sized, Quoted, Param, Mark}
-use Rattle.icl_syntax.specs.Tokens.{Tok, if_word, if_mark, is_byte, is_mark}
+use Rattle.icl_syntax.specs.Tokens.{SeenToken, if_word, if_mark, is_byte, is_mark}
 use Rattle.icl_parser.specs.Reading.{no_close}
 
-abbrev pub nothing : Tok → Bool
+abbrev pub nothing : SeenToken → Bool
 nothing t = false
 
 -- a token that isn't a mark
-abbrev pub no_mark : Tok → Bool
+abbrev pub no_mark : SeenToken → Bool
 no_mark t = if_mark t.kind false true
 
 -- one of some marks
-abbrev pub marks : List ℕ → Tok → Bool
+abbrev pub marks : List ℕ → SeenToken → Bool
 marks [] t = false
 marks (c ∷ cs) t = is_mark c t || marks cs t
 
@@ -59,7 +59,7 @@ kinds_apart Quoted c d ne text h = absurd cc
 kinds_apart Param c d ne text h = absurd cc
 kinds_apart Mark c d ne text h = byte_apart c d ne text h
 
-pub mark_apart : (c d : ℕ) → eqb c d ≡ false → (t : Tok) → is_mark c t ≡ true → is_mark d t ≡ false
+pub mark_apart : (c d : ℕ) → eqb c d ≡ false → (t : SeenToken) → is_mark c t ≡ true → is_mark d t ≡ false
 mark_apart c d ne t h = kinds_apart t.kind c d ne t.text h
 
 -- whether a mark is none of some
@@ -75,7 +75,7 @@ none_rest : (b r : Bool) → cond b false r ≡ true → r ≡ true
 none_rest true r h = absurd cc
 none_rest false r h = h
 
-pub marks_apart : (c : ℕ) (ds : List ℕ) → is_none_of c ds ≡ true → (t : Tok) → is_mark c t ≡ true → marks ds t ≡ false
+pub marks_apart : (c : ℕ) (ds : List ℕ) → is_none_of c ds ≡ true → (t : SeenToken) → is_mark c t ≡ true → marks ds t ≡ false
 marks_apart c [] n t h = refl
 marks_apart c (d ∷ ds) n t h = both_false _ _ (mark_apart c d (none_first _ _ n) t h) (marks_apart c ds (none_rest _ _ n) t h)
 
@@ -89,13 +89,13 @@ no_mark_kind Quoted b h = refl
 no_mark_kind Param b h = refl
 no_mark_kind Mark b h = absurd cc
 
-pub no_mark_is : (c : ℕ) (t : Tok) → no_mark t ≡ true → is_mark c t ≡ false
+pub no_mark_is : (c : ℕ) (t : SeenToken) → no_mark t ≡ true → is_mark c t ≡ false
 no_mark_is c t h = no_mark_kind t.kind (is_byte c t.text) h
 
-pub no_mark_closes : (t : Tok) → no_mark t ≡ true → no_close t ≡ true
+pub no_mark_closes : (t : SeenToken) → no_mark t ≡ true → no_close t ≡ true
 no_mark_closes t h = rw (no_mark_is 125 t h) refl
 
-pub mark_closes : (c : ℕ) → eqb c 125 ≡ false → (t : Tok) → is_mark c t ≡ true → no_close t ≡ true
+pub mark_closes : (c : ℕ) → eqb c 125 ≡ false → (t : SeenToken) → is_mark c t ≡ true → no_close t ≡ true
 mark_closes c ne t h = rw (mark_apart c 125 ne t h) refl
 
 word_kind : {A : Type 0} (k : TokenKind) (o : Option A) → is_some (if_word k o None) ≡ true → if_mark k false true ≡ true
@@ -106,5 +106,5 @@ word_kind Quoted o h = absurd cc
 word_kind Param o h = absurd cc
 word_kind Mark o h = absurd cc
 
-pub word_no_mark : {A : Type 0} (o : Option A) (t : Tok) → is_some (if_word t.kind o None) ≡ true → no_mark t ≡ true
+pub word_no_mark : {A : Type 0} (o : Option A) (t : SeenToken) → is_some (if_word t.kind o None) ≡ true → no_mark t ≡ true
 word_no_mark o t h = word_kind t.kind o h

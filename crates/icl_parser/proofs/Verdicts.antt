@@ -9,8 +9,8 @@ use Rattle.grammar.specs.Refusal.{Refused}
 use Rattle.grammar.proofs.Laws.{ok_is}
 use Rattle.grammar.proofs.Verdicts.{found, only, refused}
 use Rattle.icl_syntax.specs.declared.words.Limit.{Limit}
-use Rattle.icl_syntax.specs.Tokens.{Tok}
-use Rattle.icl_syntax.specs.Values.{Block}
+use Rattle.icl_syntax.specs.Tokens.{SeenToken}
+use Rattle.icl_syntax.specs.Values.{SeenModule}
 use Rattle.icl_syntax.specs.Grammar.{appended}
 use Rattle.icl_syntax.specs.Modules.{module_of, design}
 use Rattle.icl_parser.specs.declared.fault.ParseFault.{ParseFault}
@@ -36,65 +36,65 @@ pub begins_none : (ls : List Lexeme) → (length ls == 0) ≡ true → begins an
 begins_none [] h = refl
 begins_none (l ∷ ls) h = let k : suc (length ls) ≡ 0 = eqb-true (suc (length ls)) 0 h in absurd (omega (arith, k))
 
-pub modules_go_on : (bs : List Block) (ts : List Tok) (x : List Block × List Tok) → begins any ts ≡ true → read_put read_module appended bs ts ≡ Ok x → more_modules x.0 x.1 ≡ more_modules bs ts
-modules_go_on = go_on (λ (bs : List Block). module_of) appended any nothing (λ bs. read_module) (λ bs. module_reads) (λ t h. refl)
+pub modules_go_on : (bs : List SeenModule) (ts : List SeenToken) (x : List SeenModule × List SeenToken) → begins any ts ≡ true → read_put read_module appended bs ts ≡ Ok x → more_modules x.0 x.1 ≡ more_modules bs ts
+modules_go_on = go_on (λ (bs : List SeenModule). module_of) appended any nothing (λ bs. read_module) (λ bs. module_reads) (λ t h. refl)
 
-modules_round_fails : (bs : List Block) (ts : List Tok) (stop : Stop) → begins any ts ≡ true → Fails stop (read_put read_module appended bs ts) → Fails stop (more_modules bs ts)
-modules_round_fails = round_fails (λ (bs : List Block). module_of) appended any nothing (λ bs. read_module) (λ bs. module_reads) (λ t h. refl)
+modules_round_fails : (bs : List SeenModule) (ts : List SeenToken) (stop : Stop) → begins any ts ≡ true → Fails stop (read_put read_module appended bs ts) → Fails stop (more_modules bs ts)
+modules_round_fails = round_fails (λ (bs : List SeenModule). module_of) appended any nothing (λ bs. read_module) (λ bs. module_reads) (λ t h. refl)
 
-modules_end : (bs : List Block) (ts : List Tok) → begins any ts ≡ false → more_modules bs ts ≡ Ok (bs, ts)
-modules_end = ends (λ (bs : List Block). module_of) appended any nothing (λ bs. read_module) (λ bs. module_reads) (λ t h. refl)
+modules_end : (bs : List SeenModule) (ts : List SeenToken) → begins any ts ≡ false → more_modules bs ts ≡ Ok (bs, ts)
+modules_end = ends (λ (bs : List SeenModule). module_of) appended any nothing (λ bs. read_module) (λ bs. module_reads) (λ t h. refl)
 
-pub design_fails : (all : List Tok) (bs : List Block) (ts : List Tok) (stop : Stop) → begins any ts ≡ true → Fails stop (read_put read_module appended bs ts) → more_modules bs ts ≡ read_design all → Fails stop (whole_design all)
+pub design_fails : (all : List SeenToken) (bs : List SeenModule) (ts : List SeenToken) (stop : Stop) → begins any ts ≡ true → Fails stop (read_put read_module appended bs ts) → more_modules bs ts ≡ read_design all → Fails stop (whole_design all)
 unfolding whole_design
 design_fails all bs ts Memory h k e = tt
 design_fails all bs ts (At n why) h k e = ap ended (sym e ∙ modules_round_fails bs ts (At n why) h k)
 
-pub design_ends : (all : List Tok) (bs : List Block) (ts : List Tok) → begins any ts ≡ false → more_modules bs ts ≡ read_design all → whole_design all ≡ Ok bs
+pub design_ends : (all : List SeenToken) (bs : List SeenModule) (ts : List SeenToken) → begins any ts ≡ false → more_modules bs ts ≡ read_design all → whole_design all ≡ Ok bs
 unfolding whole_design
 design_ends all bs [] h e = ap ended (sym e ∙ modules_end bs [] h)
 design_ends all bs (t ∷ ts) h e = absurd cc
 
 -- ---- the three laws of a whole list
 
-pub design_found : (ts : List Tok) (d : List Block) → whole_design ts ≡ Ok d → design.derives ts d
+pub design_found : (ts : List SeenToken) (d : List SeenModule) → whole_design ts ≡ Ok d → design.derives ts d
 unfolding whole_design
 design_found ts d h = found design_reads ts d h
 
-pub design_read : (ts : List Tok) (d : List Block) → design.derives ts d → whole_design ts ≡ Ok d
+pub design_read : (ts : List SeenToken) (d : List SeenModule) → design.derives ts d → whole_design ts ≡ Ok d
 unfolding whole_design
 design_read ts d h = only design_reads ts d h
 
-pub design_only : (ts : List Tok) (d e : List Block) → whole_design ts ≡ Ok e → design.derives ts d → e ≡ d
-design_only ts d e h k = ok_is {A = List Block} {E = Unfit Limit} e d (sym h ∙ design_read ts d k)
+pub design_only : (ts : List SeenToken) (d e : List SeenModule) → whole_design ts ≡ Ok e → design.derives ts d → e ≡ d
+design_only ts d e h k = ok_is {A = List SeenModule} {E = Unfit Limit} e d (sym h ∙ design_read ts d k)
 
-pub design_not : (ts : List Tok) (d : List Block) (stop : Unfit Limit) → whole_design ts ≡ Err stop → design.derives ts d → ⊥
+pub design_not : (ts : List SeenToken) (d : List SeenModule) (stop : Unfit Limit) → whole_design ts ≡ Err stop → design.derives ts d → ⊥
 design_not ts d stop h k = let yes = design_read ts d k in absurd cc
 
-pub design_refused : (ts : List Tok) (stop : Unfit Limit) → whole_design ts ≡ Err stop → Refused design ts stop
+pub design_refused : (ts : List SeenToken) (stop : Unfit Limit) → whole_design ts ≡ Err stop → Refused design ts stop
 unfolding whole_design
 design_refused ts stop h = refused design_reads ts stop h
 
 -- ---- where the text is refused
 
-pub left_within : (ts : List Tok) (stop : Unfit Limit) → whole_design ts ≡ Err stop → stop.0 ≤ length ts
+pub left_within : (ts : List SeenToken) (stop : Unfit Limit) → whole_design ts ≡ Err stop → stop.0 ≤ length ts
 left_within ts stop h =
     let p = design_refused ts stop h in
     let k : length ts ≡ length (p.0 ++ p.1) = ap length p.2 in omega (arith, k, length-append p.0 p.1, p.3)
 
-pub rest_of : (ts front rest : List Tok) (n : ℕ) → ts ≡ front ++ rest → length rest ≡ n → drop (length ts - n) ts ≡ rest
+pub rest_of : (ts front rest : List SeenToken) (n : ℕ) → ts ≡ front ++ rest → length rest ≡ n → drop (length ts - n) ts ≡ rest
 rest_of ts front rest n e k =
     let all : length ts ≡ length (front ++ rest) = ap length e in
     let len : length ts - n ≡ length front = omega (arith, all, length-append front rest, k) in
     ap (λ m. drop m ts) len ∙ ap (drop (length front)) e ∙ drop-append_seam front rest
 
-pub refused_at : (text : List ℕ) (ts us : List Tok) (stop : Unfit Limit) (fault : ParseFault) → whole_design ts ≡ Err stop → us ≡ drop (length ts - stop.0) ts → IsFaultOf (end_of text) us stop.1 fault → IsRefused text ts fault
+pub refused_at : (text : List ℕ) (ts us : List SeenToken) (stop : Unfit Limit) (fault : ParseFault) → whole_design ts ≡ Err stop → us ≡ drop (length ts - stop.0) ts → IsFaultOf (end_of text) us stop.1 fault → IsRefused text ts fault
 refused_at text ts us stop fault h e told =
     let p = design_refused ts stop h in
     let same : us ≡ p.1 = e ∙ rest_of ts p.0 p.1 stop.0 p.2 p.3 in
     record { front = p.0; rest = p.1; why = stop.1; whole = p.2; viable = p.4; stuck = p.5; told = subst (λ l. IsFaultOf (end_of text) l stop.1 fault) same told }
 
-pub on_refusal : (text : List ℕ) (ts : List Tok) (fault : ParseFault) → IsRefused text ts fault → OnRefusal text ts fault
+pub on_refusal : (text : List ℕ) (ts : List SeenToken) (fault : ParseFault) → IsRefused text ts fault → OnRefusal text ts fault
 on_refusal text ts OutOfMemory h = tt
 on_refusal text ts (LeftOut at word) h = h
 on_refusal text ts (ExprLimit at) h = h

@@ -1,8 +1,8 @@
 -- What follows from the grammar.
 use Rattle.std.specs.Prelude.{◌≡◌, ℕ, List}
 use Rattle.ij_text.specs.declared.Place.{Place}
-use Rattle.icl_syntax.specs.Tokens.{Tok}
-use Rattle.icl_syntax.specs.Values.{Block}
+use Rattle.icl_syntax.specs.Tokens.{SeenToken}
+use Rattle.icl_syntax.specs.Values.{SeenModule}
 use Rattle.icl_syntax.specs.Modules.{design}
 use Rattle.icl_parser.specs.declared.fault.ParseFault.{ParseFault}
 use Rattle.icl_parser.specs.declared.fault.ParseFault.TheVariants.{OutOfMemory, LeftOut, ExprLimit, Syntax}
@@ -23,12 +23,12 @@ seen_fault (Syntax at) = ASyntax at
 
 -- tokens have one design at most
 abbrev pub DesignsAreOne : Type 0
-DesignsAreOne = (tokens : List Tok) (d e : List Block) → design.derives tokens d → design.derives tokens e → d ≡ e
+DesignsAreOne = (tokens : List SeenToken) (d e : List SeenModule) → design.derives tokens d → design.derives tokens e → d ≡ e
 
 -- a text is refused in one way at most
 abbrev pub RefusalsAreOne : Type 0
-RefusalsAreOne = (text : List ℕ) (tokens : List Tok) (fault other : ParseFault) → IsRefused text tokens fault → IsRefused text tokens other → seen_fault fault ≡ seen_fault other
+RefusalsAreOne = (text : List ℕ) (tokens : List SeenToken) (fault other : ParseFault) → IsRefused text tokens fault → IsRefused text tokens other → seen_fault fault ≡ seen_fault other
 
 -- a text that has a design isn't refused
 abbrev pub DesignsAreNotRefused : Type 0
-DesignsAreNotRefused = (text : List ℕ) (tokens : List Tok) (d : List Block) (fault : ParseFault) → design.derives tokens d → IsRefused text tokens fault → ⊥
+DesignsAreNotRefused = (text : List ℕ) (tokens : List SeenToken) (d : List SeenModule) (fault : ParseFault) → design.derives tokens d → IsRefused text tokens fault → ⊥

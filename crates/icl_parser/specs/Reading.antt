@@ -16,31 +16,31 @@ use Rattle.icl_syntax.specs.declared.words.Owner.{Owner}
 use Rattle.icl_syntax.specs.declared.words.Owner.TheVariants.{ScanIn, ScanOut, DataIn, DataOut, Control, Register, Alias}
 use Rattle.icl_syntax.specs.declared.words.PropWord.{PropWord}
 use Rattle.icl_syntax.specs.declared.words.PropWord.TheVariants.{Source, LaunchEdge, DefaultLoadValue, RefEnum, ActivePolarity, ScanInSource, CaptureSource, ResetValue, AccessTogether, Attribute}
-use Rattle.icl_syntax.specs.Tokens.{Tok, if_word, is_mark, mark_at, word_at, name_at}
-use Rattle.icl_syntax.specs.Values.{Formula, Span, APath, Signal, Property, ASource, ALaunchEdge, ALoadValue, ARefEnum, APolarity, AScanInSource, ACaptureSource, AResetValue, ATogether, Row, Binding, ABoundPort, ABoundParameter, ABoundAttribute, EnumValue, Instruction, Meaning, APort, ARegister, AMux, AChild, AnAlias, SomeWords, AParameter, AnInterface, ALink, AnAttribute, Thing, Block}
+use Rattle.icl_syntax.specs.Tokens.{SeenToken, if_word, is_mark, mark_at, word_at, name_at}
+use Rattle.icl_syntax.specs.Values.{SeenExpr, SeenRange, APath, SeenSig, SeenProp, ASource, ALaunchEdge, ALoadValue, ARefEnum, APolarity, AScanInSource, ACaptureSource, AResetValue, ATogether, SeenRow, SeenBind, ABoundPort, ABoundParameter, ABoundAttribute, SeenEnumWord, SeenLinkInstr, SeenWhat, APort, ARegister, AMux, AChild, AnAlias, SomeWords, AParameter, AnInterface, ALink, AnAttribute, SeenItem, SeenModule}
 use Rattle.icl_syntax.specs.Grammar.{Counted, leaf_at, Signed, sum_sign, product_sign, Operand, with_operand, too_deep, appended, Located, number_at, Named, named_at, free_prop_at, AttributeSaid, decimal_token, with_property, lacks}
 use Rattle.icl_syntax.specs.Modules.{owner_of, BindBegin, bind_begin_at, member_word_at, with_member, Selected, link_kind_at, ItemBegin, item_begin_at}
 
 abbrev pub Reading : Type 0 → Type 0
-Reading A = Reader Tok Limit A
+Reading A = Reader SeenToken Limit A
 
 -- ---- tests on the next token
 
-abbrev pub begins : (Tok → Bool) → List Tok → Bool
+abbrev pub begins : (SeenToken → Bool) → List SeenToken → Bool
 begins first [] = false
 begins first (t ∷ ts) = first t
 
-abbrev pub is_name : Tok → Bool
+abbrev pub is_name : SeenToken → Bool
 is_name t = if_word t.kind true false
 
 -- no `}`
-abbrev pub no_close : Tok → Bool
+abbrev pub no_close : SeenToken → Bool
 no_close t = not (is_mark 125 t)
 
-abbrev pub any : Tok → Bool
+abbrev pub any : SeenToken → Bool
 any t = true
 
-abbrev pub is_sign : (Tok → Option Signed) → Tok → Bool
+abbrev pub is_sign : (SeenToken → Option Signed) → SeenToken → Bool
 is_sign sign t = is_some (sign t)
 
 -- ---- readers of any parts
@@ -90,20 +90,20 @@ abbrev pub read_leaf : Bool → ℕ → Reading Counted
 read_leaf alone used = read_one (leaf_at alone used)
 
 -- the operator that a token is, with so many tokens left: none is left to use, or the last part is a sized number
-abbrev pub operator_of : ℕ → Bool → Option Signed → ℕ → List Tok → Result (Signed × List Tok) (Unfit Limit)
+abbrev pub operator_of : ℕ → Bool → Option Signed → ℕ → List SeenToken → Result (Signed × List SeenToken) (Unfit Limit)
 operator_of spare lone None n ts = Err (n, None)
 operator_of zero lone (Some s) n ts = Err (n, Some OfExpression)
 operator_of (suc spare) true (Some s) n ts = Err (n, None)
 operator_of (suc spare) false (Some s) n ts = Ok (s, ts)
 
-unfoldable pub read_operator : ℕ → Bool → (Tok → Option Signed) → Reading Signed
+unfoldable pub read_operator : ℕ → Bool → (SeenToken → Option Signed) → Reading Signed
 read_operator spare lone sign [] = Err (0, None)
 read_operator spare lone sign (t ∷ ts) = operator_of spare lone (sign t) (suc (length ts)) ts
 
-unfoldable pub read_operand : (ℕ → Reading Counted) → (Tok → Option Signed) → Counted → Reading Operand
+unfoldable pub read_operand : (ℕ → Reading Counted) → (SeenToken → Option Signed) → Counted → Reading Operand
 read_operand part sign a = read_in_turn (read_operator (256 - a.used) a.lone sign) (λ s. read_in_turn (part (a.used + 1)) (λ b. gives (record { sign = s; right = b })))
 
-unfoldable pub read_chain : (ℕ → Reading Counted) → (ℕ → Reading Counted) → (Tok → Option Signed) → ℕ → Reading Counted
+unfoldable pub read_chain : (ℕ → Reading Counted) → (ℕ → Reading Counted) → (SeenToken → Option Signed) → ℕ → Reading Counted
 read_chain first part sign used = read_in_turn (first used) (λ a. read_repeat (is_sign sign) (read_operand part sign) with_operand a)
 
 unfoldable pub read_parentheses : (ℕ → Reading Counted) → ℕ → Reading Counted
@@ -124,19 +124,19 @@ abbrev pub read_sum : ℕ → ℕ → Reading Counted
 read_sum depth used = read_chain (read_term depth true) (read_term depth false) sum_sign used
 
 -- an operator with its two operands
-abbrev pub joined : Counted → Signed → Counted → List Tok → Result (Counted × List Tok) (Unfit Limit)
+abbrev pub joined : Counted → Signed → Counted → List SeenToken → Result (Counted × List SeenToken) (Unfit Limit)
 joined a s b ts = Ok (with_operand a (record { sign = s; right = b }), ts)
 
-unfoldable pub read_expr : Reading Formula
+unfoldable pub read_expr : Reading SeenExpr
 read_expr = read_in_turn (read_sum 64 0) (λ e. gives e.formula)
 
-unfoldable pub read_value : Reading (List Formula)
+unfoldable pub read_value : Reading (List SeenExpr)
 read_value = read_parted 44 read_expr
 
-unfoldable pub read_expr_behind : ℕ → Reading Formula
+unfoldable pub read_expr_behind : ℕ → Reading SeenExpr
 read_expr_behind c = read_after c read_expr
 
-unfoldable pub read_range : Reading Span
+unfoldable pub read_range : Reading SeenRange
 read_range = read_in_turn (read_mark 91) (λ at. read_in_turn read_expr (λ left. read_in_turn (read_maybe 58 (read_expr_behind 58)) (λ right. read_in_turn (read_mark 93) (λ close. gives (record { at = at; left = left; right = right })))))
 
 -- ---- signals
@@ -156,16 +156,16 @@ read_named_sig = read_in_turn (read_one named_at) read_named_behind
 abbrev pub read_plain_sig : Reading Located
 read_plain_sig = read_either is_name read_named_sig read_number
 
-unfoldable pub read_inverted : Reading Signal
+unfoldable pub read_inverted : Reading SeenSig
 read_inverted = read_in_turn (read_mark 126) (λ at. read_in_turn read_plain_sig (λ s. gives (record { at = at; inverted = true; what = s.what })))
 
-unfoldable pub read_straight : Reading Signal
+unfoldable pub read_straight : Reading SeenSig
 read_straight = read_in_turn read_plain_sig (λ s. gives (record { at = s.at; inverted = false; what = s.what }))
 
-unfoldable pub read_sig : Reading Signal
+unfoldable pub read_sig : Reading SeenSig
 read_sig = read_either (is_mark 126) read_inverted read_straight
 
-unfoldable pub read_sigs : Reading (List Signal)
+unfoldable pub read_sigs : Reading (List SeenSig)
 read_sigs = read_parted 44 read_sig
 
 -- ---- properties and bodies
@@ -176,10 +176,10 @@ read_attribute_said = read_in_turn read_name (λ n. read_in_turn (read_maybe 61 
 abbrev pub read_decimal : Reading ℕ
 read_decimal = read_one decimal_token
 
-abbrev pub read_one_sig : Reading (List Signal)
+abbrev pub read_one_sig : Reading (List SeenSig)
 read_one_sig = read_in_turn read_sig (λ s. gives (s ∷ []))
 
-abbrev pub read_sources : Owner → Reading (List Signal)
+abbrev pub read_sources : Owner → Reading (List SeenSig)
 read_sources ScanOut = read_one_sig
 read_sources ScanIn = read_sigs
 read_sources DataIn = read_sigs
@@ -188,10 +188,10 @@ read_sources Control = read_sigs
 read_sources Register = read_sigs
 read_sources Alias = read_sigs
 
-abbrev pub read_some : {A : Type 0} → Reading A → (A → Property) → Reading (Option Property)
+abbrev pub read_some : {A : Type 0} → Reading A → (A → SeenProp) → Reading (Option SeenProp)
 read_some r make = read_in_turn r (λ a. gives (Some (make a)))
 
-unfoldable pub read_prop_behind : Owner → PropWord → Reading (Option Property)
+unfoldable pub read_prop_behind : Owner → PropWord → Reading (Option SeenProp)
 read_prop_behind owner Source = read_some (read_sources owner) ASource
 read_prop_behind owner LaunchEdge = read_some read_name ALaunchEdge
 read_prop_behind owner DefaultLoadValue = read_some read_value ALoadValue
@@ -203,13 +203,13 @@ read_prop_behind owner ResetValue = read_some read_value AResetValue
 read_prop_behind owner AccessTogether = gives (Some ATogether)
 read_prop_behind owner Attribute = read_in_turn read_attribute_said (λ a. gives None)
 
-abbrev pub read_free_prop : Owner → List Property → Reading PropWord
+abbrev pub read_free_prop : Owner → List SeenProp → Reading PropWord
 read_free_prop owner ps = read_one (free_prop_at owner ps)
 
-unfoldable pub read_property : Owner → List Property → Reading (Option Property)
+unfoldable pub read_property : Owner → List SeenProp → Reading (Option SeenProp)
 read_property owner ps = read_in_turn (read_free_prop owner ps) (λ w. read_ended 59 (read_prop_behind owner w))
 
-unfoldable pub read_properties : Owner → Reading (List Property)
+unfoldable pub read_properties : Owner → Reading (List SeenProp)
 read_properties owner = read_repeat no_close (read_property owner) with_property []
 
 -- reads nothing, where something lacks
@@ -217,18 +217,18 @@ abbrev pub read_unless : {A : Type 0} → Bool → Reading A → Reading A
 read_unless true r ts = Err (length ts, None)
 read_unless false r ts = r ts
 
-unfoldable pub read_body_end : Owner → List Property → ℕ → Reading (List Property)
+unfoldable pub read_body_end : Owner → List SeenProp → ℕ → Reading (List SeenProp)
 read_body_end owner ps c = read_unless (lacks owner ps) (read_in_turn (read_mark c) (λ e. gives ps))
 
-unfoldable pub read_braced_body : Owner → Reading (List Property)
+unfoldable pub read_braced_body : Owner → Reading (List SeenProp)
 read_braced_body owner = read_in_turn (read_mark 123) (λ o. read_in_turn (read_properties owner) (λ ps. read_body_end owner ps 125))
 
-unfoldable pub read_body : Owner → Reading (List Property)
+unfoldable pub read_body : Owner → Reading (List SeenProp)
 read_body owner = read_either (is_mark 59) (read_body_end owner [] 59) (read_braced_body owner)
 
 -- ---- items
 
-abbrev pub read_port_range : Owner → Reading (Option Span)
+abbrev pub read_port_range : Owner → Reading (Option SeenRange)
 read_port_range ScanIn = gives None
 read_port_range ScanOut = gives None
 read_port_range DataIn = read_maybe 91 read_range
@@ -237,43 +237,43 @@ read_port_range Control = read_maybe 91 read_range
 read_port_range Register = read_maybe 91 read_range
 read_port_range Alias = read_maybe 91 read_range
 
-unfoldable pub read_port : PortKind → Reading Meaning
+unfoldable pub read_port : PortKind → Reading SeenWhat
 read_port kind = read_in_turn (read_port_range (owner_of kind)) (λ r. read_in_turn (read_body (owner_of kind)) (λ ps. gives (APort kind r ps)))
 
-unfoldable pub read_register : Reading Meaning
+unfoldable pub read_register : Reading SeenWhat
 read_register = read_in_turn (read_maybe 91 read_range) (λ r. read_in_turn (read_body Register) (λ ps. gives (ARegister r ps)))
 
-unfoldable pub read_alias : Reading Meaning
+unfoldable pub read_alias : Reading SeenWhat
 read_alias = read_in_turn (read_maybe 91 read_range) (λ r. read_in_turn (read_mark 61) (λ e. read_in_turn read_sigs (λ ss. read_in_turn (read_body Alias) (λ ps. gives (AnAlias r ss ps)))))
 
-unfoldable pub read_parameter : Bool → Reading Meaning
+unfoldable pub read_parameter : Bool → Reading SeenWhat
 read_parameter local = read_in_turn (read_expr_behind 61) (λ v. read_in_turn (read_mark 59) (λ s. gives (AParameter local v)))
 
-unfoldable pub read_attribute : Reading Meaning
+unfoldable pub read_attribute : Reading SeenWhat
 read_attribute = read_in_turn (read_maybe 61 (read_expr_behind 61)) (λ v. read_in_turn (read_mark 59) (λ s. gives (AnAttribute v)))
 
-unfoldable pub read_values : Reading (List (List Formula))
+unfoldable pub read_values : Reading (List (List SeenExpr))
 read_values = read_parted 124 read_value
 
-unfoldable pub read_row : Reading Row
+unfoldable pub read_row : Reading SeenRow
 read_row = read_in_turn read_values (λ vs. read_in_turn (read_mark 58) (λ c. read_in_turn read_sig (λ s. read_in_turn (read_mark 59) (λ e. gives (record { values = vs; source = s })))))
 
-unfoldable pub read_rows : Reading (List Row)
-read_rows = read_in_turn read_row (λ first. read_repeat no_close (λ (rs : List Row). read_row) appended (first ∷ []))
+unfoldable pub read_rows : Reading (List SeenRow)
+read_rows = read_in_turn read_row (λ first. read_repeat no_close (λ (rs : List SeenRow). read_row) appended (first ∷ []))
 
-unfoldable pub read_mux : Reading Meaning
+unfoldable pub read_mux : Reading SeenWhat
 read_mux = read_in_turn (read_word (codes "SelectedBy")) (λ by. read_in_turn read_sigs (λ ss. read_in_turn (read_mark 123) (λ o. read_in_turn read_rows (λ rows. read_in_turn (read_mark 125) (λ c. gives (AMux ss rows))))))
 
-unfoldable pub read_bound_port : Place → Reading Binding
+unfoldable pub read_bound_port : Place → Reading SeenBind
 read_bound_port at = read_in_turn read_name (λ n. read_in_turn (read_maybe 91 read_range) (λ r. read_in_turn (read_mark 61) (λ e. read_in_turn read_sigs (λ ss. gives (ABoundPort at n r ss)))))
 
-unfoldable pub read_bound_parameter : Place → Reading Binding
+unfoldable pub read_bound_parameter : Place → Reading SeenBind
 read_bound_parameter at = read_in_turn read_name (λ n. read_in_turn (read_expr_behind 61) (λ v. gives (ABoundParameter at n v)))
 
-unfoldable pub read_bound_attribute : Reading Binding
+unfoldable pub read_bound_attribute : Reading SeenBind
 read_bound_attribute = read_in_turn read_attribute_said (λ a. gives (ABoundAttribute a.name a.value))
 
-abbrev pub read_bind_behind : Place → BindWord → Reading Binding
+abbrev pub read_bind_behind : Place → BindWord → Reading SeenBind
 read_bind_behind at BindsPort = read_bound_port at
 read_bind_behind at BindsParameter = read_bound_parameter at
 read_bind_behind at BindsAttribute = read_bound_attribute
@@ -281,28 +281,28 @@ read_bind_behind at BindsAttribute = read_bound_attribute
 abbrev pub read_bind_begin : Reading BindBegin
 read_bind_begin = read_one bind_begin_at
 
-unfoldable pub read_bind : Reading Binding
+unfoldable pub read_bind : Reading SeenBind
 read_bind = read_in_turn read_bind_begin (λ b. read_ended 59 (read_bind_behind b.at b.word))
 
-unfoldable pub read_many_binds : Reading (List Binding)
+unfoldable pub read_many_binds : Reading (List SeenBind)
 read_many_binds = read_many read_bind
 
-unfoldable pub read_braced_binds : Reading (List Binding)
+unfoldable pub read_braced_binds : Reading (List SeenBind)
 read_braced_binds = read_braced read_many_binds
 
-unfoldable pub read_binds : Reading (List Binding)
+unfoldable pub read_binds : Reading (List SeenBind)
 read_binds = read_either (is_mark 59) (read_in_turn (read_mark 59) (λ e. gives [])) read_braced_binds
 
-unfoldable pub read_child : Reading Meaning
+unfoldable pub read_child : Reading SeenWhat
 read_child = read_in_turn (read_word (codes "Of")) (λ of. read_in_turn read_name (λ m. read_in_turn read_binds (λ bs. gives (AChild m bs))))
 
-unfoldable pub read_enum_word : Reading EnumValue
+unfoldable pub read_enum_word : Reading SeenEnumWord
 read_enum_word = read_in_turn read_name (λ n. read_in_turn (read_mark 61) (λ e. read_in_turn read_value (λ v. read_in_turn (read_mark 59) (λ s. gives (record { name = n; value = v })))))
 
-unfoldable pub read_many_words : Reading (List EnumValue)
+unfoldable pub read_many_words : Reading (List SeenEnumWord)
 read_many_words = read_many read_enum_word
 
-unfoldable pub read_words : Reading Meaning
+unfoldable pub read_words : Reading SeenWhat
 read_words = read_in_turn (read_braced read_many_words) (λ ws. gives (SomeWords ws))
 
 abbrev pub read_member_behind : MemberWord → Reading (Option (List ℕ))
@@ -318,7 +318,7 @@ read_member = read_in_turn read_member_word (λ w. read_ended 59 (read_member_be
 unfoldable pub read_members : Reading (List (List ℕ))
 read_members = read_repeat no_close (λ (ns : List (List ℕ)). read_member) with_member []
 
-unfoldable pub read_interface : Reading Meaning
+unfoldable pub read_interface : Reading SeenWhat
 read_interface = read_in_turn (read_mark 123) (λ o. read_in_turn read_members (λ ps. read_in_turn (read_mark 125) (λ c. gives (AnInterface ps))))
 
 unfoldable pub read_selected : Reading Selected
@@ -327,10 +327,10 @@ read_selected = read_in_turn read_name (λ cell. read_in_turn (read_mark 46) (λ
 unfoldable pub read_selecting : Reading Selected
 read_selecting = read_in_turn (read_word (codes "ScanInterface")) (λ w. read_in_turn (read_mark 123) (λ o. read_in_turn read_selected (λ s. read_in_turn (read_mark 125) (λ c. gives s))))
 
-unfoldable pub read_instruction : Reading Instruction
+unfoldable pub read_instruction : Reading SeenLinkInstr
 read_instruction = read_in_turn read_name (λ n. read_in_turn (read_mark 123) (λ o. read_in_turn read_selecting (λ s. read_in_turn (read_mark 125) (λ c. gives (record { name = n; cell = s.cell; interface = s.interface })))))
 
-unfoldable pub read_instructions : Reading (List Instruction)
+unfoldable pub read_instructions : Reading (List SeenLinkInstr)
 read_instructions = read_many read_instruction
 
 unfoldable pub read_entity : Reading (List ℕ)
@@ -339,10 +339,10 @@ read_entity = read_in_turn (read_word (codes "BSDLEntity")) (λ w. read_in_turn 
 abbrev pub read_link_kind : Reading LinkKind
 read_link_kind = read_one link_kind_at
 
-unfoldable pub read_link : Reading Meaning
+unfoldable pub read_link : Reading SeenWhat
 read_link = read_in_turn (read_word (codes "Of")) (λ of. read_in_turn read_link_kind (λ k. read_in_turn (read_mark 123) (λ o. read_in_turn read_entity (λ e. read_in_turn read_instructions (λ is. read_in_turn (read_mark 125) (λ c. gives (ALink k e is)))))))
 
-unfoldable pub read_meaning_behind : ItemWord → Reading Meaning
+unfoldable pub read_meaning_behind : ItemWord → Reading SeenWhat
 read_meaning_behind (OfPort kind) = read_port kind
 read_meaning_behind OfRegister = read_register
 read_meaning_behind OfMux = read_mux
@@ -357,17 +357,17 @@ read_meaning_behind OfLink = read_link
 abbrev pub read_item_begin : Reading ItemBegin
 read_item_begin = read_one item_begin_at
 
-unfoldable pub read_item : Reading Thing
+unfoldable pub read_item : Reading SeenItem
 read_item = read_in_turn read_item_begin (λ b. read_in_turn read_name (λ n. read_in_turn (read_meaning_behind b.word) (λ m. gives (record { at = b.at; name = n; what = m }))))
 
-unfoldable pub read_items : Reading (List Thing)
+unfoldable pub read_items : Reading (List SeenItem)
 read_items = read_many read_item
 
-unfoldable pub read_module : Reading Block
+unfoldable pub read_module : Reading SeenModule
 read_module = read_in_turn (read_word (codes "Module")) (λ at. read_in_turn read_name (λ n. read_in_turn (read_braced read_items) (λ items. gives (record { name = n; at = at; items = items }))))
 
-unfoldable pub read_design : Reading (List Block)
-read_design = read_repeat any (λ (bs : List Block). read_module) appended []
+unfoldable pub read_design : Reading (List SeenModule)
+read_design = read_repeat any (λ (bs : List SeenModule). read_module) appended []
 
-unfoldable pub whole_design : List Tok → Result (List Block) (Unfit Limit)
+unfoldable pub whole_design : List SeenToken → Result (List SeenModule) (Unfit Limit)
 whole_design ts = ended (read_design ts)

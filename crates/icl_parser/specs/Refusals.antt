@@ -4,29 +4,29 @@ use Rattle.grammar.specs.Refusal.{CantGoOn}
 use Rattle.ij_text.specs.declared.Place.{Place}
 use Rattle.icl_lexer.specs.Cutting.{first_place, place_behind}
 use Rattle.icl_syntax.specs.declared.words.Limit.{Limit}
-use Rattle.icl_syntax.specs.Tokens.{Tok, if_word, is_left_out}
-use Rattle.icl_syntax.specs.Values.{Block}
+use Rattle.icl_syntax.specs.Tokens.{SeenToken, if_word, is_left_out}
+use Rattle.icl_syntax.specs.Values.{SeenModule}
 use Rattle.icl_syntax.specs.Modules.{design}
 use Rattle.icl_parser.specs.declared.fault.ParseFault.{ParseFault}
 use Rattle.icl_parser.specs.declared.fault.ParseFault.TheVariants.{OutOfMemory, LeftOut, ExprLimit, Syntax}
 
 -- a value of the grammar: what modules are
 abbrev pub Blocks : Type 0
-Blocks = List Block
+Blocks = List SeenModule
 
 -- a token that is a word of ICL that is left out
-abbrev pub left_out_at : Tok → Bool
+abbrev pub left_out_at : SeenToken → Bool
 left_out_at t = if_word t.kind (is_left_out t.text) false
 
 -- the fault at a token: a limit bars it, or it is a word that is left out, or neither
-abbrev pub IsFaultAt : Tok → Option Limit → ParseFault → Type 0
+abbrev pub IsFaultAt : SeenToken → Option Limit → ParseFault → Type 0
 IsFaultAt t (Some limit) (ExprLimit at) = at ≡ t.at
 IsFaultAt t None (LeftOut at word) = (left_out_at t ≡ true) × (at ≡ t.at) × (word.items ≡ t.text)
 IsFaultAt t None (Syntax at) = (left_out_at t ≡ false) × (at ≡ t.at)
 IsFaultAt t why fault = ⊥
 
 -- the fault at the next token, or at the end of the text
-abbrev pub IsFaultOf : Place → List Tok → Option Limit → ParseFault → Type 0
+abbrev pub IsFaultOf : Place → List SeenToken → Option Limit → ParseFault → Type 0
 IsFaultOf end (t ∷ rest) why fault = IsFaultAt t why fault
 IsFaultOf end [] why (Syntax at) = at ≡ end
 IsFaultOf end [] why OutOfMemory = ⊥
@@ -39,9 +39,9 @@ end_of text = place_behind first_place text
 
 -- a text with these tokens is refused so: some design's tokens begin with those in front, and no design's begin with
 -- these and the next one, or they are all and no design has them
-pub record IsRefused (text : List ℕ) (tokens : List Tok) (fault : ParseFault) : Type 0 where
-  pub front : List Tok
-  pub rest : List Tok
+pub record IsRefused (text : List ℕ) (tokens : List SeenToken) (fault : ParseFault) : Type 0 where
+  pub front : List SeenToken
+  pub rest : List SeenToken
   pub why : Option Limit
   pub whole : tokens ≡ front ++ rest
   pub viable : design.viable front
@@ -49,7 +49,7 @@ pub record IsRefused (text : List ℕ) (tokens : List Tok) (fault : ParseFault) 
   pub told : IsFaultOf (end_of text) rest why fault
 
 -- a refusal, unless memory ran out
-abbrev pub OnRefusal : List ℕ → List Tok → ParseFault → Type 0
+abbrev pub OnRefusal : List ℕ → List SeenToken → ParseFault → Type 0
 OnRefusal text tokens OutOfMemory = Unit {0}
 OnRefusal text tokens (LeftOut at word) = IsRefused text tokens (LeftOut at word)
 OnRefusal text tokens (ExprLimit at) = IsRefused text tokens (ExprLimit at)

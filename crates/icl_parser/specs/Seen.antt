@@ -2,7 +2,7 @@
 use Rattle.std.specs.Prelude.{◌≡◌, List, map, Result, Ok, Err}
 use Rattle.grammar.specs.Reading.{Stop as Unfit}
 use Rattle.icl_syntax.specs.declared.words.Limit.{Limit}
-use Rattle.icl_syntax.specs.Tokens.{Tok}
+use Rattle.icl_syntax.specs.Tokens.{SeenToken}
 use Rattle.icl_syntax.specs.Grammar.{Counted, Signed}
 use Rattle.icl_syntax.specs.Views.{seen_expr}
 use Rattle.icl_parser.specs.declared.fault.Stop.{Stop}
@@ -12,14 +12,14 @@ use Rattle.icl_parser.specs.declared.lexeme.Read.{Read}
 use Rattle.icl_parser.specs.declared.expressions.Counting.{Counting}
 use Rattle.icl_parser.specs.declared.signs.SignAt.{SignAt}
 
-abbrev pub tok : Lexeme → Tok
+abbrev pub tok : Lexeme → SeenToken
 tok l = record { kind = l.kind; at = l.at; text = l.text.now }
 
-abbrev pub toks : List Lexeme → List Tok
+abbrev pub toks : List Lexeme → List SeenToken
 toks ls = map tok ls
 
 -- a value and the tokens behind it
-abbrev pub seen_read : {X Y : Type 0} → (X → Y) → Read X → Y × List Tok
+abbrev pub seen_read : {X Y : Type 0} → (X → Y) → Read X → Y × List SeenToken
 seen_read view r = (view r.value, toks r.rest.now)
 
 abbrev pub same : {X : Type 0} → X → X

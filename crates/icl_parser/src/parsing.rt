@@ -2,7 +2,7 @@
 ghost use Rattle.std.specs.Prelude.{◌≡◌, ◌≤◌, ◌<◌, ◌^◌, ◌-◌, IfOk, IfErr, OnErr, IsErrOf, length, drop, map};
 ghost use Rattle.icl_lexer.specs.Cutting.{AreTokens};
 ghost use Rattle.icl_lexer.specs.Laws.{AreInText};
-ghost use Rattle.icl_syntax.specs.Tokens.{toks_of};
+ghost use Rattle.icl_syntax.specs.Tokens.{seen_tokens};
 ghost use Rattle.icl_syntax.specs.Modules.{design};
 ghost use Rattle.icl_syntax.specs.Views.{seen_design};
 ghost use Rattle.icl_parser.specs.Seen.{toks, tok};
@@ -25,7 +25,7 @@ fn lexemes<'a>(
     tokens: &[Token],
 ) -> Result<Vec<Lexeme<'a>>, OutOfMemory>
     requires { AreInText src.now 0 tokens.now }
-    ensures { IfOk result (λ v. toks v.items ≡ toks_of src.now tokens.now) }
+    ensures { IfOk result (λ v. toks v.items ≡ seen_tokens src.now tokens.now) }
 {
     let mut lexemes = Vec::new(alloc);
     for token in tokens {
@@ -103,12 +103,12 @@ pub fn parse(alloc: Global, src: &[u8], tokens: &List<Token>) -> Result<Design, 
     requires length { length src.now ≤ 134217728 }
     requires tokens { AreTokens src.now tokens.now.items }
     // What is answered is derived.
-    ensures found { IfOk result (λ d. design.derives (toks_of src.now tokens.now.items) (seen_design d)) }
+    ensures found { IfOk result (λ d. design.derives (seen_tokens src.now tokens.now.items) (seen_design d)) }
     // What is derived is answered, unless memory runs out.
-    ensures only { (d : Blocks) → design.derives (toks_of src.now tokens.now.items) d → IfOk result (λ found. seen_design found ≡ d) }
-    ensures accepted { (d : Blocks) → design.derives (toks_of src.now tokens.now.items) d → OnErr result (IsErrOf result ParseFault.OutOfMemory) }
+    ensures only { (d : Blocks) → design.derives (seen_tokens src.now tokens.now.items) d → IfOk result (λ found. seen_design found ≡ d) }
+    ensures accepted { (d : Blocks) → design.derives (seen_tokens src.now tokens.now.items) d → OnErr result (IsErrOf result ParseFault.OutOfMemory) }
     // Each other answer is the fault where the text leaves the grammar.
-    ensures refused { IfErr result (OnRefusal src.now (toks_of src.now tokens.now.items)) }
+    ensures refused { IfErr result (OnRefusal src.now (seen_tokens src.now tokens.now.items)) }
 {
     tokens_are_in_the_text();
     let lexemes = lexemes(alloc, src, tokens.as_slice())?;

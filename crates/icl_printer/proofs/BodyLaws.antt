@@ -9,9 +9,10 @@ use Rattle.icl_syntax.specs.declared.words.Owner.{Owner}
 use Rattle.icl_syntax.specs.declared.words.Owner.TheVariants.{ScanIn, ScanOut, DataIn, DataOut, Control, Register, Alias}
 use Rattle.icl_syntax.specs.declared.words.PropWord.{PropWord}
 use Rattle.icl_syntax.specs.declared.words.PropWord.TheVariants.{Source, LaunchEdge, DefaultLoadValue, RefEnum, ActivePolarity, ScanInSource, CaptureSource, ResetValue, AccessTogether, Attribute}
-use Rattle.icl_syntax.specs.Tokens.{Tok, decimal_from, decimal_at}
+use Rattle.ij_text.specs.Numbers.{decimal_from}
+use Rattle.icl_syntax.specs.Tokens.{SeenToken, decimal_at}
 use Rattle.icl_syntax.specs.Words.{prop_word, prop_named}
-use Rattle.icl_syntax.specs.Values.{Property, ASource, ALaunchEdge, ALoadValue, ARefEnum, APolarity, AScanInSource, ACaptureSource, AResetValue, ATogether}
+use Rattle.icl_syntax.specs.Values.{SeenProp, ASource, ALaunchEdge, ALoadValue, ARefEnum, APolarity, AScanInSource, ACaptureSource, AResetValue, ATogether}
 use Rattle.icl_syntax.specs.Grammar.{Of, name, value, sig, sigs, sources, prop_behind, property, with_property, body, body_end, lacks, takes, stands, is_prop, free_word, free_prop_at, prop_word_at, decimal_token, mark as a_mark}
 use Rattle.icl_printer.specs.Layout.{Spelling, word, mark}
 use Rattle.icl_printer.specs.Canonical.{in_turn, braced, value_tokens, signal_tokens, signals_tokens, name_tokens, property_tokens}
@@ -48,10 +49,10 @@ word_spelled ResetValue = refl
 word_spelled AccessTogether = refl
 word_spelled Attribute = refl
 
-abbrev is_free : Owner → List Property → PropWord → Bool
+abbrev is_free : Owner → List SeenProp → PropWord → Bool
 is_free owner ps w = takes owner w && not (stands w ps)
 
-free_is : (owner : Owner) (ps : List Property) (o : Option PropWord) (w : PropWord) → free_word owner ps o ≡ Some w → is_free owner ps w ≡ true
+free_is : (owner : Owner) (ps : List SeenProp) (o : Option PropWord) (w : PropWord) → free_word owner ps o ≡ Some w → is_free owner ps w ≡ true
 free_is owner ps None w h = absurd (cc)
 free_is owner ps (Some v) w h = by_cases (is_free owner ps v) refl h
   where
@@ -59,7 +60,7 @@ free_is owner ps (Some v) w h = by_cases (is_free owner ps v) refl h
     by_cases true e h = let same : v ≡ w = cc in ap (is_free owner ps) (sym same) ∙ e
     by_cases false e h = absurd (cc)
 
-is_prop_bare : (w : PropWord) (p : Property) → is_prop w (bare_property p) ≡ is_prop w p
+is_prop_bare : (w : PropWord) (p : SeenProp) → is_prop w (bare_property p) ≡ is_prop w p
 is_prop_bare Source (ASource x) = refl
 is_prop_bare Source (ALaunchEdge x) = refl
 is_prop_bare Source (ALoadValue x) = refl
@@ -151,28 +152,28 @@ is_prop_bare Attribute (ACaptureSource x) = refl
 is_prop_bare Attribute (AResetValue x) = refl
 is_prop_bare Attribute ATogether = refl
 
-stands_bare : (w : PropWord) (ps : List Property) → stands w (map bare_property ps) ≡ stands w ps
+stands_bare : (w : PropWord) (ps : List SeenProp) → stands w (map bare_property ps) ≡ stands w ps
 stands_bare w [] = refl
 stands_bare w (p ∷ ps) = ap (λ b. cond b true (stands w (map bare_property ps))) (is_prop_bare w p) ∙ ap (cond (is_prop w p) true) (stands_bare w ps)
 
-same_stands : (w : PropWord) (ps qs : List Property) → map bare_property qs ≡ map bare_property ps → stands w qs ≡ stands w ps
+same_stands : (w : PropWord) (ps qs : List SeenProp) → map bare_property qs ≡ map bare_property ps → stands w qs ≡ stands w ps
 same_stands w ps qs e = sym (stands_bare w qs) ∙ ap (stands w) e ∙ stands_bare w ps
 
-p_prop_word : (owner : Owner) (qs : List Property) (w : PropWord) → is_free owner qs w ≡ true → Printed (one (free_prop_at owner qs)) itself (word (prop_word w) ∷ []) w
+p_prop_word : (owner : Owner) (qs : List SeenProp) (w : PropWord) → is_free owner qs w ≡ true → Printed (one (free_prop_at owner qs)) itself (word (prop_word w) ∷ []) w
 p_prop_word owner qs w free = p_token (word (prop_word w)) w (λ at. w) (word_spelled w) (λ at. ap (free_word owner qs) (named_again w) ∙ ap (λ b. cond b (Some w) None) free) (λ at. refl)
 
 -- ---- what stands behind them
 
-pub record Behind (owner : Owner) (w : PropWord) (p : Property) : Type 0 where
+pub record Behind (owner : Owner) (w : PropWord) (p : SeenProp) : Type 0 where
   pub middle : List Spelling
   pub tokens_are : property_tokens p ≡ word (prop_word w) ∷ (middle ++ (mark 59 ∷ []))
   pub printed : Printed (prop_behind owner w) (option_map bare_property) middle (Some p)
 
 -- a property of one part
-made_of : {A A' : Type 0} (owner : Owner) (w : PropWord) (S : Of A) (make : A → Property) (bare : A → A') (canon : A → List Spelling) → Law S bare canon
+made_of : {A A' : Type 0} (owner : Owner) (w : PropWord) (S : Of A) (make : A → SeenProp) (bare : A → A') (canon : A → List Spelling) → Law S bare canon
     → ((v : A) → property_tokens (make v) ≡ word (prop_word w) ∷ (canon v ++ (mark 59 ∷ []))) → ((x y : A) → bare x ≡ bare y → bare_property (make x) ≡ bare_property (make y))
-    → ((x : Property) (cs : List Spelling) → Printed (S >>= λ v. give (Some (make v))) (option_map bare_property) cs (Some x) → Printed (prop_behind owner w) (option_map bare_property) cs (Some x))
-    → (ts : List Tok) (o : Option Property) → AllSpelled (spellings ts) → (S >>= λ v. give (Some (make v))).derives ts o → (p : Property) → o ≡ Some p → Behind owner w p
+    → ((x : SeenProp) (cs : List Spelling) → Printed (S >>= λ v. give (Some (make v))) (option_map bare_property) cs (Some x) → Printed (prop_behind owner w) (option_map bare_property) cs (Some x))
+    → (ts : List SeenToken) (o : Option SeenProp) → AllSpelled (spellings ts) → (S >>= λ v. give (Some (make v))).derives ts o → (p : SeenProp) → o ≡ Some p → Behind owner w p
 made_of owner w S make bare canon law tokens same as_is ts o good h p is =
     let g = halves h.0 h.1 ts h.3 good in
     let e : Some (make h.2) ≡ Some p = sym h.5.1 ∙ is in
@@ -211,7 +212,7 @@ decimal_law ts n good h =
     let few = some_polarity o.token.kind o.token.text n o.takes in
     p_token (record { kind = Decimal; text = decimal n }) n (λ at. n) (decimal_kind n few) (λ at. decimal_again n few) (λ at. refl)
 
-behind_is : (owner : Owner) (w : PropWord) (ts : List Tok) (o : Option Property) → AllSpelled (spellings ts) → (prop_behind owner w).derives ts o → (p : Property) → o ≡ Some p → Behind owner w p
+behind_is : (owner : Owner) (w : PropWord) (ts : List SeenToken) (o : Option SeenProp) → AllSpelled (spellings ts) → (prop_behind owner w).derives ts o → (p : SeenProp) → o ≡ Some p → Behind owner w p
 unfolding prop_behind
 behind_is owner Source ts o good h p is = made_of owner Source (sources owner) ASource bare_signals signals_tokens (sources_law owner) (λ v. refl) (λ x y e. ap ASource e) (λ x cs q. q) ts o good h p is
 behind_is owner LaunchEdge ts o good h p is = made_of owner LaunchEdge name ALaunchEdge itself name_tokens name_law (λ v. refl) (λ x y e. ap ALaunchEdge e) (λ x cs q. q) ts o good h p is
@@ -229,8 +230,8 @@ behind_is owner AccessTogether ts o good h p is =
     subst (Behind owner AccessTogether) made here
 behind_is owner Attribute ts o good h p is = absurd (let e : None ≡ Some p = sym h.5.1 ∙ is in cc)
 
-property_law : (owner : Owner) (ps : List Property) (ts : List Tok) (o : Option Property) → AllSpelled (spellings ts) → (property owner ps).derives ts o → (p : Property) → o ≡ Some p
-    → (qs : List Property) → map bare_property qs ≡ map bare_property ps → Printed (property owner qs) (option_map bare_property) (property_tokens p) (Some p)
+property_law : (owner : Owner) (ps : List SeenProp) (ts : List SeenToken) (o : Option SeenProp) → AllSpelled (spellings ts) → (property owner ps).derives ts o → (p : SeenProp) → o ≡ Some p
+    → (qs : List SeenProp) → map bare_property qs ≡ map bare_property ps → Printed (property owner qs) (option_map bare_property) (property_tokens p) (Some p)
 unfolding property
 property_law owner ps ts o good h p is qs same =
     let g1 = halves h.0 h.1 ts h.3 good in
@@ -248,7 +249,7 @@ property_law owner ps ts o good h p is qs same =
 
 -- ---- bodies
 
-same_lacks : (owner : Owner) (ps qs : List Property) → map bare_property qs ≡ map bare_property ps → lacks owner qs ≡ lacks owner ps
+same_lacks : (owner : Owner) (ps qs : List SeenProp) → map bare_property qs ≡ map bare_property ps → lacks owner qs ≡ lacks owner ps
 same_lacks Register ps qs e = ap not (same_stands ScanInSource ps qs e)
 same_lacks ScanIn ps qs e = refl
 same_lacks ScanOut ps qs e = refl
@@ -257,7 +258,7 @@ same_lacks DataOut ps qs e = refl
 same_lacks Control ps qs e = refl
 same_lacks Alias ps qs e = refl
 
-end_is : {A : Type 0} (b : Bool) (S : Of A) (ts : List Tok) (a : A) → (cond b none S).derives ts a → (b ≡ false) × (S.derives ts a)
+end_is : {A : Type 0} (b : Bool) (S : Of A) (ts : List SeenToken) (a : A) → (cond b none S).derives ts a → (b ≡ false) × (S.derives ts a)
 end_is true S ts a h = absurd h
 end_is false S ts a h = (refl, h)
 
@@ -265,7 +266,7 @@ if_ends : {A A' : Type 0} (b : Bool) (S : Of A) (bare : A → A') (cs : List Spe
 if_ends true S bare cs a e p = absurd (cc)
 if_ends false S bare cs a e p = p
 
-p_body_end : (owner : Owner) (ps qs : List Property) (c : ℕ) → IsSpelled (mark c) → (c == c) ≡ true → lacks owner ps ≡ false → map bare_property qs ≡ map bare_property ps
+p_body_end : (owner : Owner) (ps qs : List SeenProp) (c : ℕ) → IsSpelled (mark c) → (c == c) ≡ true → lacks owner ps ≡ false → map bare_property qs ≡ map bare_property ps
     → Printed (body_end owner qs c) (map bare_property) (mark c ∷ []) ps
 p_body_end owner ps qs c ok self enough same =
     if_ends (lacks owner qs) (a_mark c >>= λ e. give qs) (map bare_property) (mark c ∷ []) ps (same_lacks owner ps qs same ∙ enough)
@@ -287,7 +288,7 @@ body_law owner ts ps good (inr h) =
     (by_cases k.more (ap (lacks owner) (sym k.is) ∙ e.0)
     (λ qs same. subst (λ z. Printed (repeat (property owner) with_property qs) (map bare_property) (in_turn property_tokens k.more) z) k.is (k.printed qs same)))
   where
-    by_cases : (more : List Property) → lacks owner more ≡ false → ((qs : List Property) → map bare_property qs ≡ [] → Printed (repeat (property owner) with_property qs) (map bare_property) (in_turn property_tokens more) more)
+    by_cases : (more : List SeenProp) → lacks owner more ≡ false → ((qs : List SeenProp) → map bare_property qs ≡ [] → Printed (repeat (property owner) with_property qs) (map bare_property) (in_turn property_tokens more) more)
         → Printed (body owner) (map bare_property) (braced property_tokens more) more
     by_cases [] enough p = p_left (p_body_end owner [] [] 59 refl refl enough refl)
     by_cases (x ∷ xs) enough p =

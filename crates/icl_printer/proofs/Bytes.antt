@@ -10,7 +10,8 @@ use Rattle.icl_lexer.specs.declared.token.Kind.TheVariants.{Gap, Is}
 use Rattle.icl_lexer.specs.declared.token.TokenKind.{TokenKind}
 use Rattle.icl_lexer.specs.declared.token.TokenKind.TheVariants.{Word, Decimal, Sized, Quoted, Param, Mark}
 use Rattle.icl_lexer.specs.Pieces.{kind_of, size, in_decimal, in_word, in_digits, in_line, run, ends, base, digits, dollar, quoted, slash, block, is_blank, begins_word, is_mark, is_base, is_digit_x}
-use Rattle.icl_syntax.specs.Tokens.{decimal_from, decimal_of, small}
+use Rattle.ij_text.specs.Numbers.{decimal_from}
+use Rattle.icl_syntax.specs.Tokens.{decimal_of, small}
 
 -- ---- decimals
 

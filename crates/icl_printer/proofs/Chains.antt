@@ -3,10 +3,10 @@ use Rattle.std.proofs.Common.{◌≡◌, ◌<◌, ◌+◌, ◌-◌, ℕ, zero, s
 use Rattle.std.specs.Prelude.{max}
 use Rattle.ij_text.specs.declared.Place.{Place}
 use Rattle.grammar.specs.Symbol.{Parts, one}
-use Rattle.icl_syntax.specs.Tokens.{Tok}
+use Rattle.icl_syntax.specs.Tokens.{SeenToken}
 use Rattle.icl_syntax.specs.declared.tree.Sign.{Sign}
 use Rattle.icl_syntax.specs.declared.tree.Sign.TheVariants.{Plus, Minus, Times, Over, Rest}
-use Rattle.icl_syntax.specs.Values.{Formula, ADecimal, ASized, AQuoted, AParam, AnOp}
+use Rattle.icl_syntax.specs.Values.{SeenExpr, ADecimal, ASized, AQuoted, AParam, AnOp}
 use Rattle.icl_syntax.specs.Grammar.{Of, Counted, Signed, Operand, operator, operand, with_operand, chain, sum_sign, product_sign, in_parentheses, factor, sum_of, leaf_at}
 use Rattle.icl_printer.specs.Layout.{Spelling, mark}
 use Rattle.icl_printer.specs.Canonical.{sign_mark, binding, binding_of}
@@ -16,7 +16,7 @@ use Rattle.icl_printer.proofs.Printed.{cut, all_append, Printed, p_turn, p_last,
 -- ---- what counts of a formula
 
 -- how many operators it has
-abbrev pub ops : Formula → ℕ
+abbrev pub ops : SeenExpr → ℕ
 ops (ADecimal n) = 0
 ops (ASized t) = 0
 ops (AQuoted t) = 0
@@ -28,7 +28,7 @@ around false n = n
 around true n = suc n
 
 -- how deep its parentheses are
-abbrev pub inner : Formula → ℕ
+abbrev pub inner : SeenExpr → ℕ
 inner (ADecimal n) = 0
 inner (ASized t) = 0
 inner (AQuoted t) = 0
@@ -36,10 +36,10 @@ inner (AParam at n) = 0
 inner (AnOp at sign a b) = max (around (nat_lt (binding a) (binding_of sign)) (inner a)) (around (nat_lt (binding b) (binding_of sign + 1)) (inner b))
 
 -- and with those round it, where it has to bind so tightly
-abbrev pub nest : ℕ → Formula → ℕ
+abbrev pub nest : ℕ → SeenExpr → ℕ
 nest level f = around (nat_lt (binding f) level) (inner f)
 
-abbrev pub is_lone : Formula → Bool
+abbrev pub is_lone : SeenExpr → Bool
 is_lone (ADecimal n) = false
 is_lone (ASized t) = true
 is_lone (AQuoted t) = false
@@ -49,7 +49,7 @@ is_lone (AnOp at sign a b) = false
 abbrev pub bare_counted : Counted → Counted
 bare_counted c = record { formula = bare_formula c.formula; used = c.used; lone = c.lone }
 
-abbrev pub counted : Formula → ℕ → Bool → Counted
+abbrev pub counted : SeenExpr → ℕ → Bool → Counted
 counted f used lone = record { formula = f; used = used; lone = lone }
 
 abbrev pub bare_signed : Signed → Signed
@@ -61,21 +61,21 @@ bare_operand o = record { sign = bare_signed o.sign; right = bare_counted o.righ
 -- ---- chains
 
 -- a first part alone
-pub p_up : (first part : ℕ → Of Counted) (sign : Tok → Option Signed) (used : ℕ) {x : List Spelling} {c : Counted} → Printed (first used) bare_counted x c → Printed (chain first part sign used) bare_counted x c
+pub p_up : (first part : ℕ → Of Counted) (sign : SeenToken → Option Signed) (used : ℕ) {x : List Spelling} {c : Counted} → Printed (first used) bare_counted x c → Printed (chain first part sign used) bare_counted x c
 p_up first part sign used p = record {
   good = p.good;
   again = λ us e. let r = p.again us e in (r.0, (us, [], r.0, sym (append-nil us), r.1, (0, (refl, refl))), r.2);
 }
 
-parts_snoc : (part : ℕ → Of Counted) (sign : Tok → Option Signed) (n : ℕ) (s mid : Counted) (ts us : List Tok) (o : Operand)
+parts_snoc : (part : ℕ → Of Counted) (sign : SeenToken → Option Signed) (n : ℕ) (s mid : Counted) (ts us : List SeenToken) (o : Operand)
     → Parts (operand part sign) with_operand n s ts mid → (operand part sign mid).derives us o → Parts (operand part sign) with_operand (suc n) s (ts ++ us) (with_operand mid o)
 parts_snoc part sign zero s mid ts us o h d =
-    (us, [], o, ap (λ (x : List Tok). x ++ us) h.0 ∙ sym (append-nil us), subst (λ m. (operand part sign m).derives us o) h.1 d, (refl, ap (λ m. with_operand m o) h.1))
+    (us, [], o, ap (λ (x : List SeenToken). x ++ us) h.0 ∙ sym (append-nil us), subst (λ m. (operand part sign m).derives us o) h.1 d, (refl, ap (λ m. with_operand m o) h.1))
 parts_snoc part sign (suc n) s mid ts us o h d =
-    (h.0, h.1 ++ us, h.2, ap (λ (x : List Tok). x ++ us) h.3 ∙ append_assoc h.0 h.1 us, h.4, parts_snoc part sign n (with_operand s h.2) mid h.1 us o h.5 d)
+    (h.0, h.1 ++ us, h.2, ap (λ (x : List SeenToken). x ++ us) h.3 ∙ append_assoc h.0 h.1 us, h.4, parts_snoc part sign n (with_operand s h.2) mid h.1 us o h.5 d)
 
 -- one operator and operand more
-pub p_more : (first part : ℕ → Of Counted) (sign : Tok → Option Signed) (used : ℕ) {x y : List Spelling} {a : Counted} {o : Operand}
+pub p_more : (first part : ℕ → Of Counted) (sign : SeenToken → Option Signed) (used : ℕ) {x y : List Spelling} {a : Counted} {o : Operand}
     → Printed (chain first part sign used) bare_counted x a → ((a' : Counted) → bare_counted a' ≡ bare_counted a → Printed (operand part sign a') bare_operand y o)
     → Printed (chain first part sign used) bare_counted (x ++ y) (with_operand a o)
 p_more first part sign used {x} {y} {a} {o} p q = record {
@@ -86,7 +86,7 @@ p_more first part sign used {x} {y} {a} {o} p q = record {
       let right = (q left.0 left.2).again c.back c.back_is in
       let d = left.1 in (
         with_operand left.0 right.0,
-        (d.0, d.1 ++ c.back, d.2, c.whole ∙ ap (λ (z : List Tok). z ++ c.back) d.3 ∙ append_assoc d.0 d.1 c.back, d.4, (suc d.5.0, parts_snoc part sign d.5.0 d.2 left.0 d.1 c.back right.0 d.5.1 right.1)),
+        (d.0, d.1 ++ c.back, d.2, c.whole ∙ ap (λ (z : List SeenToken). z ++ c.back) d.3 ∙ append_assoc d.0 d.1 c.back, d.4, (suc d.5.0, parts_snoc part sign d.5.0 d.2 left.0 d.1 c.back right.0 d.5.1 right.1)),
         same_operation left.0 a right.0 o left.2 right.2,
       );
 }
@@ -100,7 +100,7 @@ p_more first part sign used {x} {y} {a} {o} p q = record {
 -- ---- operators
 
 -- the operators of a chain, told by the mark
-pub record IsSign (read : Tok → Option Signed) (sign : Sign) : Type 0 where
+pub record IsSign (read : SeenToken → Option Signed) (sign : Sign) : Type 0 where
   pub takes : (at : Place) → read (record { kind = (mark (sign_mark sign)).kind; at = at; text = sign_mark sign ∷ [] }) ≡ Some (record { sign = sign; at = at })
   pub spelled : IsSpelled (mark (sign_mark sign))
 
@@ -119,13 +119,13 @@ over_is = record { takes = λ at. refl; spelled = refl }
 pub rest_is : IsSign product_sign Rest
 rest_is = record { takes = λ at. refl; spelled = refl }
 
-p_operator : (spare : ℕ) (lone : Bool) (read : Tok → Option Signed) (sign : Sign) (at : Place) → IsSign read sign → 0 < spare → lone ≡ false
+p_operator : (spare : ℕ) (lone : Bool) (read : SeenToken → Option Signed) (sign : Sign) (at : Place) → IsSign read sign → 0 < spare → lone ≡ false
     → Printed (operator spare lone read) bare_signed (mark (sign_mark sign) ∷ []) (record { sign = sign; at = at })
 p_operator zero lone read sign at is more alone = absurd (omega arith)
 p_operator (suc spare) true read sign at is more alone = absurd (cc)
 p_operator (suc spare) false read sign at is more alone = p_token (mark (sign_mark sign)) (record { sign = sign; at = at }) (λ p. record { sign = sign; at = p }) is.spelled is.takes (λ p. refl)
 
-pub p_operand : (part : ℕ → Of Counted) (read : Tok → Option Signed) (sign : Sign) (at : Place) (y : List Spelling) (a b : Counted) → IsSign read sign → a.used < 256 → a.lone ≡ false
+pub p_operand : (part : ℕ → Of Counted) (read : SeenToken → Option Signed) (sign : Sign) (at : Place) (y : List Spelling) (a b : Counted) → IsSign read sign → a.used < 256 → a.lone ≡ false
     → Printed (part (a.used + 1)) bare_counted y b → Printed (operand part read a) bare_operand (mark (sign_mark sign) ∷ y) (record { sign = record { sign = sign; at = at }; right = b })
 p_operand part read sign at y a b is few alone p =
     let more : 0 < 256 - a.used = omega arith in

@@ -5,9 +5,9 @@ use Rattle.grammar.specs.Symbol.{one, ◌>>=◌, give}
 use Rattle.icl_syntax.specs.declared.tree.PortKind.TheVariants.{ScanInPort, ScanOutPort, DataInPort, DataOutPort, SelectPort, CaptureEnPort, ShiftEnPort, UpdateEnPort, ResetPort, TCKPort, TMSPort, TRSTPort, ClockPort, ToSelectPort, ToCaptureEnPort, ToShiftEnPort, ToUpdateEnPort, ToResetPort, ToTCKPort, ToTMSPort, ToTRSTPort, ToClockPort, ToIRSelectPort}
 use Rattle.icl_syntax.specs.declared.words.ItemWord.{ItemWord}
 use Rattle.icl_syntax.specs.declared.words.ItemWord.TheVariants.{OfPort, OfRegister, OfMux, OfChild, OfAlias, OfEnum, OfParameter, OfAttribute, OfInterface, OfLink}
-use Rattle.icl_syntax.specs.Tokens.{Tok}
+use Rattle.icl_syntax.specs.Tokens.{SeenToken}
 use Rattle.icl_syntax.specs.Words.{port_word, port_named, data_port_named, control_port_named, to_port_named, other_item_named, item_named}
-use Rattle.icl_syntax.specs.Values.{Meaning, APort, ARegister, AMux, AChild, AnAlias, SomeWords, AParameter, AnInterface, ALink, AnAttribute, Thing, Block}
+use Rattle.icl_syntax.specs.Values.{SeenWhat, APort, ARegister, AMux, AChild, AnAlias, SomeWords, AParameter, AnInterface, ALink, AnAttribute, SeenItem, SeenModule}
 use Rattle.icl_syntax.specs.Modules.{ItemBegin, item_begun, item_begin_at, meaning_behind, item, module_of, design}
 use Rattle.icl_printer.specs.Layout.{Spelling, word}
 use Rattle.icl_printer.specs.Canonical.{parameter_word, item_tokens, thing_tokens, module_tokens, tokens_of}
@@ -108,12 +108,12 @@ p_item_begin b = p_token (word (item_word b.word)) b (λ at. record { at = at; w
 -- ---- items
 
 -- what stands behind the word and the name of an item
-record Meant (w : ItemWord) (m : Meaning) : Type 0 where
+record Meant (w : ItemWord) (m : SeenWhat) : Type 0 where
   middle : List Spelling
   tokens_are : (n : List ℕ) → item_tokens n m ≡ word (item_word w) ∷ word n ∷ middle
   printed : Printed (meaning_behind w) bare_meaning middle m
 
-meaning_law : (w : ItemWord) (ts : List Tok) (m : Meaning) → AllSpelled (spellings ts) → (meaning_behind w).derives ts m → Meant w m
+meaning_law : (w : ItemWord) (ts : List SeenToken) (m : SeenWhat) → AllSpelled (spellings ts) → (meaning_behind w).derives ts m → Meant w m
 meaning_law (OfPort k) ts m good h =
     let r = port_law k ts m good h in
     subst (Meant (OfPort k)) (sym r.2) (let z : Meant (OfPort k) (APort k r.0 r.1) = record { middle = _; tokens_are = λ n. refl; printed = r.3 } in z)
@@ -154,7 +154,7 @@ item_law ts t good h =
     let h3 = h2.5 in
     let g3 = halves h3.0 h3.1 h2.1 h3.3 g2.1 in
     let r = meaning_law h.2.word h3.0 h3.2 g3.0 h3.4 in
-    let x : Thing = record { at = h.2.at; name = h2.2; what = h3.2 } in
+    let x : SeenItem = record { at = h.2.at; name = h2.2; what = h3.2 } in
     let again : Printed item bare_thing (thing_tokens x) x =
     subst (λ (y : List Spelling). Printed item bare_thing y x) (sym (r.tokens_are h2.2))
     (p_turn (p_item_begin h.2)
@@ -184,5 +184,5 @@ design_law = many_law module_of bare_block module_tokens module_law
 pub printed_tokens_derive_it : PrintedTokensDeriveIt
 printed_tokens_derive_it read printed d good h spelled = (design_law read d good h).again printed spelled
 
-pub printed_tokens_are_pieces : (read : List Tok) (d : List Block) → AllSpelled (spellings read) → design.derives read d → AllSpelled (tokens_of d)
+pub printed_tokens_are_pieces : (read : List SeenToken) (d : List SeenModule) → AllSpelled (spellings read) → design.derives read d → AllSpelled (tokens_of d)
 printed_tokens_are_pieces read d good h = (design_law read d good h).good

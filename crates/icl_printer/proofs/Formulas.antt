@@ -5,7 +5,7 @@ use Rattle.std.specs.Prelude.{max}
 use Rattle.ij_text.specs.declared.Place.{Place}
 use Rattle.icl_syntax.specs.declared.tree.Sign.{Sign}
 use Rattle.icl_syntax.specs.declared.tree.Sign.TheVariants.{Plus, Minus, Times, Over, Rest}
-use Rattle.icl_syntax.specs.Values.{Formula, ADecimal, ASized, AQuoted, AParam, AnOp}
+use Rattle.icl_syntax.specs.Values.{SeenExpr, ADecimal, ASized, AQuoted, AParam, AnOp}
 use Rattle.icl_syntax.specs.Grammar.{Counted, sum_sign, product_sign, factor, term, sum_of}
 use Rattle.icl_printer.specs.Layout.{Spelling, mark}
 use Rattle.icl_printer.specs.Canonical.{sign_mark, binding, binding_of, in_parentheses, formula_tokens}
@@ -14,7 +14,7 @@ use Rattle.icl_printer.proofs.Leaves.{Sound, p_decimal_leaf, p_sized_leaf, p_quo
 use Rattle.icl_printer.proofs.Chains.{ops, around, inner, nest, is_lone, bare_counted, counted, p_up, p_more, p_operand, p_enclosed, p_leaf, IsSign, plus_is, minus_is, times_is, over_is, rest_is}
 
 -- what is to be had of a formula, by how tightly it binds
-pub record Again (f : Formula) : Type 0 where
+pub record Again (f : SeenExpr) : Type 0 where
   pub as_sum : (d used : ℕ) → inner f ≤ d → used + ops f ≤ 256 → Printed (sum_of d used) bare_counted (formula_tokens f) (counted f (used + ops f) (is_lone f))
   pub as_term : 2 ≤ binding f → (d : ℕ) (alone : Bool) (used : ℕ) → inner f ≤ d → used + ops f ≤ 256 → Printed (term d alone used) bare_counted (formula_tokens f) (counted f (used + ops f) false)
   pub as_factor : 3 ≤ binding f → (d : ℕ) (alone : Bool) (used : ℕ) → inner f ≤ d → used + ops f ≤ 256 → Printed (factor d alone used) bare_counted (formula_tokens f) (counted f (used + ops f) false)
@@ -26,7 +26,7 @@ sum_up : (d used : ℕ) (x : List Spelling) (c : Counted) → Printed (term d tr
 sum_up d used x c p = p_up (term d true) (term d false) sum_sign used p
 
 -- what stands alone binds most tightly
-from_factor : (f : Formula) → is_lone f ≡ false → ((d : ℕ) (alone : Bool) (used : ℕ) → inner f ≤ d → used + ops f ≤ 256 → Printed (factor d alone used) bare_counted (formula_tokens f) (counted f (used + ops f) false)) → Again f
+from_factor : (f : SeenExpr) → is_lone f ≡ false → ((d : ℕ) (alone : Bool) (used : ℕ) → inner f ≤ d → used + ops f ≤ 256 → Printed (factor d alone used) bare_counted (formula_tokens f) (counted f (used + ops f) false)) → Again f
 from_factor f plain p = record {
   as_sum = λ d used deep many.
       subst (λ (lone : Bool). Printed (sum_of d used) bare_counted (formula_tokens f) (counted f (used + ops f) lone)) (sym plain)
@@ -37,7 +37,7 @@ from_factor f plain p = record {
 
 -- ---- operands
 
-not_lone : (f : Formula) → 1 ≤ binding f → is_lone f ≡ false
+not_lone : (f : SeenExpr) → 1 ≤ binding f → is_lone f ≡ false
 not_lone (ADecimal n) h = refl
 not_lone (ASized t) h = absurd (omega arith)
 not_lone (AQuoted t) h = refl
@@ -45,7 +45,7 @@ not_lone (AParam at n) h = refl
 not_lone (AnOp at sign a b) h = refl
 
 -- in parentheses
-enclosed : (f : Formula) (d : ℕ) (alone : Bool) (used : ℕ) → Again f → suc (inner f) ≤ d → used + ops f ≤ 256
+enclosed : (f : SeenExpr) (d : ℕ) (alone : Bool) (used : ℕ) → Again f → suc (inner f) ≤ d → used + ops f ≤ 256
     → Printed (factor d alone used) bare_counted (in_parentheses true (formula_tokens f)) (counted f (used + ops f) false)
 enclosed f zero alone used g deep many = absurd (omega arith)
 enclosed f (suc d) alone used g deep many = p_enclosed d alone used (formula_tokens f) (counted f (used + ops f) (is_lone f)) (g.as_sum d used (omega arith) many)
@@ -53,7 +53,7 @@ enclosed f (suc d) alone used g deep many = p_enclosed d alone used (formula_tok
 bare_of : (x : List Spelling) → in_parentheses false x ≡ x
 bare_of x = append-nil x
 
-pub as_left_of_sum : (f : Formula) (d used : ℕ) → Again f → nest 1 f ≤ d → used + ops f ≤ 256
+pub as_left_of_sum : (f : SeenExpr) (d used : ℕ) → Again f → nest 1 f ≤ d → used + ops f ≤ 256
     → Printed (sum_of d used) bare_counted (in_parentheses (nat_lt (binding f) 1) (formula_tokens f)) (counted f (used + ops f) false)
 as_left_of_sum f d used g = by_cases (nat_lt (binding f) 1) refl
   where
@@ -65,7 +65,7 @@ as_left_of_sum f d used g = by_cases (nat_lt (binding f) 1) refl
         subst (λ (x : List Spelling). Printed (sum_of d used) bare_counted x (counted f (used + ops f) false)) (sym (bare_of (formula_tokens f)))
         (subst (λ (lone : Bool). Printed (sum_of d used) bare_counted (formula_tokens f) (counted f (used + ops f) lone)) (not_lone f (ltb-false (binding f) 1 is)) (g.as_sum d used deep many))
 
-pub as_term_operand : (f : Formula) (d : ℕ) (alone : Bool) (used : ℕ) → Again f → nest 2 f ≤ d → used + ops f ≤ 256
+pub as_term_operand : (f : SeenExpr) (d : ℕ) (alone : Bool) (used : ℕ) → Again f → nest 2 f ≤ d → used + ops f ≤ 256
     → Printed (term d alone used) bare_counted (in_parentheses (nat_lt (binding f) 2) (formula_tokens f)) (counted f (used + ops f) false)
 as_term_operand f d alone used g = by_cases (nat_lt (binding f) 2) refl
   where
@@ -75,7 +75,7 @@ as_term_operand f d alone used g = by_cases (nat_lt (binding f) 2) refl
         subst (λ (x : List Spelling). Printed (term d alone used) bare_counted x (counted f (used + ops f) false)) (sym (bare_of (formula_tokens f)))
         (g.as_term (ltb-false (binding f) 2 is) d alone used deep many)
 
-pub as_factor_operand : (f : Formula) (d used : ℕ) → Again f → nest 3 f ≤ d → used + ops f ≤ 256
+pub as_factor_operand : (f : SeenExpr) (d used : ℕ) → Again f → nest 3 f ≤ d → used + ops f ≤ 256
     → Printed (factor d false used) bare_counted (in_parentheses (nat_lt (binding f) 3) (formula_tokens f)) (counted f (used + ops f) false)
 as_factor_operand f d used g = by_cases (nat_lt (binding f) 3) refl
   where
@@ -91,7 +91,7 @@ as_factor_operand f d used g = by_cases (nat_lt (binding f) 3) refl
 count_is : (used m n : ℕ) → used + m + 1 + n ≡ used + (m + (1 + n))
 count_is used m n = omega arith
 
-sum_again : (sign : Sign) (at : Place) (a b : Formula) → IsSign sum_sign sign → binding_of sign ≡ 1 → Again a → Again b → (d used : ℕ) → nest 1 a ≤ d → nest 2 b ≤ d → used + (ops a + (1 + ops b)) ≤ 256
+sum_again : (sign : Sign) (at : Place) (a b : SeenExpr) → IsSign sum_sign sign → binding_of sign ≡ 1 → Again a → Again b → (d used : ℕ) → nest 1 a ≤ d → nest 2 b ≤ d → used + (ops a + (1 + ops b)) ≤ 256
     → Printed (sum_of d used) bare_counted (in_parentheses (nat_lt (binding a) 1) (formula_tokens a) ++ (mark (sign_mark sign) ∷ in_parentheses (nat_lt (binding b) 2) (formula_tokens b)))
     (counted (AnOp at sign a b) (used + (ops a + (1 + ops b))) false)
 sum_again sign at a b is level ga gb d used left right many =
@@ -104,7 +104,7 @@ sum_again sign at a b is level ga gb d used left right many =
     p_operand (term d false) sum_sign sign at (in_parentheses (nat_lt (binding b) 2) (formula_tokens b)) c (counted b (n + 1 + ops b) false) is (omega arith) (ap (λ (z : Counted). z.lone) same)
     (subst (λ k. Printed (term d false (k + 1)) bare_counted (in_parentheses (nat_lt (binding b) 2) (formula_tokens b)) (counted b (n + 1 + ops b) false)) (sym count) p)))
 
-product_again : (sign : Sign) (at : Place) (a b : Formula) → IsSign product_sign sign → binding_of sign ≡ 2 → Again a → Again b → (d : ℕ) (alone : Bool) (used : ℕ) → nest 2 a ≤ d → nest 3 b ≤ d → used + (ops a + (1 + ops b)) ≤ 256
+product_again : (sign : Sign) (at : Place) (a b : SeenExpr) → IsSign product_sign sign → binding_of sign ≡ 2 → Again a → Again b → (d : ℕ) (alone : Bool) (used : ℕ) → nest 2 a ≤ d → nest 3 b ≤ d → used + (ops a + (1 + ops b)) ≤ 256
     → Printed (term d alone used) bare_counted (in_parentheses (nat_lt (binding a) 2) (formula_tokens a) ++ (mark (sign_mark sign) ∷ in_parentheses (nat_lt (binding b) 3) (formula_tokens b)))
     (counted (AnOp at sign a b) (used + (ops a + (1 + ops b))) false)
 product_again sign at a b is level ga gb d alone used left right many =
@@ -117,14 +117,14 @@ product_again sign at a b is level ga gb d alone used left right many =
     p_operand (factor d false) product_sign sign at (in_parentheses (nat_lt (binding b) 3) (formula_tokens b)) c (counted b (n + 1 + ops b) false) is (omega arith) (ap (λ (z : Counted). z.lone) same)
     (subst (λ k. Printed (factor d false (k + 1)) bare_counted (in_parentheses (nat_lt (binding b) 3) (formula_tokens b)) (counted b (n + 1 + ops b) false)) (sym count) p)))
 
-operation_text : (at : Place) (sign : Sign) (a b : Formula) (n : ℕ) → binding_of sign ≡ n
+operation_text : (at : Place) (sign : Sign) (a b : SeenExpr) (n : ℕ) → binding_of sign ≡ n
     → formula_tokens (AnOp at sign a b) ≡ in_parentheses (nat_lt (binding a) n) (formula_tokens a) ++ (mark (sign_mark sign) ∷ in_parentheses (nat_lt (binding b) (n + 1)) (formula_tokens b))
 operation_text at sign a b n e = ap (λ k. in_parentheses (nat_lt (binding a) k) (formula_tokens a) ++ (mark (sign_mark sign) ∷ in_parentheses (nat_lt (binding b) (k + 1)) (formula_tokens b))) e
 
-inner_is : (at : Place) (sign : Sign) (a b : Formula) (n : ℕ) → binding_of sign ≡ n → inner (AnOp at sign a b) ≡ max (nest n a) (nest (n + 1) b)
+inner_is : (at : Place) (sign : Sign) (a b : SeenExpr) (n : ℕ) → binding_of sign ≡ n → inner (AnOp at sign a b) ≡ max (nest n a) (nest (n + 1) b)
 inner_is at sign a b n e = ap (λ k. max (nest k a) (nest (k + 1) b)) e
 
-a_sum : (sign : Sign) (at : Place) (a b : Formula) → IsSign sum_sign sign → binding_of sign ≡ 1 → Again a → Again b → Again (AnOp at sign a b)
+a_sum : (sign : Sign) (at : Place) (a b : SeenExpr) → IsSign sum_sign sign → binding_of sign ≡ 1 → Again a → Again b → Again (AnOp at sign a b)
 a_sum sign at a b is level ga gb = record {
   as_sum = λ d used deep many.
       let deeper : max (nest 1 a) (nest 2 b) ≤ d = subst (λ n. n ≤ d) (inner_is at sign a b 1 level) deep in
@@ -134,7 +134,7 @@ a_sum sign at a b is level ga gb = record {
   as_factor = λ tight d alone used deep many. absurd (omega arith);
 }
 
-a_product : (sign : Sign) (at : Place) (a b : Formula) → IsSign product_sign sign → binding_of sign ≡ 2 → Again a → Again b → Again (AnOp at sign a b)
+a_product : (sign : Sign) (at : Place) (a b : SeenExpr) → IsSign product_sign sign → binding_of sign ≡ 2 → Again a → Again b → Again (AnOp at sign a b)
 a_product sign at a b is level ga gb =
     let product : (d : ℕ) (alone : Bool) (used : ℕ) → inner (AnOp at sign a b) ≤ d → used + ops (AnOp at sign a b) ≤ 256 → Printed (term d alone used) bare_counted (formula_tokens (AnOp at sign a b)) (counted (AnOp at sign a b) (used + ops (AnOp at sign a b)) false) =
     λ d alone used deep many.
@@ -152,7 +152,7 @@ a_product sign at a b is level ga gb =
 none_more : (used : ℕ) → used + 0 ≡ used
 none_more used = omega arith
 
-pub formula_again : (f : Formula) → Sound f → Again f
+pub formula_again : (f : SeenExpr) → Sound f → Again f
 unfolding Sound
 formula_again (ADecimal n) s =
     from_factor (ADecimal n) refl

@@ -11,9 +11,9 @@ use Rattle.icl_syntax.specs.declared.words.BindWord.{BindWord}
 use Rattle.icl_syntax.specs.declared.words.BindWord.TheVariants.{BindsPort, BindsParameter, BindsAttribute}
 use Rattle.icl_syntax.specs.declared.words.MemberWord.{MemberWord}
 use Rattle.icl_syntax.specs.declared.words.MemberWord.TheVariants.{MemberPort, MemberAttribute}
-use Rattle.icl_syntax.specs.Tokens.{Tok}
+use Rattle.icl_syntax.specs.Tokens.{SeenToken}
 use Rattle.icl_syntax.specs.Words.{link_word, link_named, bind_named, member_named}
-use Rattle.icl_syntax.specs.Values.{Binding, ABoundPort, ABoundParameter, ABoundAttribute, EnumValue, Instruction, Meaning, AChild, SomeWords, AnInterface, ALink}
+use Rattle.icl_syntax.specs.Values.{SeenBind, ABoundPort, ABoundParameter, ABoundAttribute, SeenEnumWord, SeenLinkInstr, SeenWhat, AChild, SomeWords, AnInterface, ALink}
 use Rattle.icl_syntax.specs.Grammar.{Of, ended_by, AttributeSaid}
 use Rattle.icl_syntax.specs.Modules.{BindBegin, begun_by, bind_begin_at, bound_port, bound_parameter, bound_attribute, bind_behind, bind, binds, braced as a_braced, child, enum_word, words, member_word_at, member_behind, member, with_member, interface, Selected, selected, selecting, instruction, link_kind_at, entity, link}
 use Rattle.icl_printer.specs.Layout.{Spelling, word, mark}
@@ -47,12 +47,12 @@ p_bind_begin : (b : BindBegin) → Printed (one bind_begin_at) (λ z. z.word) (w
 p_bind_begin b = p_token (word (bind_word b.word)) b (λ at. record { at = at; word = b.word }) (bind_spelled b.word) (λ at. ap (begun_by at) (bind_again b.word)) (λ at. refl)
 
 -- what stands behind the word of a binding: with any place the same
-record Bound (w : BindWord) (b : Binding) : Type 0 where
+record Bound (w : BindWord) (b : SeenBind) : Type 0 where
   middle : List Spelling
   tokens_are : binding_tokens b ≡ word (bind_word w) ∷ (middle ++ (mark 59 ∷ []))
   printed : (at : Place) → Printed (bind_behind at w) bare_binding middle b
 
-bound_port_law : (at : Place) (ts : List Tok) (b : Binding) → AllSpelled (spellings ts) → (bound_port at).derives ts b → Bound BindsPort b
+bound_port_law : (at : Place) (ts : List SeenToken) (b : SeenBind) → AllSpelled (spellings ts) → (bound_port at).derives ts b → Bound BindsPort b
 unfolding bound_port
 bound_port_law at ts b good h =
     let g1 = halves h.0 h.1 ts h.3 good in
@@ -72,7 +72,7 @@ bound_port_law at ts b good h =
     } in
     subst (Bound BindsPort) (sym h4.5.1) here
 
-bound_parameter_law : (at : Place) (ts : List Tok) (b : Binding) → AllSpelled (spellings ts) → (bound_parameter at).derives ts b → Bound BindsParameter b
+bound_parameter_law : (at : Place) (ts : List SeenToken) (b : SeenBind) → AllSpelled (spellings ts) → (bound_parameter at).derives ts b → Bound BindsParameter b
 unfolding bound_parameter
 bound_parameter_law at ts b good h =
     let g1 = halves h.0 h.1 ts h.3 good in
@@ -85,7 +85,7 @@ bound_parameter_law at ts b good h =
     } in
     subst (Bound BindsParameter) (sym h2.5.1) here
 
-bound_attribute_law : (ts : List Tok) (b : Binding) → AllSpelled (spellings ts) → bound_attribute.derives ts b → Bound BindsAttribute b
+bound_attribute_law : (ts : List SeenToken) (b : SeenBind) → AllSpelled (spellings ts) → bound_attribute.derives ts b → Bound BindsAttribute b
 unfolding bound_attribute
 bound_attribute_law ts b good h =
     let g1 = halves h.0 h.1 ts h.3 good in
@@ -96,7 +96,7 @@ bound_attribute_law ts b good h =
     } in
     subst (Bound BindsAttribute) (sym h.5.1) here
 
-bind_behind_law : (at : Place) (w : BindWord) (ts : List Tok) (b : Binding) → AllSpelled (spellings ts) → (bind_behind at w).derives ts b → Bound w b
+bind_behind_law : (at : Place) (w : BindWord) (ts : List SeenToken) (b : SeenBind) → AllSpelled (spellings ts) → (bind_behind at w).derives ts b → Bound w b
 bind_behind_law at BindsPort ts b good h = bound_port_law at ts b good h
 bind_behind_law at BindsParameter ts b good h = bound_parameter_law at ts b good h
 bind_behind_law at BindsAttribute ts b good h = bound_attribute_law ts b good h
@@ -128,7 +128,7 @@ no_binds : Printed binds (map bare_binding) (mark 59 ∷ []) []
 unfolding binds
 no_binds = p_left (p_last (p_mark 59 nowhere refl refl) (λ e ee. refl))
 
-some_binds : (bs : List Binding) → Printed binds (map bare_binding) (mark 123 ∷ (in_turn binding_tokens bs ++ (mark 125 ∷ []))) bs → Printed binds (map bare_binding) (braced binding_tokens bs) bs
+some_binds : (bs : List SeenBind) → Printed binds (map bare_binding) (mark 123 ∷ (in_turn binding_tokens bs ++ (mark 125 ∷ []))) bs → Printed binds (map bare_binding) (braced binding_tokens bs) bs
 some_binds [] p = no_binds
 some_binds (b ∷ bs) p = p
 
@@ -137,8 +137,8 @@ unfolding binds
 binds_law ts bs good (inl h) = subst (λ z. Printed binds (map bare_binding) (braced binding_tokens z) z) (sym h.5.1) no_binds
 binds_law ts bs good (inr h) = some_binds bs (p_right (braced_again bind bare_binding binding_tokens bind_law ts bs good h))
 
-pub child_law : (ts : List Tok) (m : Meaning) → AllSpelled (spellings ts) → child.derives ts m
-    → (n : List ℕ) × (bs : List Binding) × (m ≡ AChild n bs) × (Printed child bare_meaning (word (codes "Of") ∷ word n ∷ braced binding_tokens bs) (AChild n bs))
+pub child_law : (ts : List SeenToken) (m : SeenWhat) → AllSpelled (spellings ts) → child.derives ts m
+    → (n : List ℕ) × (bs : List SeenBind) × (m ≡ AChild n bs) × (Printed child bare_meaning (word (codes "Of") ∷ word n ∷ braced binding_tokens bs) (AChild n bs))
 unfolding child
 child_law ts m good h =
     let g1 = halves h.0 h.1 ts h.3 good in
@@ -165,8 +165,8 @@ enum_law ts w good h =
     subst (λ z. Printed enum_word bare_word (enum_tokens z) z) (sym h3.5.5.1)
     (p_turn (name_law h.0 h.2 g1.0 h.4) (λ n en. p_turn (p_mark 61 nowhere refl refl) (λ e ee. p_turn (value_law h3.0 h3.2 g3.0 h3.4) (λ v ev. p_last (p_mark 59 nowhere refl refl) (λ s es. cc (en, ev))))))
 
-pub words_law : (ts : List Tok) (m : Meaning) → AllSpelled (spellings ts) → words.derives ts m
-    → (ws : List EnumValue) × (m ≡ SomeWords ws) × (Printed words bare_meaning (mark 123 ∷ (in_turn enum_tokens ws ++ (mark 125 ∷ []))) (SomeWords ws))
+pub words_law : (ts : List SeenToken) (m : SeenWhat) → AllSpelled (spellings ts) → words.derives ts m
+    → (ws : List SeenEnumWord) × (m ≡ SomeWords ws) × (Printed words bare_meaning (mark 123 ∷ (in_turn enum_tokens ws ++ (mark 125 ∷ []))) (SomeWords ws))
 unfolding words
 words_law ts m good h =
     let g1 = halves h.0 h.1 ts h.3 good in
@@ -178,7 +178,7 @@ member_takes : (at : Place) → member_word_at (record { kind = Word; at = at; t
 unfolding member_named
 member_takes at = refl
 
-member_law : (xs : List (List ℕ)) (ts : List Tok) (o : Option (List ℕ)) → AllSpelled (spellings ts) → member.derives ts o → (x : List ℕ) → o ≡ Some x
+member_law : (xs : List (List ℕ)) (ts : List SeenToken) (o : Option (List ℕ)) → AllSpelled (spellings ts) → member.derives ts o → (x : List ℕ) → o ≡ Some x
     → (zs : List (List ℕ)) → map itself zs ≡ map itself xs → Printed member (option_map itself) (member_tokens x) (Some x)
 unfolding member
 member_law xs ts o good h x is zs same = by_word h.2 (h.5.4) (sym h.5.5.5.1 ∙ is) (halves h.5.0 h.5.1 h.1 h.5.3 (halves h.0 h.1 ts h.3 good).1).0
@@ -195,7 +195,7 @@ member_law xs ts o good h x is zs same = by_word h.2 (h.5.4) (sym h.5.5.5.1 ∙ 
         (λ w ew. subst (λ u. Printed (ended_by 59 (member_behind u)) (option_map itself) (word d.2 ∷ mark 59 ∷ []) (Some d.2)) (sym ew)
         (p_turn kept (λ a ea. p_last (p_mark 59 nowhere refl refl) (λ c ec. ea)))))
 
-pub interface_law : (ts : List Tok) (m : Meaning) → AllSpelled (spellings ts) → interface.derives ts m
+pub interface_law : (ts : List SeenToken) (m : SeenWhat) → AllSpelled (spellings ts) → interface.derives ts m
     → (ns : List (List ℕ)) × (m ≡ AnInterface ns) × (Printed interface bare_meaning (mark 123 ∷ (in_turn member_tokens ns ++ (mark 125 ∷ []))) (AnInterface ns))
 unfolding interface
 interface_law ts m good h =
@@ -266,8 +266,8 @@ link_spelled Std2013 = refl
 p_link_kind : (k : LinkKind) → Printed (one link_kind_at) itself (word (link_word k) ∷ []) k
 p_link_kind k = p_token (word (link_word k)) k (λ at. k) (link_spelled k) (λ at. link_again k) (λ at. refl)
 
-pub link_law : (ts : List Tok) (m : Meaning) → AllSpelled (spellings ts) → link.derives ts m
-    → (k : LinkKind) × (e : List ℕ) × (is : List Instruction) × (m ≡ ALink k e is)
+pub link_law : (ts : List SeenToken) (m : SeenWhat) → AllSpelled (spellings ts) → link.derives ts m
+    → (k : LinkKind) × (e : List ℕ) × (is : List SeenLinkInstr) × (m ≡ ALink k e is)
     × (Printed link bare_meaning (word (codes "Of") ∷ word (link_word k) ∷ mark 123 ∷ word (codes "BSDLEntity") ∷ word e ∷ mark 59 ∷ (in_turn instruction_tokens is ++ (mark 125 ∷ []))) (ALink k e is))
 unfolding link
 link_law ts m good h =

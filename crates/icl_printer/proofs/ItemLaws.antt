@@ -5,8 +5,8 @@ use Rattle.std.specs.Option.{option_map}
 use Rattle.icl_syntax.specs.declared.tree.PortKind.{PortKind}
 use Rattle.icl_syntax.specs.declared.words.Owner.{Owner}
 use Rattle.icl_syntax.specs.declared.words.Owner.TheVariants.{ScanIn, ScanOut, DataIn, DataOut, Control, Register, Alias}
-use Rattle.icl_syntax.specs.Tokens.{Tok}
-use Rattle.icl_syntax.specs.Values.{Formula, Span, Signal, Property, Row, Meaning, APort, ARegister, AMux, AnAlias, AParameter, AnAttribute}
+use Rattle.icl_syntax.specs.Tokens.{SeenToken}
+use Rattle.icl_syntax.specs.Values.{SeenExpr, SeenRange, SeenSig, SeenProp, SeenRow, SeenWhat, APort, ARegister, AMux, AnAlias, AParameter, AnAttribute}
 use Rattle.icl_syntax.specs.Grammar.{value, AttributeSaid, attribute_said}
 use Rattle.icl_syntax.specs.Modules.{owner_of, port_range, port, register, alias, parameter, attribute, row, rows, mux}
 use Rattle.icl_printer.specs.Layout.{word, mark}
@@ -28,8 +28,8 @@ port_range_law Control ts r good h = maybe_range_law ts r good h
 port_range_law Register ts r good h = maybe_range_law ts r good h
 port_range_law Alias ts r good h = maybe_range_law ts r good h
 
-pub port_law : (kind : PortKind) (ts : List Tok) (m : Meaning) → AllSpelled (spellings ts) → (port kind).derives ts m
-    → (r : Option Span) × (ps : List Property) × (m ≡ APort kind r ps) × (Printed (port kind) bare_meaning (if_there range_tokens r ++ braced property_tokens ps) (APort kind r ps))
+pub port_law : (kind : PortKind) (ts : List SeenToken) (m : SeenWhat) → AllSpelled (spellings ts) → (port kind).derives ts m
+    → (r : Option SeenRange) × (ps : List SeenProp) × (m ≡ APort kind r ps) × (Printed (port kind) bare_meaning (if_there range_tokens r ++ braced property_tokens ps) (APort kind r ps))
 unfolding port
 port_law kind ts m good h =
     let g1 = halves h.0 h.1 ts h.3 good in
@@ -41,8 +41,8 @@ port_law kind ts m good h =
       p_turn (port_range_law (owner_of kind) h.0 h.2 g1.0 h.4) (λ r er. p_last (body_law (owner_of kind) h2.0 h2.2 g2.0 h2.4) (λ ps ep. cc (er, ep))),
     )
 
-pub register_law : (ts : List Tok) (m : Meaning) → AllSpelled (spellings ts) → register.derives ts m
-    → (r : Option Span) × (ps : List Property) × (m ≡ ARegister r ps) × (Printed register bare_meaning (if_there range_tokens r ++ braced property_tokens ps) (ARegister r ps))
+pub register_law : (ts : List SeenToken) (m : SeenWhat) → AllSpelled (spellings ts) → register.derives ts m
+    → (r : Option SeenRange) × (ps : List SeenProp) × (m ≡ ARegister r ps) × (Printed register bare_meaning (if_there range_tokens r ++ braced property_tokens ps) (ARegister r ps))
 unfolding register
 register_law ts m good h =
     let g1 = halves h.0 h.1 ts h.3 good in
@@ -54,8 +54,8 @@ register_law ts m good h =
       p_turn (maybe_range_law h.0 h.2 g1.0 h.4) (λ r er. p_last (body_law Register h2.0 h2.2 g2.0 h2.4) (λ ps ep. cc (er, ep))),
     )
 
-pub alias_law : (ts : List Tok) (m : Meaning) → AllSpelled (spellings ts) → alias.derives ts m
-    → (r : Option Span) × (ss : List Signal) × (ps : List Property) × (m ≡ AnAlias r ss ps)
+pub alias_law : (ts : List SeenToken) (m : SeenWhat) → AllSpelled (spellings ts) → alias.derives ts m
+    → (r : Option SeenRange) × (ss : List SeenSig) × (ps : List SeenProp) × (m ≡ AnAlias r ss ps)
     × (Printed alias bare_meaning (if_there range_tokens r ++ (mark 61 ∷ (signals_tokens ss ++ braced property_tokens ps))) (AnAlias r ss ps))
 unfolding alias
 alias_law ts m good h =
@@ -75,15 +75,15 @@ alias_law ts m good h =
 
 -- ---- parameters and attributes
 
-pub parameter_law : (local : Bool) (ts : List Tok) (m : Meaning) → AllSpelled (spellings ts) → (parameter local).derives ts m
-    → (v : Formula) × (m ≡ AParameter local v) × (Printed (parameter local) bare_meaning (mark 61 ∷ (formula_tokens v ++ (mark 59 ∷ []))) (AParameter local v))
+pub parameter_law : (local : Bool) (ts : List SeenToken) (m : SeenWhat) → AllSpelled (spellings ts) → (parameter local).derives ts m
+    → (v : SeenExpr) × (m ≡ AParameter local v) × (Printed (parameter local) bare_meaning (mark 61 ∷ (formula_tokens v ++ (mark 59 ∷ []))) (AParameter local v))
 unfolding parameter
 parameter_law local ts m good h =
     let g1 = halves h.0 h.1 ts h.3 good in
     (h.2, h.5.5.1, p_turn (behind_expr_law 61 refl refl h.0 h.2 g1.0 h.4) (λ v ev. p_last (p_mark 59 nowhere refl refl) (λ s es. ap (AParameter local) ev)))
 
-pub attribute_law : (ts : List Tok) (m : Meaning) → AllSpelled (spellings ts) → attribute.derives ts m
-    → (v : Option Formula) × (m ≡ AnAttribute v) × (Printed attribute bare_meaning (if_there (behind 61 formula_tokens) v ++ (mark 59 ∷ [])) (AnAttribute v))
+pub attribute_law : (ts : List SeenToken) (m : SeenWhat) → AllSpelled (spellings ts) → attribute.derives ts m
+    → (v : Option SeenExpr) × (m ≡ AnAttribute v) × (Printed attribute bare_meaning (if_there (behind 61 formula_tokens) v ++ (mark 59 ∷ [])) (AnAttribute v))
 unfolding attribute
 attribute_law ts m good h =
     let g1 = halves h.0 h.1 ts h.3 good in
@@ -108,11 +108,11 @@ unfolding rows
 rows_law ts rs good h =
     let g = halves h.0 h.1 ts h.3 good in
     let k = appends row bare_row row_tokens row_law h.5.0 h.1 (h.2 ∷ []) rs g.1 h.5.1 in
-    subst (λ (xs : List Row). Printed rows (map bare_row) (in_turn row_tokens xs) rs) (sym k.is)
+    subst (λ (xs : List SeenRow). Printed rows (map bare_row) (in_turn row_tokens xs) rs) (sym k.is)
     (p_turn (row_law h.0 h.2 g.0 h.4) (λ r er. k.printed (r ∷ []) (ap (λ z. z ∷ []) er)))
 
-pub mux_law : (ts : List Tok) (m : Meaning) → AllSpelled (spellings ts) → mux.derives ts m
-    → (ss : List Signal) × (rs : List Row) × (m ≡ AMux ss rs)
+pub mux_law : (ts : List SeenToken) (m : SeenWhat) → AllSpelled (spellings ts) → mux.derives ts m
+    → (ss : List SeenSig) × (rs : List SeenRow) × (m ≡ AMux ss rs)
     × (Printed mux bare_meaning (word (codes "SelectedBy") ∷ (signals_tokens ss ++ (mark 123 ∷ (in_turn row_tokens rs ++ (mark 125 ∷ []))))) (AMux ss rs))
 unfolding mux
 mux_law ts m good h =
@@ -132,7 +132,7 @@ mux_law ts m good h =
 
 -- ---- instances
 
-pub attribute_said_law : (ts : List Tok) (a : AttributeSaid) → AllSpelled (spellings ts) → attribute_said.derives ts a
+pub attribute_said_law : (ts : List SeenToken) (a : AttributeSaid) → AllSpelled (spellings ts) → attribute_said.derives ts a
     → Printed attribute_said (λ z. let b : AttributeSaid = record { name = z.name; value = option_map bare_formula z.value } in b) (word a.name ∷ if_there (behind 61 formula_tokens) a.value) a
 unfolding attribute_said
 attribute_said_law ts a good h =

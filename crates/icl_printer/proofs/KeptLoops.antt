@@ -2,7 +2,7 @@
 use Rattle.std.proofs.Common.{◌≡◌, ℕ, zero, suc, List, [], ◌∷◌, ◌++◌, map, Option, Some, None, refl, sym, ap, ◌∙◌, subst, append_assoc, append-nil}
 use Rattle.std.specs.Option.{option_map}
 use Rattle.grammar.specs.Symbol.{repeat, Parts}
-use Rattle.icl_syntax.specs.Tokens.{Tok}
+use Rattle.icl_syntax.specs.Tokens.{SeenToken}
 use Rattle.icl_syntax.specs.Grammar.{Of}
 use Rattle.icl_printer.specs.Layout.{Spelling}
 use Rattle.icl_printer.specs.Canonical.{in_turn}
@@ -12,7 +12,7 @@ use Rattle.icl_printer.proofs.Loops.{snoc_same}
 
 module _ {A A' : Type 0} (part : List A → Of (Option A)) (keep : List A → Option A → List A) (bare : A → A') (canon : A → List Spelling)
     (keep_none : (xs : List A) → keep xs None ≡ xs) (keep_some : (xs : List A) (x : A) → keep xs (Some x) ≡ xs ++ x ∷ [])
-    (law : (xs : List A) (ts : List Tok) (o : Option A) → AllSpelled (spellings ts) → (part xs).derives ts o → (x : A) → o ≡ Some x → (zs : List A) → map bare zs ≡ map bare xs → Printed (part zs) (option_map bare) (canon x) (Some x)) where
+    (law : (xs : List A) (ts : List SeenToken) (o : Option A) → AllSpelled (spellings ts) → (part xs).derives ts o → (x : A) → o ≡ Some x → (zs : List A) → map bare zs ≡ map bare xs → Printed (part zs) (option_map bare) (canon x) (Some x)) where
   -- what the loop keeps behind xs
   pub record Keeps (xs last : List A) : Type 0 where
     pub more : List A
@@ -52,7 +52,7 @@ module _ {A A' : Type 0} (part : List A → Of (Option A)) (keep : List A → Op
     };
   }
 
-  pub keeps : (n : ℕ) (ts : List Tok) (xs last : List A) → AllSpelled (spellings ts) → Parts part keep n xs ts last → Keeps xs last
+  pub keeps : (n : ℕ) (ts : List SeenToken) (xs last : List A) → AllSpelled (spellings ts) → Parts part keep n xs ts last → Keeps xs last
   keeps zero ts xs last good h = keeps_none xs last h.1
   keeps (suc n) ts xs last good h =
       let g = halves h.0 h.1 ts h.3 good in

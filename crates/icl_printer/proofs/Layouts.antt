@@ -8,7 +8,7 @@ use Rattle.icl_lexer.specs.declared.token.Kind.TheVariants.{Gap, Is}
 use Rattle.icl_lexer.specs.Cutting.{Piece, joined, AreLongest, tokens_from, AreTokens, first_place, place_behind}
 use Rattle.icl_lexer.specs.Laws.{AreInText}
 use Rattle.icl_lexer.proofs.Total.{tokens_in_text}
-use Rattle.icl_syntax.specs.Tokens.{toks_of}
+use Rattle.icl_syntax.specs.Tokens.{seen_tokens}
 use Rattle.icl_printer.specs.Layout.{Spelling, blank_of, layout}
 use Rattle.icl_printer.specs.Canonical.{tokens_of}
 use Rattle.icl_printer.specs.Again.{spellings, AllSpelled, DesignsAreReadAgain}
@@ -44,7 +44,7 @@ text_here before text rest start is =
     ∙ ap (take (length text)) (drop_at before (text ++ rest) start (sym is))
     ∙ take_at text rest (length text) refl
 
-tokens_again : (ss : List Spelling) (src before : List ℕ) (start : ℕ) (at : Place) → src ≡ before ++ joined (pieces_of ss) [] → start ≡ length before → spellings (toks_of src (tokens_from start at (pieces_of ss))) ≡ ss
+tokens_again : (ss : List Spelling) (src before : List ℕ) (start : ℕ) (at : Place) → src ≡ before ++ joined (pieces_of ss) [] → start ≡ length before → spellings (seen_tokens src (tokens_from start at (pieces_of ss))) ≡ ss
 unfolding pieces_of
 tokens_again [] src before start at whole is = refl
 tokens_again (s ∷ ss) src before start at whole is =
@@ -55,29 +55,29 @@ tokens_again (s ∷ ss) src before start at whole is =
     whole ∙ ap (λ (x : List ℕ). before ++ x) (sym (append_assoc s.text (b ∷ []) rest)) ∙ sym (append_assoc before (s.text ++ b ∷ []) rest) in
     let count : start + length s.text + 1 ≡ length (before ++ (s.text ++ b ∷ [])) = omega (arith, length-append before (s.text ++ b ∷ []), length-append s.text (b ∷ [])) in
     let others = tokens_again ss src (before ++ (s.text ++ b ∷ [])) (start + length s.text + 1) (place_behind (place_behind at s.text) (b ∷ [])) behind count in
-    ap (λ (x : List ℕ). let y : Spelling = record { kind = s.kind; text = x } in y ∷ spellings (toks_of src (tokens_from (start + length s.text + 1) (place_behind (place_behind at s.text) (b ∷ [])) (pieces_of ss)))) here
+    ap (λ (x : List ℕ). let y : Spelling = record { kind = s.kind; text = x } in y ∷ spellings (seen_tokens src (tokens_from (start + length s.text + 1) (place_behind (place_behind at s.text) (b ∷ [])) (pieces_of ss)))) here
     ∙ ap (λ (x : List Spelling). s ∷ x) others
 
 pub are_tokens : (ss : List Spelling) → AllSpelled ss → AreTokens (layout ss) (tokens_from 0 first_place (pieces_of ss))
 are_tokens ss good = (pieces_of ss, record { whole = joined_is ss; longest = longest_are ss good }, refl)
 
-pub spelled_again : (ss : List Spelling) → spellings (toks_of (layout ss) (tokens_from 0 first_place (pieces_of ss))) ≡ ss
+pub spelled_again : (ss : List Spelling) → spellings (seen_tokens (layout ss) (tokens_from 0 first_place (pieces_of ss))) ≡ ss
 spelled_again ss = tokens_again ss (layout ss) [] 0 first_place (sym (joined_is ss)) refl
 
 -- ---- what was read
 
-all_in_text : (text : List ℕ) (from : ℕ) (ts : List Token) → AreInText text from ts → AllSpelled (spellings (toks_of text ts))
+all_in_text : (text : List ℕ) (from : ℕ) (ts : List Token) → AreInText text from ts → AllSpelled (spellings (seen_tokens text ts))
 all_in_text text from [] h = tt
 all_in_text text from (t ∷ ts) h = (h.4, all_in_text text t.end ts h.5)
 
-pub read_are_spelled : (src : List ℕ) (tokens : List Token) → AreTokens src tokens → AllSpelled (spellings (toks_of src tokens))
+pub read_are_spelled : (src : List ℕ) (tokens : List Token) → AreTokens src tokens → AllSpelled (spellings (seen_tokens src tokens))
 read_are_spelled src tokens h = all_in_text src 0 tokens (tokens_in_text src tokens h)
 
 pub designs_are_read_again : DesignsAreReadAgain
 designs_are_read_again src tokens d are h =
     let good = read_are_spelled src tokens are in
-    let p = design_law (toks_of src tokens) d good h in
+    let p = design_law (seen_tokens src tokens) d good h in
     let ss = tokens_of d in
     let printed = tokens_from 0 first_place (pieces_of ss) in
-    let r = p.again (toks_of (layout ss) printed) (spelled_again ss) in
+    let r = p.again (seen_tokens (layout ss) printed) (spelled_again ss) in
     (printed, r.0, are_tokens ss p.good, r.1, r.2)

@@ -7,8 +7,9 @@ use Rattle.icl_lexer.specs.declared.token.TokenKind.{TokenKind}
 use Rattle.icl_lexer.specs.declared.token.TokenKind.TheVariants.{Word, Decimal, Sized, Quoted, Param, Mark}
 use Rattle.icl_lexer.specs.declared.token.Kind.TheVariants.{Is}
 use Rattle.icl_lexer.specs.Pieces.{kind_of}
-use Rattle.icl_syntax.specs.Tokens.{decimal_of, decimal_from}
-use Rattle.icl_syntax.specs.Values.{Formula, ADecimal, ASized, AQuoted, AParam, AnOp}
+use Rattle.ij_text.specs.Numbers.{decimal_from}
+use Rattle.icl_syntax.specs.Tokens.{decimal_of}
+use Rattle.icl_syntax.specs.Values.{SeenExpr, ADecimal, ASized, AQuoted, AParam, AnOp}
 use Rattle.icl_syntax.specs.Grammar.{Counted, leaf_of, leaf_at, with_count, as_decimal}
 use Rattle.icl_printer.specs.Canonical.{formula_tokens}
 use Rattle.icl_printer.proofs.Printed.{Printed, p_token}
@@ -16,7 +17,7 @@ use Rattle.icl_printer.proofs.Bytes.{decimal_kind, decimal_again, small_is, insi
 use Rattle.icl_printer.proofs.Chains.{bare_counted, counted}
 
 -- its numbers fit, and its texts are pieces
-unfoldable pub Sound : Formula → Type 0
+unfoldable pub Sound : SeenExpr → Type 0
 Sound (ADecimal n) = n ≤ 4294967295
 Sound (ASized t) = kind_of t ≡ Some (Is Sized)
 Sound (AQuoted t) = kind_of (34 ∷ (t ++ 34 ∷ [])) ≡ Some (Is Quoted)
@@ -46,14 +47,14 @@ p_param_leaf alone used at n s =
 
 -- ---- what a leaf that is derived is
 
-abbrev pub IsTight : Formula → Type 0
+abbrev pub IsTight : SeenExpr → Type 0
 IsTight (ADecimal n) = Unit {0}
 IsTight (ASized t) = ⊥
 IsTight (AQuoted t) = Unit {0}
 IsTight (AParam at n) = Unit {0}
 IsTight (AnOp at sign a b) = ⊥
 
-abbrev pub IsSizedNumber : Formula → Type 0
+abbrev pub IsSizedNumber : SeenExpr → Type 0
 IsSizedNumber (ADecimal n) = ⊥
 IsSizedNumber (ASized t) = Unit {0}
 IsSizedNumber (AQuoted t) = ⊥
@@ -68,7 +69,7 @@ pub record IsLeaf (alone : Bool) (used : ℕ) (c : Counted) : Type 0 where
   pub first : alone ≡ false → c.lone ≡ false
 
 -- a leaf of a certain formula
-plain_leaf : (alone : Bool) (used : ℕ) (f : Formula) → Sound f → IsTight f → IsLeaf alone used (counted f used false)
+plain_leaf : (alone : Bool) (used : ℕ) (f : SeenExpr) → Sound f → IsTight f → IsLeaf alone used (counted f used false)
 plain_leaf alone used f s tight = record { sound = s; used_is = refl; plain = λ e. tight; lone = λ e. absurd (cc); first = λ e. refl }
 
 decimal_leaf : (alone : Bool) (used : ℕ) (o : Option ℕ) (c : Counted) → ((n : ℕ) → o ≡ Some n → n ≤ 4294967295) → with_count used (as_decimal o) ≡ Some c → IsLeaf alone used c

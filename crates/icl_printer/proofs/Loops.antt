@@ -2,7 +2,7 @@
 use Rattle.std.proofs.Common.{◌≡◌, ◌==◌, ℕ, zero, suc, true, List, [], ◌∷◌, ◌++◌, map, Some, None, refl, sym, ap, ◌∙◌, subst, append_assoc, append-nil, inl, inr}
 use Rattle.std.specs.Option.{option_map}
 use Rattle.grammar.specs.Symbol.{give, ◌>>=◌, repeat, many, Parts}
-use Rattle.icl_syntax.specs.Tokens.{Tok}
+use Rattle.icl_syntax.specs.Tokens.{SeenToken}
 use Rattle.icl_syntax.specs.Grammar.{Of, mark as a_mark, appended, maybe, parted}
 use Rattle.icl_printer.specs.Layout.{Spelling, mark}
 use Rattle.icl_printer.specs.Canonical.{in_turn, behind, separated, if_there}
@@ -44,7 +44,7 @@ goes_on {A} {A'} S bare canon xs last x p rest = record {
   };
 }
 
-pub appends : {A A' : Type 0} (S : Of A) (bare : A → A') (canon : A → List Spelling) → Law S bare canon → (n : ℕ) (ts : List Tok) (xs last : List A) → AllSpelled (spellings ts)
+pub appends : {A A' : Type 0} (S : Of A) (bare : A → A') (canon : A → List Spelling) → Law S bare canon → (n : ℕ) (ts : List SeenToken) (xs last : List A) → AllSpelled (spellings ts)
     → Parts (λ (ys : List A). S) appended n xs ts last → Appends S bare canon xs last
 appends S bare canon law zero ts xs last good h = record {
   more = [];
@@ -52,7 +52,7 @@ appends S bare canon law zero ts xs last good h = record {
   printed = λ zs same. ends_here S bare xs zs last h.1 same;
 }
 appends {A} S bare canon law (suc n) ts xs last good h =
-    let both : AllSpelled (spellings (h.0 ++ h.1)) = subst (λ (us : List Tok). AllSpelled (spellings us)) h.3 good in
+    let both : AllSpelled (spellings (h.0 ++ h.1)) = subst (λ (us : List SeenToken). AllSpelled (spellings us)) h.3 good in
     goes_on S bare canon xs last h.2 (law h.0 h.2 (all_front h.0 h.1 both) h.4)
     (appends S bare canon law n h.1 (xs ++ h.2 ∷ []) last (all_back h.0 h.1 both) h.5)
 

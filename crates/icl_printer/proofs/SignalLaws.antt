@@ -7,7 +7,8 @@ use Rattle.icl_lexer.specs.declared.token.TokenKind.{TokenKind}
 use Rattle.icl_lexer.specs.declared.token.TokenKind.TheVariants.{Word, Decimal, Sized, Quoted, Param, Mark}
 use Rattle.icl_lexer.specs.declared.token.Kind.TheVariants.{Is}
 use Rattle.icl_lexer.specs.Pieces.{kind_of}
-use Rattle.icl_syntax.specs.Tokens.{Tok, if_word, decimal_of, decimal_from}
+use Rattle.ij_text.specs.Numbers.{decimal_from}
+use Rattle.icl_syntax.specs.Tokens.{SeenToken, if_word, decimal_of}
 use Rattle.icl_syntax.specs.Values.{ADecimal, ASized, AParam, ANumber, APath}
 use Rattle.icl_syntax.specs.Grammar.{expr, value, range, expr_behind, maybe, Located, number_located, number_of, number_at, as_decimal, Named, named_at, name, path_behind, named_sig, plain_sig, sig, sigs, mark as a_mark}
 use Rattle.icl_printer.specs.Layout.{Spelling, word, mark}
@@ -81,7 +82,7 @@ number_is Mark at text l kind h = absurd (cc)
 number_law : Law (one number_at) bare_located located_tokens
 number_law ts l good h =
     let o = single number_at ts l h in
-    let here : AllSpelled (spellings (o.token ∷ [])) = subst (λ (us : List Tok). AllSpelled (spellings us)) o.alone good in
+    let here : AllSpelled (spellings (o.token ∷ [])) = subst (λ (us : List SeenToken). AllSpelled (spellings us)) o.alone good in
     number_is o.token.kind o.token.at o.token.text l here.0 o.takes
 
 -- ---- paths
@@ -97,7 +98,7 @@ word_named Mark at text n e = absurd (cc)
 named_law : Law (one named_at) (λ n. n.name) (λ n. name_tokens n.name)
 named_law ts n good h =
     let o = single named_at ts n h in
-    let here : AllSpelled (spellings (o.token ∷ [])) = subst (λ (us : List Tok). AllSpelled (spellings us)) o.alone good in
+    let here : AllSpelled (spellings (o.token ∷ [])) = subst (λ (us : List SeenToken). AllSpelled (spellings us)) o.alone good in
     let ok : IsSpelled (word n.name) = subst IsSpelled (word_named o.token.kind o.token.at o.token.text n o.takes) here.0 in
     p_token (word n.name) n (λ p. record { at = p; name = n.name }) ok (λ p. refl) (λ p. refl)
 

@@ -6,7 +6,7 @@ use Rattle.icl_syntax.specs.declared.tree.Sign.TheVariants.{Plus, Minus, Times, 
 use Rattle.icl_syntax.specs.declared.tree.LinkKind.{LinkKind}
 use Rattle.icl_syntax.specs.declared.tree.PortKind.{PortKind}
 use Rattle.icl_syntax.specs.Words.{port_word, link_word}
-use Rattle.icl_syntax.specs.Values.{Formula, ADecimal, ASized, AQuoted, AParam, AnOp, Span, Meant, ANumber, APath, Signal, Property, ASource, ALaunchEdge, ALoadValue, ARefEnum, APolarity, AScanInSource, ACaptureSource, AResetValue, ATogether, Row, Binding, ABoundPort, ABoundParameter, ABoundAttribute, EnumValue, Instruction, Meaning, APort, ARegister, AMux, AChild, AnAlias, SomeWords, AParameter, AnInterface, ALink, AnAttribute, Thing, Block}
+use Rattle.icl_syntax.specs.Values.{SeenExpr, ADecimal, ASized, AQuoted, AParam, AnOp, SeenRange, SeenSigWhat, ANumber, APath, SeenSig, SeenProp, ASource, ALaunchEdge, ALoadValue, ARefEnum, APolarity, AScanInSource, ACaptureSource, AResetValue, ATogether, SeenRow, SeenBind, ABoundPort, ABoundParameter, ABoundAttribute, SeenEnumWord, SeenLinkInstr, SeenWhat, APort, ARegister, AMux, AChild, AnAlias, SomeWords, AParameter, AnInterface, ALink, AnAttribute, SeenItem, SeenModule}
 use Rattle.icl_printer.specs.Layout.{Spelling, word, mark, layout}
 
 -- ---- lists of parts
@@ -52,7 +52,7 @@ binding_of Over = 2
 binding_of Rest = 2
 
 -- how tightly a formula holds together. A sized number stands alone in its expression, so as an operand it is the loosest
-abbrev pub binding : Formula → ℕ
+abbrev pub binding : SeenExpr → ℕ
 binding (ADecimal n) = 3
 binding (ASized t) = 0
 binding (AQuoted t) = 3
@@ -67,7 +67,7 @@ abbrev pub in_parentheses : Bool → List Spelling → List Spelling
 in_parentheses b ts = mark_if b 40 ++ (ts ++ mark_if b 41)
 
 -- a formula without parentheses round it. Operators group from the left: so a right operand that binds as tightly has parentheses, and a left one hasn't
-abbrev pub formula_tokens : Formula → List Spelling
+abbrev pub formula_tokens : SeenExpr → List Spelling
 formula_tokens (ADecimal n) = record { kind = kind.Decimal; text = decimal n } ∷ []
 formula_tokens (ASized t) = record { kind = kind.Sized; text = t } ∷ []
 formula_tokens (AQuoted t) = record { kind = kind.Quoted; text = 34 ∷ (t ++ (34 ∷ [])) } ∷ []
@@ -77,10 +77,10 @@ formula_tokens (AnOp at sign a b) =
     ++ (mark (sign_mark sign) ∷ in_parentheses (nat_lt (binding b) (binding_of sign + 1)) (formula_tokens b))
 
 -- the numbers of a concatenation
-abbrev pub value_tokens : List Formula → List Spelling
+abbrev pub value_tokens : List SeenExpr → List Spelling
 value_tokens = separated 44 formula_tokens
 
-abbrev pub range_tokens : Span → List Spelling
+abbrev pub range_tokens : SeenRange → List Spelling
 range_tokens r = mark 91 ∷ (formula_tokens r.left ++ (if_there (behind 58 formula_tokens) r.right ++ (mark 93 ∷ [])))
 
 -- ---- signals
@@ -88,19 +88,19 @@ range_tokens r = mark 91 ∷ (formula_tokens r.left ++ (if_there (behind 58 form
 abbrev pub name_tokens : List ℕ → List Spelling
 name_tokens n = word n ∷ []
 
-abbrev pub meant_tokens : Meant → List Spelling
+abbrev pub meant_tokens : SeenSigWhat → List Spelling
 meant_tokens (ANumber f) = formula_tokens f
 meant_tokens (APath path r) = separated 46 name_tokens path ++ if_there range_tokens r
 
-abbrev pub signal_tokens : Signal → List Spelling
+abbrev pub signal_tokens : SeenSig → List Spelling
 signal_tokens s = mark_if s.inverted 126 ++ meant_tokens s.what
 
-abbrev pub signals_tokens : List Signal → List Spelling
+abbrev pub signals_tokens : List SeenSig → List Spelling
 signals_tokens = separated 44 signal_tokens
 
 -- ---- bodies
 
-abbrev pub property_tokens : Property → List Spelling
+abbrev pub property_tokens : SeenProp → List Spelling
 property_tokens (ASource ss) = word (codes "Source") ∷ (signals_tokens ss ++ (mark 59 ∷ []))
 property_tokens (ALaunchEdge w) = word (codes "LaunchEdge") ∷ word w ∷ mark 59 ∷ []
 property_tokens (ALoadValue v) = word (codes "DefaultLoadValue") ∷ (value_tokens v ++ (mark 59 ∷ []))
@@ -117,63 +117,63 @@ abbrev pub parameter_word : Bool → List ℕ
 parameter_word false = codes "Parameter"
 parameter_word true = codes "LocalParameter"
 
-abbrev pub row_tokens : Row → List Spelling
+abbrev pub row_tokens : SeenRow → List Spelling
 row_tokens r = separated 124 value_tokens r.values ++ (mark 58 ∷ (signal_tokens r.source ++ (mark 59 ∷ [])))
 
-abbrev pub attribute_tokens : List ℕ → Option Formula → List Spelling
+abbrev pub attribute_tokens : List ℕ → Option SeenExpr → List Spelling
 attribute_tokens n v = word (codes "Attribute") ∷ word n ∷ (if_there (behind 61 formula_tokens) v ++ (mark 59 ∷ []))
 
-abbrev pub port_binding_tokens : List ℕ → Option Span → List Signal → List Spelling
+abbrev pub port_binding_tokens : List ℕ → Option SeenRange → List SeenSig → List Spelling
 port_binding_tokens n r ss = word (codes "InputPort") ∷ word n ∷ (if_there range_tokens r ++ (mark 61 ∷ (signals_tokens ss ++ (mark 59 ∷ []))))
 
-abbrev pub parameter_binding_tokens : List ℕ → Formula → List Spelling
+abbrev pub parameter_binding_tokens : List ℕ → SeenExpr → List Spelling
 parameter_binding_tokens n v = word (codes "Parameter") ∷ word n ∷ mark 61 ∷ (formula_tokens v ++ (mark 59 ∷ []))
 
-abbrev pub binding_tokens : Binding → List Spelling
+abbrev pub binding_tokens : SeenBind → List Spelling
 binding_tokens (ABoundPort at n r ss) = port_binding_tokens n r ss
 binding_tokens (ABoundParameter at n v) = parameter_binding_tokens n v
 binding_tokens (ABoundAttribute n v) = attribute_tokens n v
 
-abbrev pub enum_tokens : EnumValue → List Spelling
+abbrev pub enum_tokens : SeenEnumWord → List Spelling
 enum_tokens w = word w.name ∷ mark 61 ∷ (value_tokens w.value ++ (mark 59 ∷ []))
 
 abbrev pub member_tokens : List ℕ → List Spelling
 member_tokens n = word (codes "Port") ∷ word n ∷ mark 59 ∷ []
 
-abbrev pub instruction_tokens : Instruction → List Spelling
+abbrev pub instruction_tokens : SeenLinkInstr → List Spelling
 instruction_tokens i =
     word i.name ∷ mark 123 ∷ word (codes "ScanInterface") ∷ mark 123 ∷ word i.cell ∷ mark 46 ∷ word i.interface ∷ mark 59 ∷ mark 125 ∷ mark 125 ∷ []
 
-abbrev pub port_tokens : List ℕ → PortKind → Option Span → List Property → List Spelling
+abbrev pub port_tokens : List ℕ → PortKind → Option SeenRange → List SeenProp → List Spelling
 port_tokens n k r ps = word (port_word k) ∷ word n ∷ (if_there range_tokens r ++ braced property_tokens ps)
 
-abbrev pub register_tokens : List ℕ → Option Span → List Property → List Spelling
+abbrev pub register_tokens : List ℕ → Option SeenRange → List SeenProp → List Spelling
 register_tokens n r ps = word (codes "ScanRegister") ∷ word n ∷ (if_there range_tokens r ++ braced property_tokens ps)
 
-abbrev pub mux_tokens : List ℕ → List Signal → List Row → List Spelling
+abbrev pub mux_tokens : List ℕ → List SeenSig → List SeenRow → List Spelling
 mux_tokens n ss rs = word (codes "ScanMux") ∷ word n ∷ word (codes "SelectedBy") ∷ (signals_tokens ss ++ (mark 123 ∷ (in_turn row_tokens rs ++ (mark 125 ∷ []))))
 
-abbrev pub child_tokens : List ℕ → List ℕ → List Binding → List Spelling
+abbrev pub child_tokens : List ℕ → List ℕ → List SeenBind → List Spelling
 child_tokens n m bs = word (codes "Instance") ∷ word n ∷ word (codes "Of") ∷ word m ∷ braced binding_tokens bs
 
-abbrev pub alias_tokens : List ℕ → Option Span → List Signal → List Property → List Spelling
+abbrev pub alias_tokens : List ℕ → Option SeenRange → List SeenSig → List SeenProp → List Spelling
 alias_tokens n r ss ps = word (codes "Alias") ∷ word n ∷ (if_there range_tokens r ++ (mark 61 ∷ (signals_tokens ss ++ braced property_tokens ps)))
 
-abbrev pub words_tokens : List ℕ → List EnumValue → List Spelling
+abbrev pub words_tokens : List ℕ → List SeenEnumWord → List Spelling
 words_tokens n ws = word (codes "Enum") ∷ word n ∷ mark 123 ∷ (in_turn enum_tokens ws ++ (mark 125 ∷ []))
 
-abbrev pub parameter_tokens : List ℕ → Bool → Formula → List Spelling
+abbrev pub parameter_tokens : List ℕ → Bool → SeenExpr → List Spelling
 parameter_tokens n local v = word (parameter_word local) ∷ word n ∷ mark 61 ∷ (formula_tokens v ++ (mark 59 ∷ []))
 
 abbrev pub interface_tokens : List ℕ → List (List ℕ) → List Spelling
 interface_tokens n ps = word (codes "ScanInterface") ∷ word n ∷ mark 123 ∷ (in_turn member_tokens ps ++ (mark 125 ∷ []))
 
-abbrev pub link_tokens : List ℕ → LinkKind → List ℕ → List Instruction → List Spelling
+abbrev pub link_tokens : List ℕ → LinkKind → List ℕ → List SeenLinkInstr → List Spelling
 link_tokens n k entity is =
     word (codes "AccessLink") ∷ word n ∷ word (codes "Of") ∷ word (link_word k) ∷ mark 123 ∷ word (codes "BSDLEntity") ∷ word entity ∷ mark 59 ∷ (in_turn instruction_tokens is ++ (mark 125 ∷ []))
 
 -- an item with this name
-abbrev pub item_tokens : List ℕ → Meaning → List Spelling
+abbrev pub item_tokens : List ℕ → SeenWhat → List Spelling
 item_tokens n (APort k r ps) = port_tokens n k r ps
 item_tokens n (ARegister r ps) = register_tokens n r ps
 item_tokens n (AMux ss rs) = mux_tokens n ss rs
@@ -185,17 +185,17 @@ item_tokens n (AnInterface ps) = interface_tokens n ps
 item_tokens n (ALink k entity is) = link_tokens n k entity is
 item_tokens n (AnAttribute v) = attribute_tokens n v
 
-abbrev pub thing_tokens : Thing → List Spelling
+abbrev pub thing_tokens : SeenItem → List Spelling
 thing_tokens t = item_tokens t.name t.what
 
-abbrev pub module_tokens : Block → List Spelling
+abbrev pub module_tokens : SeenModule → List Spelling
 module_tokens m = word (codes "Module") ∷ word m.name ∷ mark 123 ∷ (in_turn thing_tokens m.items ++ (mark 125 ∷ []))
 
 -- ---- a design
 
-unfoldable pub tokens_of : List Block → List Spelling
+unfoldable pub tokens_of : List SeenModule → List Spelling
 tokens_of d = in_turn module_tokens d
 
 -- the text of a design
-abbrev pub design_text : List Block → List ℕ
+abbrev pub design_text : List SeenModule → List ℕ
 design_text d = layout (tokens_of d)

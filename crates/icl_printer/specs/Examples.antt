@@ -2,7 +2,7 @@
 use Rattle.std.specs.Prelude.{◌≡◌, true, false, [], ◌∷◌, ◌++◌, Some, None, codes, refl}
 use Rattle.icl_syntax.specs.declared.tree.PortKind.TheVariants.{ScanInPort}
 use Rattle.icl_syntax.specs.declared.tree.Sign.TheVariants.{Plus, Minus, Times}
-use Rattle.icl_syntax.specs.Values.{Formula, ASized, AParam, AnOp, APath, Signal, AScanInSource, ACaptureSource, APort, ARegister, AChild, AnInterface}
+use Rattle.icl_syntax.specs.Values.{SeenExpr, ASized, AParam, AnOp, APath, SeenSig, AScanInSource, ACaptureSource, APort, ARegister, AChild, AnInterface}
 use Rattle.icl_printer.specs.Layout.{layout}
 use Rattle.icl_printer.specs.Canonical.{formula_tokens, item_tokens, tokens_of, design_text}
 use Rattle.icl_printer.specs.Again.{nowhere}
@@ -15,13 +15,13 @@ an_empty_body : design_text (record { name = codes "a"; at = nowhere; items = re
 unfolding layout tokens_of
 an_empty_body = refl
 
-abbrev a : Formula
+abbrev a : SeenExpr
 a = AParam nowhere (codes "a")
 
-abbrev b : Formula
+abbrev b : SeenExpr
 b = AParam nowhere (codes "b")
 
-abbrev c : Formula
+abbrev c : SeenExpr
 c = AParam nowhere (codes "c")
 
 -- operators group from the left
@@ -54,7 +54,7 @@ no_ports : layout (item_tokens (codes "i") (AnInterface [])) ≡ codes "ScanInte
 unfolding layout
 no_ports = refl
 
-abbrev q : Signal
+abbrev q : SeenSig
 q = record { at = nowhere; inverted = false; what = APath (codes "ins" ∷ codes "q" ∷ []) None }
 
 a_register : layout (item_tokens (codes "R") (ARegister (Some (record { at = nowhere; left = a; right = Some b })) (AScanInSource q ∷ ACaptureSource (q ∷ record q { inverted = true } ∷ []) ∷ [])))

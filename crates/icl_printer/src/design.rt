@@ -12,11 +12,11 @@ use ij_io::{Sink, StoreFault};
 
 /// A module.
 impl Put for Module {
-    ghost use Rattle.icl_syntax.specs.Values.{Block};
+    ghost use Rattle.icl_syntax.specs.Values.{SeenModule};
     ghost use Rattle.icl_syntax.specs.Views.{seen_module};
     ghost use Rattle.icl_printer.specs.Canonical.{module_tokens};
 
-    ghost Plain = { Block };
+    ghost Plain = { SeenModule };
 
     ghost view = { seen_module };
 

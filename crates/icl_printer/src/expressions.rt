@@ -82,11 +82,11 @@ fn put_expr<K: Sink>(expr: &Expr, k: &mut K) -> Result<(), StoreFault>
 
 /// An expression.
 impl Put for Expr {
-    ghost use Rattle.icl_syntax.specs.Values.{Formula};
+    ghost use Rattle.icl_syntax.specs.Values.{SeenExpr};
     ghost use Rattle.icl_syntax.specs.Views.{seen_expr};
     ghost use Rattle.icl_printer.specs.Canonical.{formula_tokens};
 
-    ghost Plain = { Formula };
+    ghost Plain = { SeenExpr };
 
     ghost view = { seen_expr };
 
@@ -101,11 +101,11 @@ impl Put for Expr {
 /// The numbers of a concatenation.
 impl Put for List<Expr> {
     ghost use Rattle.std.specs.Prelude.{List};
-    ghost use Rattle.icl_syntax.specs.Values.{Formula};
+    ghost use Rattle.icl_syntax.specs.Values.{SeenExpr};
     ghost use Rattle.icl_syntax.specs.Views.{seen_expr, seen_list};
     ghost use Rattle.icl_printer.specs.Canonical.{value_tokens};
 
-    ghost Plain = { List Formula };
+    ghost Plain = { List SeenExpr };
 
     ghost view = { seen_list seen_expr };
 
@@ -119,11 +119,11 @@ impl Put for List<Expr> {
 
 /// A range.
 impl Put for Range {
-    ghost use Rattle.icl_syntax.specs.Values.{Span};
+    ghost use Rattle.icl_syntax.specs.Values.{SeenRange};
     ghost use Rattle.icl_syntax.specs.Views.{seen_range};
     ghost use Rattle.icl_printer.specs.Canonical.{range_tokens};
 
-    ghost Plain = { Span };
+    ghost Plain = { SeenRange };
 
     ghost view = { seen_range };
 

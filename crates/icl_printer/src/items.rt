@@ -178,11 +178,11 @@ fn put_link<K: Sink>(
 
 /// An item.
 impl Put for Item {
-    ghost use Rattle.icl_syntax.specs.Values.{Thing};
+    ghost use Rattle.icl_syntax.specs.Values.{SeenItem};
     ghost use Rattle.icl_syntax.specs.Views.{seen_item};
     ghost use Rattle.icl_printer.specs.Canonical.{thing_tokens};
 
-    ghost Plain = { Thing };
+    ghost Plain = { SeenItem };
 
     ghost view = { seen_item };
 

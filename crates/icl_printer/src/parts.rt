@@ -16,11 +16,11 @@ use ij_text::Name;
 
 /// A row of a multiplexer.
 impl Put for MuxRow {
-    ghost use Rattle.icl_syntax.specs.Values.{Row};
+    ghost use Rattle.icl_syntax.specs.Values.{SeenRow};
     ghost use Rattle.icl_syntax.specs.Views.{seen_row};
     ghost use Rattle.icl_printer.specs.Canonical.{row_tokens};
 
-    ghost Plain = { Row };
+    ghost Plain = { SeenRow };
 
     ghost view = { seen_row };
 
@@ -91,11 +91,11 @@ fn put_parameter_binding<K: Sink>(name: &Name, value: &Expr, k: &mut K) -> Resul
 
 /// What an instance binds.
 impl Put for Bind {
-    ghost use Rattle.icl_syntax.specs.Values.{Binding};
+    ghost use Rattle.icl_syntax.specs.Values.{SeenBind};
     ghost use Rattle.icl_syntax.specs.Views.{seen_bind};
     ghost use Rattle.icl_printer.specs.Canonical.{binding_tokens};
 
-    ghost Plain = { Binding };
+    ghost Plain = { SeenBind };
 
     ghost view = { seen_bind };
 
@@ -118,11 +118,11 @@ impl Put for Bind {
 
 /// A word of an `Enum`.
 impl Put for EnumWord {
-    ghost use Rattle.icl_syntax.specs.Values.{EnumValue};
+    ghost use Rattle.icl_syntax.specs.Values.{SeenEnumWord};
     ghost use Rattle.icl_syntax.specs.Views.{seen_enum_word};
     ghost use Rattle.icl_printer.specs.Canonical.{enum_tokens};
 
-    ghost Plain = { EnumValue };
+    ghost Plain = { SeenEnumWord };
 
     ghost view = { seen_enum_word };
 
@@ -139,11 +139,11 @@ impl Put for EnumWord {
 
 /// An instruction of a link.
 impl Put for LinkInstr {
-    ghost use Rattle.icl_syntax.specs.Values.{Instruction};
+    ghost use Rattle.icl_syntax.specs.Values.{SeenLinkInstr};
     ghost use Rattle.icl_syntax.specs.Views.{seen_instr};
     ghost use Rattle.icl_printer.specs.Canonical.{instruction_tokens};
 
-    ghost Plain = { Instruction };
+    ghost Plain = { SeenLinkInstr };
 
     ghost view = { seen_instr };
 

@@ -23,11 +23,11 @@ fn put_property<T: Put, K: Sink>(name: &[u8], part: &T, k: &mut K) -> Result<(),
 
 /// A property.
 impl Put for Prop {
-    ghost use Rattle.icl_syntax.specs.Values.{Property};
+    ghost use Rattle.icl_syntax.specs.Values.{SeenProp};
     ghost use Rattle.icl_syntax.specs.Views.{seen_prop};
     ghost use Rattle.icl_printer.specs.Canonical.{property_tokens};
 
-    ghost Plain = { Property };
+    ghost Plain = { SeenProp };
 
     ghost view = { seen_prop };
 

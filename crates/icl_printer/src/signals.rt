@@ -25,11 +25,11 @@ impl Put for Name {
 
 /// A number, or a path.
 impl Put for SigWhat {
-    ghost use Rattle.icl_syntax.specs.Values.{Meant};
+    ghost use Rattle.icl_syntax.specs.Values.{SeenSigWhat};
     ghost use Rattle.icl_syntax.specs.Views.{seen_sig_what};
     ghost use Rattle.icl_printer.specs.Canonical.{meant_tokens};
 
-    ghost Plain = { Meant };
+    ghost Plain = { SeenSigWhat };
 
     ghost view = { seen_sig_what };
 
@@ -49,11 +49,11 @@ impl Put for SigWhat {
 
 /// A signal.
 impl Put for Sig {
-    ghost use Rattle.icl_syntax.specs.Values.{Signal};
+    ghost use Rattle.icl_syntax.specs.Values.{SeenSig};
     ghost use Rattle.icl_syntax.specs.Views.{seen_sig};
     ghost use Rattle.icl_printer.specs.Canonical.{signal_tokens};
 
-    ghost Plain = { Signal };
+    ghost Plain = { SeenSig };
 
     ghost view = { seen_sig };
 
@@ -69,11 +69,11 @@ impl Put for Sig {
 /// Signals, the leftmost first.
 impl Put for List<Sig> {
     ghost use Rattle.std.specs.Prelude.{List};
-    ghost use Rattle.icl_syntax.specs.Values.{Signal};
+    ghost use Rattle.icl_syntax.specs.Values.{SeenSig};
     ghost use Rattle.icl_syntax.specs.Views.{seen_sig, seen_list};
     ghost use Rattle.icl_printer.specs.Canonical.{signals_tokens};
 
-    ghost Plain = { List Signal };
+    ghost Plain = { List SeenSig };
 
     ghost view = { seen_list seen_sig };
 

@@ -12,12 +12,12 @@ use Rattle.icl_syntax.specs.declared.words.Owner.{Owner}
 use Rattle.icl_syntax.specs.declared.words.Owner.TheVariants.{ScanIn, ScanOut, DataIn, DataOut, Control, Register, Alias}
 use Rattle.icl_syntax.specs.declared.words.PropWord.{PropWord}
 use Rattle.icl_syntax.specs.declared.words.PropWord.TheVariants.{Source, LaunchEdge, DefaultLoadValue, RefEnum, ActivePolarity, ScanInSource, CaptureSource, ResetValue, AccessTogether, Attribute}
-use Rattle.icl_syntax.specs.Tokens.{Tok, if_word, is_mark, mark_at, word_at, name_at, decimal_of, decimal_at}
+use Rattle.icl_syntax.specs.Tokens.{SeenToken, if_word, is_mark, mark_at, word_at, name_at, decimal_of, decimal_at}
 use Rattle.icl_syntax.specs.Words.{prop_named}
-use Rattle.icl_syntax.specs.Values.{Formula, ADecimal, ASized, AQuoted, AParam, AnOp, Span, Meant, ANumber, APath, Signal, Property, ASource, ALaunchEdge, ALoadValue, ARefEnum, APolarity, AScanInSource, ACaptureSource, AResetValue, ATogether}
+use Rattle.icl_syntax.specs.Values.{SeenExpr, ADecimal, ASized, AQuoted, AParam, AnOp, SeenRange, SeenSigWhat, ANumber, APath, SeenSig, SeenProp, ASource, ALaunchEdge, ALoadValue, ARefEnum, APolarity, AScanInSource, ACaptureSource, AResetValue, ATogether}
 
 abbrev pub Of : Type 0 → Type 1
-Of A = Symbol Tok Limit A
+Of A = Symbol SeenToken Limit A
 
 abbrev pub mark : ℕ → Of Place
 mark c = one (mark_at c)
@@ -34,16 +34,16 @@ name = one name_at
 -- an expression; how many operators its outermost expression has up to here; and whether it is a sized number, behind
 -- which its innermost expression can't go on
 pub record Counted : Type 0 where
-  pub formula : Formula
+  pub formula : SeenExpr
   pub used : ℕ
   pub lone : Bool
 
-abbrev pub as_decimal : Option ℕ → Option Formula
+abbrev pub as_decimal : Option ℕ → Option SeenExpr
 as_decimal None = None
 as_decimal (Some n) = Some (ADecimal n)
 
 -- a number: a decimal, a sized number or a parameter
-abbrev pub number_of : TokenKind → Place → List ℕ → Option Formula
+abbrev pub number_of : TokenKind → Place → List ℕ → Option SeenExpr
 number_of Decimal at text = as_decimal (decimal_of text)
 number_of Sized at text = Some (ASized text)
 number_of Param at text = Some (AParam at (drop 1 text))
@@ -51,7 +51,7 @@ number_of Word at text = None
 number_of Quoted at text = None
 number_of Mark at text = None
 
-abbrev pub with_count : ℕ → Option Formula → Option Counted
+abbrev pub with_count : ℕ → Option SeenExpr → Option Counted
 with_count used None = None
 with_count used (Some f) = Some (record { formula = f; used = used; lone = false })
 
@@ -64,7 +64,7 @@ leaf_of alone used Sized at text = cond alone (Some (record { formula = ASized t
 leaf_of alone used Word at text = None
 leaf_of alone used Mark at text = None
 
-abbrev pub leaf_at : Bool → ℕ → Tok → Option Counted
+abbrev pub leaf_at : Bool → ℕ → SeenToken → Option Counted
 leaf_at alone used t = leaf_of alone used t.kind t.at t.text
 
 -- an operator at its place
@@ -72,10 +72,10 @@ pub record Signed : Type 0 where
   pub sign : Sign
   pub at : Place
 
-abbrev pub sum_sign : Tok → Option Signed
+abbrev pub sum_sign : SeenToken → Option Signed
 sum_sign t = cond (is_mark 43 t) (Some (record { sign = Plus; at = t.at })) (cond (is_mark 45 t) (Some (record { sign = Minus; at = t.at })) None)
 
-abbrev pub product_sign : Tok → Option Signed
+abbrev pub product_sign : SeenToken → Option Signed
 product_sign t =
     cond (is_mark 42 t) (Some (record { sign = Times; at = t.at }))
     (cond (is_mark 47 t) (Some (record { sign = Over; at = t.at })) (cond (is_mark 37 t) (Some (record { sign = Rest; at = t.at })) None))
@@ -86,7 +86,7 @@ too_many None = None
 too_many (Some s) = Some OfExpression
 
 -- an operator, of which there may be `spare` more; none behind a sized number
-abbrev pub operator : ℕ → Bool → (Tok → Option Signed) → Of Signed
+abbrev pub operator : ℕ → Bool → (SeenToken → Option Signed) → Of Signed
 operator zero lone sign = barred (λ t. too_many (sign t))
 operator (suc spare) true sign = none
 operator (suc spare) false sign = one sign
@@ -99,14 +99,14 @@ pub record Operand : Type 0 where
 abbrev pub with_operand : Counted → Operand → Counted
 with_operand a o = record { formula = AnOp o.sign.at o.sign.sign a.formula o.right.formula; used = o.right.used; lone = false }
 
-abbrev pub operand : (ℕ → Of Counted) → (Tok → Option Signed) → Counted → Of Operand
+abbrev pub operand : (ℕ → Of Counted) → (SeenToken → Option Signed) → Counted → Of Operand
 operand part sign a = do
   s ← operator (256 - a.used) a.lone sign
   b ← part (a.used + 1)
   give (record { sign = s; right = b })
 
 -- a first part, and then any number of operators and parts, from the left; at most 256 operators in all
-abbrev pub chain : (ℕ → Of Counted) → (ℕ → Of Counted) → (Tok → Option Signed) → ℕ → Of Counted
+abbrev pub chain : (ℕ → Of Counted) → (ℕ → Of Counted) → (SeenToken → Option Signed) → ℕ → Of Counted
 chain first part sign used = first used >>= λ a. repeat (operand part sign) with_operand a
 
 -- what stands in parentheses is no sized number
@@ -118,7 +118,7 @@ in_parentheses whole used = do
   give (record { formula = e.formula; used = e.used; lone = false })
 
 -- one level of parentheses more than there may be
-abbrev pub too_deep : Tok → Option Limit
+abbrev pub too_deep : SeenToken → Option Limit
 too_deep t = cond (is_mark 40 t) (Some OfExpression) None
 
 -- a factor with at most `depth` levels of parentheses, where a sized number may stand or not
@@ -136,7 +136,7 @@ abbrev pub sum_of : ℕ → ℕ → Of Counted
 sum_of depth used = chain (term depth true) (term depth false) sum_sign used
 
 -- an expression: at most 64 levels of parentheses and 256 operators
-unfoldable pub expr : Of Formula
+unfoldable pub expr : Of SeenExpr
 expr = sum_of 64 0 >>= λ e. give e.formula
 
 -- ---- lists of parts
@@ -155,14 +155,14 @@ maybe S = (S >>= λ a. give (Some a)) <|> give None
 abbrev pub ended_by : {A : Type 0} → ℕ → Of A → Of A
 ended_by c S = S >>= λ a. mark c >>= λ e. give a
 
-unfoldable pub value : Of (List Formula)
+unfoldable pub value : Of (List SeenExpr)
 value = parted 44 expr
 
 -- an expression behind a mark
-abbrev pub expr_behind : ℕ → Of Formula
+abbrev pub expr_behind : ℕ → Of SeenExpr
 expr_behind c = mark c >>= λ m. expr
 
-unfoldable pub range : Of Span
+unfoldable pub range : Of SeenRange
 range = do
   at ← mark 91
   left ← expr
@@ -175,13 +175,13 @@ range = do
 -- what a signal is, at the place of its first token
 pub record Located : Type 0 where
   pub at : Place
-  pub what : Meant
+  pub what : SeenSigWhat
 
-abbrev pub number_located : Place → Option Formula → Option Located
+abbrev pub number_located : Place → Option SeenExpr → Option Located
 number_located at None = None
 number_located at (Some f) = Some (record { at = at; what = ANumber f })
 
-abbrev pub number_at : Tok → Option Located
+abbrev pub number_at : SeenToken → Option Located
 number_at t = number_located t.at (number_of t.kind t.at t.text)
 
 -- a name at its place
@@ -189,7 +189,7 @@ pub record Named : Type 0 where
   pub at : Place
   pub name : List ℕ
 
-abbrev pub named_at : Tok → Option Named
+abbrev pub named_at : SeenToken → Option Named
 named_at t = if_word t.kind (Some (record { at = t.at; name = t.text })) None
 
 -- names with dots between them
@@ -206,12 +206,12 @@ named_sig = do
 abbrev pub plain_sig : Of Located
 plain_sig = named_sig <|> one number_at
 
-unfoldable pub sig : Of Signal
+unfoldable pub sig : Of SeenSig
 sig =
     (mark 126 >>= λ at. plain_sig >>= λ s. give (record { at = at; inverted = true; what = s.what }))
     <|> (plain_sig >>= λ s. give (record { at = s.at; inverted = false; what = s.what }))
 
-unfoldable pub sigs : Of (List Signal)
+unfoldable pub sigs : Of (List SeenSig)
 sigs = parted 44 sig
 
 -- ---- properties
@@ -236,7 +236,7 @@ takes Alias AccessTogether = true
 takes owner Attribute = true
 takes owner w = false
 
-abbrev pub is_prop : PropWord → Property → Bool
+abbrev pub is_prop : PropWord → SeenProp → Bool
 is_prop Source (ASource s) = true
 is_prop LaunchEdge (ALaunchEdge w) = true
 is_prop DefaultLoadValue (ALoadValue v) = true
@@ -249,25 +249,25 @@ is_prop AccessTogether ATogether = true
 is_prop w p = false
 
 -- whether a property of this kind stands in the body already; attributes aren't kept
-abbrev pub stands : PropWord → List Property → Bool
+abbrev pub stands : PropWord → List SeenProp → Bool
 stands w [] = false
 stands w (p ∷ ps) = cond (is_prop w p) true (stands w ps)
 
 -- a property's word, where such a property may stand
-abbrev pub free_word : Owner → List Property → Option PropWord → Option PropWord
+abbrev pub free_word : Owner → List SeenProp → Option PropWord → Option PropWord
 free_word owner ps None = None
 free_word owner ps (Some w) = cond (takes owner w && not (stands w ps)) (Some w) None
 
-abbrev pub prop_word_at : Tok → Option PropWord
+abbrev pub prop_word_at : SeenToken → Option PropWord
 prop_word_at t = if_word t.kind (prop_named t.text) None
 
-abbrev pub free_prop_at : Owner → List Property → Tok → Option PropWord
+abbrev pub free_prop_at : Owner → List SeenProp → SeenToken → Option PropWord
 free_prop_at owner ps t = free_word owner ps (prop_word_at t)
 
 -- an attribute behind its word
 pub record AttributeSaid : Type 0 where
   pub name : List ℕ
-  pub value : Option Formula
+  pub value : Option SeenExpr
 
 unfoldable pub attribute_said : Of AttributeSaid
 attribute_said = do
@@ -275,11 +275,11 @@ attribute_said = do
   v ← maybe (expr_behind 61)
   give (record { name = n; value = v })
 
-abbrev pub decimal_token : Tok → Option ℕ
+abbrev pub decimal_token : SeenToken → Option ℕ
 decimal_token t = decimal_at t.kind t.text
 
 -- the source of a ScanOutPort is one signal
-abbrev pub sources : Owner → Of (List Signal)
+abbrev pub sources : Owner → Of (List SeenSig)
 sources ScanOut = sig >>= λ s. give (s ∷ [])
 sources ScanIn = sigs
 sources DataIn = sigs
@@ -289,7 +289,7 @@ sources Register = sigs
 sources Alias = sigs
 
 -- what stands behind the word of a property; an attribute isn't kept
-unfoldable pub prop_behind : Owner → PropWord → Of (Option Property)
+unfoldable pub prop_behind : Owner → PropWord → Of (Option SeenProp)
 prop_behind owner Source = sources owner >>= λ s. give (Some (ASource s))
 prop_behind owner LaunchEdge = name >>= λ n. give (Some (ALaunchEdge n))
 prop_behind owner DefaultLoadValue = value >>= λ v. give (Some (ALoadValue v))
@@ -301,15 +301,15 @@ prop_behind owner ResetValue = value >>= λ v. give (Some (AResetValue v))
 prop_behind owner AccessTogether = give (Some ATogether)
 prop_behind owner Attribute = attribute_said >>= λ a. give None
 
-unfoldable pub property : Owner → List Property → Of (Option Property)
+unfoldable pub property : Owner → List SeenProp → Of (Option SeenProp)
 property owner ps = one (free_prop_at owner ps) >>= λ w. ended_by 59 (prop_behind owner w)
 
-abbrev pub with_property : List Property → Option Property → List Property
+abbrev pub with_property : List SeenProp → Option SeenProp → List SeenProp
 with_property ps None = ps
 with_property ps (Some p) = ps ++ p ∷ []
 
 -- a register needs a ScanInSource
-abbrev pub lacks : Owner → List Property → Bool
+abbrev pub lacks : Owner → List SeenProp → Bool
 lacks Register ps = not (stands ScanInSource ps)
 lacks ScanIn ps = false
 lacks ScanOut ps = false
@@ -319,8 +319,8 @@ lacks Control ps = false
 lacks Alias ps = false
 
 -- the end of a body, where nothing lacks
-abbrev pub body_end : Owner → List Property → ℕ → Of (List Property)
+abbrev pub body_end : Owner → List SeenProp → ℕ → Of (List SeenProp)
 body_end owner ps c = cond (lacks owner ps) none (mark c >>= λ e. give ps)
 
-unfoldable pub body : Owner → Of (List Property)
+unfoldable pub body : Owner → Of (List SeenProp)
 body owner = body_end owner [] 59 <|> (mark 123 >>= λ o. repeat (property owner) with_property [] >>= λ ps. body_end owner ps 125)

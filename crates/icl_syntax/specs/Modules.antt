@@ -13,9 +13,9 @@ use Rattle.icl_syntax.specs.declared.words.MemberWord.{MemberWord}
 use Rattle.icl_syntax.specs.declared.words.MemberWord.TheVariants.{MemberPort, MemberAttribute}
 use Rattle.icl_syntax.specs.declared.words.Owner.{Owner}
 use Rattle.icl_syntax.specs.declared.words.Owner.TheVariants.{ScanIn, ScanOut, DataIn, DataOut, Control, Register, Alias}
-use Rattle.icl_syntax.specs.Tokens.{Tok, if_word}
+use Rattle.icl_syntax.specs.Tokens.{SeenToken, if_word}
 use Rattle.icl_syntax.specs.Words.{item_named, bind_named, member_named, link_named}
-use Rattle.icl_syntax.specs.Values.{Span, Row, Binding, ABoundPort, ABoundParameter, ABoundAttribute, EnumValue, Instruction, Meaning, APort, ARegister, AMux, AChild, AnAlias, SomeWords, AParameter, AnInterface, ALink, AnAttribute, Thing, Block}
+use Rattle.icl_syntax.specs.Values.{SeenRange, SeenRow, SeenBind, ABoundPort, ABoundParameter, ABoundAttribute, SeenEnumWord, SeenLinkInstr, SeenWhat, APort, ARegister, AMux, AChild, AnAlias, SomeWords, AParameter, AnInterface, ALink, AnAttribute, SeenItem, SeenModule}
 use Rattle.icl_syntax.specs.Grammar.{Of, mark, word, name, expr_behind, value, parted, maybe, ended_by, appended, range, sig, sigs, body, attribute_said}
 
 -- ---- ports
@@ -28,7 +28,7 @@ owner_of DataOutPort = DataOut
 owner_of kind = Control
 
 -- scan ports have no range
-abbrev pub port_range : Owner → Of (Option Span)
+abbrev pub port_range : Owner → Of (Option SeenRange)
 port_range ScanIn = give None
 port_range ScanOut = give None
 port_range DataIn = maybe range
@@ -37,7 +37,7 @@ port_range Control = maybe range
 port_range Register = maybe range
 port_range Alias = maybe range
 
-unfoldable pub port : PortKind → Of Meaning
+unfoldable pub port : PortKind → Of SeenWhat
 port kind = do
   r ← port_range (owner_of kind)
   ps ← body (owner_of kind)
@@ -45,13 +45,13 @@ port kind = do
 
 -- ---- registers, aliases, parameters and attributes
 
-unfoldable pub register : Of Meaning
+unfoldable pub register : Of SeenWhat
 register = do
   r ← maybe range
   ps ← body Register
   give (ARegister r ps)
 
-unfoldable pub alias : Of Meaning
+unfoldable pub alias : Of SeenWhat
 alias = do
   r ← maybe range
   e ← mark 61
@@ -59,13 +59,13 @@ alias = do
   ps ← body Alias
   give (AnAlias r ss ps)
 
-unfoldable pub parameter : Bool → Of Meaning
+unfoldable pub parameter : Bool → Of SeenWhat
 parameter local = do
   v ← expr_behind 61
   s ← mark 59
   give (AParameter local v)
 
-unfoldable pub attribute : Of Meaning
+unfoldable pub attribute : Of SeenWhat
 attribute = do
   v ← maybe (expr_behind 61)
   s ← mark 59
@@ -73,7 +73,7 @@ attribute = do
 
 -- ---- multiplexers
 
-unfoldable pub row : Of Row
+unfoldable pub row : Of SeenRow
 row = do
   vs ← parted 124 value
   c ← mark 58
@@ -82,10 +82,10 @@ row = do
   give (record { values = vs; source = s })
 
 -- one row or more
-unfoldable pub rows : Of (List Row)
-rows = row >>= λ first. repeat (λ (rs : List Row). row) appended (first ∷ [])
+unfoldable pub rows : Of (List SeenRow)
+rows = row >>= λ first. repeat (λ (rs : List SeenRow). row) appended (first ∷ [])
 
-unfoldable pub mux : Of Meaning
+unfoldable pub mux : Of SeenWhat
 mux = do
   by ← word (codes "SelectedBy")
   ss ← sigs
@@ -96,7 +96,7 @@ mux = do
 
 -- ---- instances
 
-abbrev pub bind_word_at : Tok → Option BindWord
+abbrev pub bind_word_at : SeenToken → Option BindWord
 bind_word_at t = if_word t.kind (bind_named t.text) None
 
 pub record BindBegin : Type 0 where
@@ -107,10 +107,10 @@ abbrev pub begun_by : Place → Option BindWord → Option BindBegin
 begun_by at None = None
 begun_by at (Some w) = Some (record { at = at; word = w })
 
-abbrev pub bind_begin_at : Tok → Option BindBegin
+abbrev pub bind_begin_at : SeenToken → Option BindBegin
 bind_begin_at t = begun_by t.at (bind_word_at t)
 
-unfoldable pub bound_port : Place → Of Binding
+unfoldable pub bound_port : Place → Of SeenBind
 bound_port at = do
   n ← name
   r ← maybe range
@@ -118,30 +118,30 @@ bound_port at = do
   ss ← sigs
   give (ABoundPort at n r ss)
 
-unfoldable pub bound_parameter : Place → Of Binding
+unfoldable pub bound_parameter : Place → Of SeenBind
 bound_parameter at = do
   n ← name
   v ← expr_behind 61
   give (ABoundParameter at n v)
 
-unfoldable pub bound_attribute : Of Binding
+unfoldable pub bound_attribute : Of SeenBind
 bound_attribute = attribute_said >>= λ a. give (ABoundAttribute a.name a.value)
 
-abbrev pub bind_behind : Place → BindWord → Of Binding
+abbrev pub bind_behind : Place → BindWord → Of SeenBind
 bind_behind at BindsPort = bound_port at
 bind_behind at BindsParameter = bound_parameter at
 bind_behind at BindsAttribute = bound_attribute
 
-unfoldable pub bind : Of Binding
+unfoldable pub bind : Of SeenBind
 bind = one bind_begin_at >>= λ b. ended_by 59 (bind_behind b.at b.word)
 
 abbrev pub braced : {A : Type 0} → Of A → Of (List A)
 braced S = mark 123 >>= λ o. many S >>= λ xs. mark 125 >>= λ c. give xs
 
-unfoldable pub binds : Of (List Binding)
+unfoldable pub binds : Of (List SeenBind)
 binds = (mark 59 >>= λ e. give []) <|> braced bind
 
-unfoldable pub child : Of Meaning
+unfoldable pub child : Of SeenWhat
 child = do
   of ← word (codes "Of")
   m ← name
@@ -150,7 +150,7 @@ child = do
 
 -- ---- enumerations and interfaces
 
-unfoldable pub enum_word : Of EnumValue
+unfoldable pub enum_word : Of SeenEnumWord
 enum_word = do
   n ← name
   e ← mark 61
@@ -158,10 +158,10 @@ enum_word = do
   s ← mark 59
   give (record { name = n; value = v })
 
-unfoldable pub words : Of Meaning
+unfoldable pub words : Of SeenWhat
 words = braced enum_word >>= λ ws. give (SomeWords ws)
 
-abbrev pub member_word_at : Tok → Option MemberWord
+abbrev pub member_word_at : SeenToken → Option MemberWord
 member_word_at t = if_word t.kind (member_named t.text) None
 
 -- a port's name; attributes of an interface are read and not kept
@@ -176,7 +176,7 @@ abbrev pub with_member : List (List ℕ) → Option (List ℕ) → List (List �
 with_member ns None = ns
 with_member ns (Some n) = ns ++ n ∷ []
 
-unfoldable pub interface : Of Meaning
+unfoldable pub interface : Of SeenWhat
 interface = do
   o ← mark 123
   ps ← repeat (λ (ns : List (List ℕ)). member) with_member []
@@ -206,7 +206,7 @@ selecting = do
   c ← mark 125
   give s
 
-unfoldable pub instruction : Of Instruction
+unfoldable pub instruction : Of SeenLinkInstr
 instruction = do
   n ← name
   o ← mark 123
@@ -214,7 +214,7 @@ instruction = do
   c ← mark 125
   give (record { name = n; cell = s.cell; interface = s.interface })
 
-abbrev pub link_kind_at : Tok → Option LinkKind
+abbrev pub link_kind_at : SeenToken → Option LinkKind
 link_kind_at t = if_word t.kind (link_named t.text) None
 
 -- the entity that an access link names
@@ -225,7 +225,7 @@ entity = do
   s ← mark 59
   give n
 
-unfoldable pub link : Of Meaning
+unfoldable pub link : Of SeenWhat
 link = do
   of ← word (codes "Of")
   k ← one link_kind_at
@@ -237,7 +237,7 @@ link = do
 
 -- ---- items
 
-abbrev pub item_word_at : Tok → Option ItemWord
+abbrev pub item_word_at : SeenToken → Option ItemWord
 item_word_at t = if_word t.kind (item_named t.text) None
 
 -- the word of an item at its place
@@ -249,11 +249,11 @@ abbrev pub item_begun : Place → Option ItemWord → Option ItemBegin
 item_begun at None = None
 item_begun at (Some w) = Some (record { at = at; word = w })
 
-abbrev pub item_begin_at : Tok → Option ItemBegin
+abbrev pub item_begin_at : SeenToken → Option ItemBegin
 item_begin_at t = item_begun t.at (item_word_at t)
 
 -- what stands behind an item's word and name
-abbrev pub meaning_behind : ItemWord → Of Meaning
+abbrev pub meaning_behind : ItemWord → Of SeenWhat
 meaning_behind (OfPort kind) = port kind
 meaning_behind OfRegister = register
 meaning_behind OfMux = mux
@@ -265,7 +265,7 @@ meaning_behind OfAttribute = attribute
 meaning_behind OfInterface = interface
 meaning_behind OfLink = link
 
-unfoldable pub item : Of Thing
+unfoldable pub item : Of SeenItem
 item = do
   b ← one item_begin_at
   n ← name
@@ -275,12 +275,12 @@ item = do
 -- ---- a design
 
 -- a module at the place of its first word
-unfoldable pub module_of : Of Block
+unfoldable pub module_of : Of SeenModule
 module_of = do
   at ← word (codes "Module")
   n ← name
   items ← braced item
   give (record { name = n; at = at; items = items })
 
-unfoldable pub design : Of (List Block)
+unfoldable pub design : Of (List SeenModule)
 design = many module_of

@@ -2,21 +2,23 @@
 use Rattle.std.specs.Prelude.{ℕ, ◌+◌, ◌-◌, ◌*◌, ◌==◌, nat_lt, Bool, false, ◌||◌, cond, List, [], ◌∷◌, map, slice_range, Option, Some, None, codes}
 use Rattle.std.specs.Str.{bytes_eq}
 use Rattle.ij_text.specs.declared.Place.{Place}
+use Rattle.ij_text.specs.Numbers.{decimal_from}
+use Rattle.ij_text.specs.Words.{is_one_of}
 use Rattle.icl_lexer.specs.declared.token.Token.{Token}
 use Rattle.icl_lexer.specs.declared.token.TokenKind.{TokenKind}
 use Rattle.icl_lexer.specs.declared.token.TokenKind.TheVariants.{Word, Decimal, Sized, Quoted, Param, Mark}
 
-pub record Tok : Type 0 where
+pub record SeenToken : Type 0 where
   pub kind : TokenKind
   pub at : Place
   pub text : List ℕ
 
 -- a token with its bytes of the source
-abbrev pub tok_of : List ℕ → Token → Tok
-tok_of src t = record { kind = t.kind; at = t.at; text = slice_range src t.start t.end }
+abbrev pub seen_token : List ℕ → Token → SeenToken
+seen_token src t = record { kind = t.kind; at = t.at; text = slice_range src t.start t.end }
 
-abbrev pub toks_of : List ℕ → List Token → List Tok
-toks_of src ts = map (tok_of src) ts
+abbrev pub seen_tokens : List ℕ → List Token → List SeenToken
+seen_tokens src ts = map (seen_token src) ts
 
 -- ---- what a kind of token gives
 
@@ -41,28 +43,23 @@ is_byte c [] = false
 is_byte c (b ∷ []) = b == c
 is_byte c (b ∷ d ∷ bs) = false
 
-abbrev pub is_mark : ℕ → Tok → Bool
+abbrev pub is_mark : ℕ → SeenToken → Bool
 is_mark c t = if_mark t.kind (is_byte c t.text) false
 
-abbrev pub is_word : List ℕ → Tok → Bool
+abbrev pub is_word : List ℕ → SeenToken → Bool
 is_word w t = if_word t.kind (bytes_eq t.text w) false
 
-abbrev pub mark_at : ℕ → Tok → Option Place
+abbrev pub mark_at : ℕ → SeenToken → Option Place
 mark_at c t = cond (is_mark c t) (Some t.at) None
 
-abbrev pub word_at : List ℕ → Tok → Option Place
+abbrev pub word_at : List ℕ → SeenToken → Option Place
 word_at w t = cond (is_word w t) (Some t.at) None
 
 -- any word, a keyword included
-abbrev pub name_at : Tok → Option (List ℕ)
+abbrev pub name_at : SeenToken → Option (List ℕ)
 name_at t = if_word t.kind (Some t.text) None
 
 -- ---- decimals
-
--- the digits of a decimal behind the number n, its `_` left out
-abbrev pub decimal_from : ℕ → List ℕ → ℕ
-decimal_from n [] = n
-decimal_from n (b ∷ bs) = decimal_from (cond (b == 95) n (10 * n + (b - 48))) bs
 
 -- a decimal is at most 4,294,967,295
 abbrev pub small : ℕ → Option ℕ
@@ -79,22 +76,7 @@ decimal_at Quoted text = None
 decimal_at Param text = None
 decimal_at Mark text = None
 
--- ---- the texts of parameters and quoted texts
-
-abbrev pub after_first : List ℕ → List ℕ
-after_first [] = []
-after_first (b ∷ bs) = bs
-
-abbrev pub but_last : List ℕ → List ℕ
-but_last [] = []
-but_last (b ∷ []) = []
-but_last (b ∷ c ∷ bs) = b ∷ but_last (c ∷ bs)
-
 -- ---- words of ICL that this compiler leaves out
-
-abbrev pub is_one_of : List (List ℕ) → List ℕ → Bool
-is_one_of [] text = false
-is_one_of (w ∷ ws) text = bytes_eq text w || is_one_of ws text
 
 unfoldable pub is_left_out : List ℕ → Bool
 is_left_out text =

@@ -6,84 +6,84 @@ use Rattle.icl_syntax.specs.declared.tree.PortKind.{PortKind}
 use Rattle.icl_syntax.specs.declared.tree.LinkKind.{LinkKind}
 
 -- an expression
-pub data Formula : Type 0 where
-  ADecimal : ℕ → Formula
-  ASized : List ℕ → Formula
-  AQuoted : List ℕ → Formula
-  AParam : Place → List ℕ → Formula
-  AnOp : Place → Sign → Formula → Formula → Formula
+pub data SeenExpr : Type 0 where
+  ADecimal : ℕ → SeenExpr
+  ASized : List ℕ → SeenExpr
+  AQuoted : List ℕ → SeenExpr
+  AParam : Place → List ℕ → SeenExpr
+  AnOp : Place → Sign → SeenExpr → SeenExpr → SeenExpr
 
 -- a range
-pub record Span : Type 0 where
+pub record SeenRange : Type 0 where
   pub at : Place
-  pub left : Formula
-  pub right : Option Formula
+  pub left : SeenExpr
+  pub right : Option SeenExpr
 
 -- what a signal is
-pub data Meant : Type 0 where
-  ANumber : Formula → Meant
-  APath : List (List ℕ) → Option Span → Meant
+pub data SeenSigWhat : Type 0 where
+  ANumber : SeenExpr → SeenSigWhat
+  APath : List (List ℕ) → Option SeenRange → SeenSigWhat
 
-pub record Signal : Type 0 where
+pub record SeenSig : Type 0 where
   pub at : Place
   pub inverted : Bool
-  pub what : Meant
+  pub what : SeenSigWhat
 
 -- a property; an attribute's name and value aren't kept
-pub data Property : Type 0 where
-  ASource : List Signal → Property
-  ALaunchEdge : List ℕ → Property
-  ALoadValue : List Formula → Property
-  ARefEnum : List ℕ → Property
-  APolarity : ℕ → Property
-  AScanInSource : Signal → Property
-  ACaptureSource : List Signal → Property
-  AResetValue : List Formula → Property
-  ATogether : Property
+pub data SeenProp : Type 0 where
+  ASource : List SeenSig → SeenProp
+  ALaunchEdge : List ℕ → SeenProp
+  ALoadValue : List SeenExpr → SeenProp
+  ARefEnum : List ℕ → SeenProp
+  APolarity : ℕ → SeenProp
+  AScanInSource : SeenSig → SeenProp
+  ACaptureSource : List SeenSig → SeenProp
+  AResetValue : List SeenExpr → SeenProp
+  ATogether : SeenProp
 
 -- a row of a multiplexer
-pub record Row : Type 0 where
-  pub values : List (List Formula)
-  pub source : Signal
+pub record SeenRow : Type 0 where
+  pub values : List (List SeenExpr)
+  pub source : SeenSig
 
 -- what an instance binds
-pub data Binding : Type 0 where
-  ABoundPort : Place → List ℕ → Option Span → List Signal → Binding
-  ABoundParameter : Place → List ℕ → Formula → Binding
-  ABoundAttribute : List ℕ → Option Formula → Binding
+pub data SeenBind : Type 0 where
+  ABoundPort : Place → List ℕ → Option SeenRange → List SeenSig → SeenBind
+  ABoundParameter : Place → List ℕ → SeenExpr → SeenBind
+  ABoundAttribute : List ℕ → Option SeenExpr → SeenBind
 
 -- a word of an enumeration
-pub record EnumValue : Type 0 where
+pub record SeenEnumWord : Type 0 where
   pub name : List ℕ
-  pub value : List Formula
+  pub value : List SeenExpr
 
 -- an instruction of an access link
-pub record Instruction : Type 0 where
+pub record SeenLinkInstr : Type 0 where
   pub name : List ℕ
   pub cell : List ℕ
   pub interface : List ℕ
 
 -- what an item declares
-pub data Meaning : Type 0 where
-  APort : PortKind → Option Span → List Property → Meaning
-  ARegister : Option Span → List Property → Meaning
-  AMux : List Signal → List Row → Meaning
-  AChild : List ℕ → List Binding → Meaning
-  AnAlias : Option Span → List Signal → List Property → Meaning
-  SomeWords : List EnumValue → Meaning
-  AParameter : Bool → Formula → Meaning
-  AnInterface : List (List ℕ) → Meaning
-  ALink : LinkKind → List ℕ → List Instruction → Meaning
-  AnAttribute : Option Formula → Meaning
+pub data SeenWhat : Type 0 where
+  APort : PortKind → Option SeenRange → List SeenProp → SeenWhat
+  ARegister : Option SeenRange → List SeenProp → SeenWhat
+  AMux : List SeenSig → List SeenRow → SeenWhat
+  AChild : List ℕ → List SeenBind → SeenWhat
+  AnAlias : Option SeenRange → List SeenSig → List SeenProp → SeenWhat
+  SomeWords : List SeenEnumWord → SeenWhat
+  AParameter : Bool → SeenExpr → SeenWhat
+  AnInterface : List (List ℕ) → SeenWhat
+  ALink : LinkKind → List ℕ → List SeenLinkInstr → SeenWhat
+  AnAttribute : Option SeenExpr → SeenWhat
 
 -- an item at the place of its first word
-pub record Thing : Type 0 where
+pub record SeenItem : Type 0 where
   pub at : Place
   pub name : List ℕ
-  pub what : Meaning
+  pub what : SeenWhat
 
 -- a module at the place of its first word
-pub record Block : Type 0 where
+pub record SeenModule : Type 0 where
   pub name : List ℕ
   pub at : Place
-  pub items : List Thing
+  pub items : List SeenItem

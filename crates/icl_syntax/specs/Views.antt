@@ -20,7 +20,7 @@ use Rattle.icl_syntax.specs.declared.tree.What.TheVariants.{Port, Register, Mux,
 use Rattle.icl_syntax.specs.declared.tree.Item.{Item}
 use Rattle.icl_syntax.specs.declared.tree.Module.{Module}
 use Rattle.icl_syntax.specs.declared.tree.Design.{Design}
-use Rattle.icl_syntax.specs.Values.{Formula, ADecimal, ASized, AQuoted, AParam, AnOp, Span, Meant, ANumber, APath, Signal, Property, ASource, ALaunchEdge, ALoadValue, ARefEnum, APolarity, AScanInSource, ACaptureSource, AResetValue, ATogether, Row, Binding, ABoundPort, ABoundParameter, ABoundAttribute, EnumValue, Instruction, Meaning, APort, ARegister, AMux, AChild, AnAlias, SomeWords, AParameter, AnInterface, ALink, AnAttribute, Thing, Block}
+use Rattle.icl_syntax.specs.Values.{SeenExpr, ADecimal, ASized, AQuoted, AParam, AnOp, SeenRange, SeenSigWhat, ANumber, APath, SeenSig, SeenProp, ASource, ALaunchEdge, ALoadValue, ARefEnum, APolarity, AScanInSource, ACaptureSource, AResetValue, ATogether, SeenRow, SeenBind, ABoundPort, ABoundParameter, ABoundAttribute, SeenEnumWord, SeenLinkInstr, SeenWhat, APort, ARegister, AMux, AChild, AnAlias, SomeWords, AParameter, AnInterface, ALink, AnAttribute, SeenItem, SeenModule}
 
 -- the items of a list, each seen by a view
 abbrev pub seen_list : {X Y : Type 0} → (X → Y) → Listed X → List Y
@@ -29,24 +29,24 @@ seen_list view xs = map view xs.items
 abbrev pub bytes_of : Listed ℕ → List ℕ
 bytes_of text = text.items
 
-abbrev pub seen_expr : Expr → Formula
+abbrev pub seen_expr : Expr → SeenExpr
 seen_expr (Decimal n) = ADecimal n
 seen_expr (Sized text) = ASized text.items
 seen_expr (Quoted text) = AQuoted text.items
 seen_expr (Param at name) = AParam at name.items
 seen_expr (Op' at sign p a q b) = AnOp at sign (seen_expr a) (seen_expr b)
 
-abbrev pub seen_range : Range → Span
+abbrev pub seen_range : Range → SeenRange
 seen_range r = record { at = r.at; left = seen_expr r.left; right = option_map seen_expr r.right }
 
-abbrev pub seen_sig_what : SigWhat → Meant
+abbrev pub seen_sig_what : SigWhat → SeenSigWhat
 seen_sig_what (Value e) = ANumber (seen_expr e)
 seen_sig_what (Named path range) = APath (seen_list bytes_of path) (option_map seen_range range)
 
-abbrev pub seen_sig : Sig → Signal
+abbrev pub seen_sig : Sig → SeenSig
 seen_sig s = record { at = s.at; inverted = s.inverted; what = seen_sig_what s.what }
 
-abbrev pub seen_prop : Prop → Property
+abbrev pub seen_prop : Prop → SeenProp
 seen_prop (Source sigs) = ASource (seen_list seen_sig sigs)
 seen_prop (LaunchEdge edge) = ALaunchEdge edge.items
 seen_prop (DefaultLoadValue value) = ALoadValue (seen_list seen_expr value)
@@ -57,21 +57,21 @@ seen_prop (CaptureSource sigs) = ACaptureSource (seen_list seen_sig sigs)
 seen_prop (ResetValue value) = AResetValue (seen_list seen_expr value)
 seen_prop AccessTogether = ATogether
 
-abbrev pub seen_row : MuxRow → Row
+abbrev pub seen_row : MuxRow → SeenRow
 seen_row r = record { values = seen_list (seen_list seen_expr) r.values; source = seen_sig r.source }
 
-abbrev pub seen_bind : Bind → Binding
+abbrev pub seen_bind : Bind → SeenBind
 seen_bind (BindPort at name range sigs) = ABoundPort at name.items (option_map seen_range range) (seen_list seen_sig sigs)
 seen_bind (BindParameter at name value) = ABoundParameter at name.items (seen_expr value)
 seen_bind (BindAttribute name value) = ABoundAttribute name.items (option_map seen_expr value)
 
-abbrev pub seen_enum_word : EnumWord → EnumValue
+abbrev pub seen_enum_word : EnumWord → SeenEnumWord
 seen_enum_word w = record { name = w.name.items; value = seen_list seen_expr w.value }
 
-abbrev pub seen_instr : LinkInstr → Instruction
+abbrev pub seen_instr : LinkInstr → SeenLinkInstr
 seen_instr i = record { name = i.name.items; cell = i.cell.items; interface = i.interface.items }
 
-abbrev pub seen_what : What → Meaning
+abbrev pub seen_what : What → SeenWhat
 seen_what (Port kind range props) = APort kind (option_map seen_range range) (seen_list seen_prop props)
 seen_what (Register range props) = ARegister (option_map seen_range range) (seen_list seen_prop props)
 seen_what (Mux select rows) = AMux (seen_list seen_sig select) (seen_list seen_row rows)
@@ -83,11 +83,11 @@ seen_what (Interface ports) = AnInterface (seen_list bytes_of ports)
 seen_what (Link kind entity instrs) = ALink kind entity.items (seen_list seen_instr instrs)
 seen_what (Attribute value) = AnAttribute (option_map seen_expr value)
 
-abbrev pub seen_item : Item → Thing
+abbrev pub seen_item : Item → SeenItem
 seen_item i = record { at = i.at; name = i.name.items; what = seen_what i.what }
 
-abbrev pub seen_module : Module → Block
+abbrev pub seen_module : Module → SeenModule
 seen_module m = record { name = m.name.items; at = m.at; items = seen_list seen_item m.items }
 
-abbrev pub seen_design : Design → List Block
+abbrev pub seen_design : Design → List SeenModule
 seen_design d = seen_list seen_module d.modules

@@ -1,6 +1,7 @@
 -- The words by which the parts of a text are told apart.
 use Rattle.std.specs.Prelude.{ℕ, true, false, cond, List, [], ◌∷◌, Option, Some, None, codes}
 use Rattle.std.specs.Str.{bytes_eq}
+use Rattle.ij_text.specs.Words.{Entry, found_in}
 use Rattle.icl_syntax.specs.declared.tree.PortKind.{PortKind}
 use Rattle.icl_syntax.specs.declared.tree.PortKind.TheVariants.{ScanInPort, ScanOutPort, DataInPort, DataOutPort, SelectPort, CaptureEnPort, ShiftEnPort, UpdateEnPort, ResetPort, TCKPort, TMSPort, TRSTPort, ClockPort, ToSelectPort, ToCaptureEnPort, ToShiftEnPort, ToUpdateEnPort, ToResetPort, ToTCKPort, ToTMSPort, ToTRSTPort, ToClockPort, ToIRSelectPort}
 use Rattle.icl_syntax.specs.declared.tree.LinkKind.{LinkKind}
@@ -13,15 +14,6 @@ use Rattle.icl_syntax.specs.declared.words.BindWord.{BindWord}
 use Rattle.icl_syntax.specs.declared.words.BindWord.TheVariants.{BindsPort, BindsParameter, BindsAttribute}
 use Rattle.icl_syntax.specs.declared.words.MemberWord.{MemberWord}
 use Rattle.icl_syntax.specs.declared.words.MemberWord.TheVariants.{MemberPort, MemberAttribute}
-
-pub record Entry (A : Type 0) : Type 0 where
-  pub word : List ℕ
-  pub meaning : A
-
--- what a table has for a word
-abbrev pub found_in : {A : Type 0} → List (Entry A) → List ℕ → Option A
-found_in [] text = None
-found_in (entry ∷ entries) text = cond (bytes_eq text entry.word) (Some entry.meaning) (found_in entries text)
 
 -- the first of two answers that is one
 abbrev pub or_else : {A : Type 0} → Option A → Option A → Option A

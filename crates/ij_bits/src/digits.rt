@@ -20,8 +20,8 @@ pub(crate) fn number(bits: &Bits, from: u32, to: u32) -> u8
     value
 }
 
-/// The upper-case digit of a number below 16.
-pub(crate) fn digit(value: u8) -> u8
+/// The upper-case ASCII digit of a number below 16. Takes no memory.
+pub fn hex_digit_of(value: u8) -> u8
     requires { value < 16 }
     ensures { result ≡ hex_code value }
 {

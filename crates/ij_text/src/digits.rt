@@ -1,5 +1,6 @@
 // Digits and their values.
 ghost use Rattle.std.specs.Prelude.{◌≡◌, ◌+◌, ◌*◌, ◌^◌, ◌<◌, ◌≤◌, ◌++◌, ◌∷◌, [], cond, true, length, map, Some, None, nat_lt, IfOk, OnOk, MatchOption, ◌==◌, ◌/◌, ◌%◌};
+ghost use Rattle.std.specs.Char.{is_ascii_hexdigit};
 ghost use Rattle.ij_text.specs.Numbers.{are_digits, decimal_from, digit_bits, go_on, hex_value, is_digit, next_decimal, text_bits};
 
 use crate::open_bits::OpenBits;
@@ -76,7 +77,8 @@ pub fn decimal(text: &[u8]) -> Option<u128>
 
 /// The value of a hexadecimal digit, in either case.
 pub fn hex_value(b: u8) -> u8
-    ensures { result ≡ hex_value b }
+    ensures value { result ≡ hex_value b }
+    ensures digit { is_ascii_hexdigit b ≡ true → result < 16 }
 {
     if b < b':' {
         b.saturating_sub(b'0')

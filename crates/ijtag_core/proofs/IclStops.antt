@@ -9,7 +9,7 @@ use Rattle.icl_lexer.specs.declared.fault.LexFault.TheVariants.{BadByte, OpenCom
 use Rattle.icl_lexer.specs.Cutting.{AreTokens}
 use Rattle.icl_syntax.specs.declared.tree.Design.{Design}
 use Rattle.icl_syntax.specs.Modules.{design}
-use Rattle.icl_syntax.specs.Tokens.{toks_of}
+use Rattle.icl_syntax.specs.Tokens.{seen_tokens}
 use Rattle.icl_parser.specs.declared.fault.ParseFault.{ParseFault}
 use Rattle.icl_parser.specs.declared.fault.ParseFault.TheVariants.{LeftOut, ExprLimit, Syntax, OutOfMemory as NoMemory}
 use Rattle.ijtag_core.specs.IclText.{IsIclText, IsIclFault, IsNoIcl}
@@ -59,5 +59,5 @@ pub not_no_memory : (f fault : ParseFault) → f ≡ fault → (IsNoMemory fault
 not_no_memory f fault is other e = other (subst IsNoMemory is (subst OnNoMemory (sym e) tt))
 
 -- the design of a text is that of the tokens that are its only ones
-pub derived_here : (text : List ℕ) (tokens : List Token) → ((others : List Token) → AreTokens text others → tokens ≡ others) → (icl : IsIclText text) → design.derives (toks_of text tokens) icl.1
-derived_here text tokens only icl = subst (λ (ts : List Token). design.derives (toks_of text ts) icl.1) (sym (only icl.0 icl.2)) icl.3
+pub derived_here : (text : List ℕ) (tokens : List Token) → ((others : List Token) → AreTokens text others → tokens ≡ others) → (icl : IsIclText text) → design.derives (seen_tokens text tokens) icl.1
+derived_here text tokens only icl = subst (λ (ts : List Token). design.derives (seen_tokens text ts) icl.1) (sym (only icl.0 icl.2)) icl.3

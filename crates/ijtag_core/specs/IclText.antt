@@ -6,8 +6,8 @@ use Rattle.icl_lexer.specs.declared.token.Token.{Token}
 use Rattle.icl_lexer.specs.declared.fault.LexFault.TheVariants.{BadByte as LexBadByte, OpenComment as LexOpenComment, OpenText as LexOpenText}
 use Rattle.icl_lexer.specs.Cutting.{AreTokens, HasFault}
 use Rattle.icl_syntax.specs.Modules.{design}
-use Rattle.icl_syntax.specs.Tokens.{toks_of}
-use Rattle.icl_syntax.specs.Values.{Block}
+use Rattle.icl_syntax.specs.Tokens.{seen_tokens}
+use Rattle.icl_syntax.specs.Values.{SeenModule}
 use Rattle.icl_parser.specs.Refusals.{IsRefused}
 use Rattle.icl_parser.specs.declared.fault.ParseFault.{ParseFault}
 use Rattle.icl_parser.specs.declared.fault.ParseFault.TheVariants.{LeftOut as ParseLeftOut, ExprLimit as ParseExprLimit, Syntax as ParseSyntax}
@@ -15,11 +15,11 @@ use Rattle.ijtag_core.specs.Stops.{IclCause, BadByte, OpenComment, OpenText, Lef
 
 -- the text is cut into tokens, of which the grammar makes a design
 abbrev pub IsIclText : List ℕ → Type 0
-IsIclText text = (tokens : List Token) × (blocks : List Block) × AreTokens text tokens × design.derives (toks_of text tokens) blocks
+IsIclText text = (tokens : List Token) × (blocks : List SeenModule) × AreTokens text tokens × design.derives (seen_tokens text tokens) blocks
 
 -- the text has tokens, and they leave the grammar with this fault
 abbrev pub LeavesGrammar : List ℕ → ParseFault → Type 0
-LeavesGrammar text fault = (tokens : List Token) × AreTokens text tokens × IsRefused text (toks_of text tokens) fault
+LeavesGrammar text fault = (tokens : List Token) × AreTokens text tokens × IsRefused text (seen_tokens text tokens) fault
 
 -- the first fault of the text, and its place
 abbrev pub IsIclFault : List ℕ → IclCause → Place → Type 0

@@ -2,10 +2,12 @@
 #![tactic(auto)]
 
 #[cfg(test)]
+mod device_files;
+#[cfg(test)]
 mod host_files;
 #[cfg(test)]
-mod ij_text;
-#[cfg(test)]
 mod largest;
+#[cfg(test)]
+mod names_and_numbers;
 #[cfg(test)]
 mod pdl_texts;

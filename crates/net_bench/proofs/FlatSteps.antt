@@ -9,7 +9,7 @@ use Rattle.net_graph.specs.Signals.{Outputs, signal}
 use Rattle.net_graph.specs.OneRegister.{own_bits}
 use Rattle.net_graph.specs.Resets.{reset_bits}
 use Rattle.instruments.specs.declared.Counts.{Counts}
-use Rattle.bench_file.specs.Instruments.{outputs}
+use Rattle.instruments.specs.OnNetwork.{outputs}
 use Rattle.tap_machine.specs.declared.TapState.{TapState}
 use Rattle.tap_machine.specs.declared.TapState.TheVariants.{TestLogicReset}
 use Rattle.net_bench.specs.Bench.{State, power_up, put_dr, capture_bits, select_of}

@@ -4,7 +4,7 @@ use Rattle.net_graph.specs.declared.device.Device.{Device}
 use Rattle.net_graph.specs.declared.net.Net.{Net}
 use Rattle.instruments.specs.declared.Counts.{Counts}
 use Rattle.instruments.specs.Machine.{Event, Machine, count_log, tally, whole_log}
-use Rattle.bench_file.specs.Instruments.{Running}
+use Rattle.instruments.specs.OnNetwork.{Running}
 use Rattle.svf_writer.specs.SeenCommands.{SeenCommand}
 use Rattle.net_bench.specs.Bench.{Chip, State, clock, power_up, sound, tdo}
 use Rattle.net_bench.specs.Playing.{compares_from, play_from}

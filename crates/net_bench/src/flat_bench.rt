@@ -5,7 +5,7 @@ ghost use Rattle.net_bench.specs.Flat.{flat_chip};
 ghost use Rattle.net_graph.specs.Signals.{hold_at};
 
 use crate::circuit::{Circuit, DataRegister};
-use ij_bits::{Bits, OutOfMemory};
+use ij_bits::{Bits, OutOfMemory, Ring};
 use net_graph::device::Device;
 use std::alloc::Global;
 use std::marker::Model;
@@ -44,7 +44,7 @@ impl<'a> FlatBench<'a> {
             ir_hold: Bits::zeros(alloc, device.ir)?,
             bypass: false,
             identity: Bits::zeros(alloc, 32)?,
-            stage: Bits::zeros(alloc, width)?,
+            stage: Ring::zeros(alloc, width)?,
             hold: Bits::zeros(alloc, width)?,
         };
         circuit.load_reset_instruction();

@@ -1,10 +1,10 @@
 // Shift and update stages: lists of bits whose length stays. Position 0 is nearest TDO.
-ghost use Rattle.std.specs.Prelude.{◌≡◌, length, replicate};
+ghost use Rattle.std.specs.Prelude.{◌≡◌, length};
 ghost use Rattle.ij_bits.specs.BitLists.{bit, bits_eq, bits_of};
 ghost use Rattle.net_bench.specs.Instruction.{capture_ir};
 ghost use Rattle.net_graph.specs.Chain.{shift};
 
-use ij_bits::Bits;
+use ij_bits::{Bits, Ring};
 
 /// One clock of a shift: answers the bit at position 0, and 0 of no bits.
 pub(crate) fn shift_stage(stage: &mut Bits, tdi: bool) -> bool
@@ -18,23 +18,16 @@ pub(crate) fn shift_stage(stage: &mut Bits, tdi: bool) -> bool
     }
 }
 
-/// Makes a stage have the bits of another one of the same length.
-pub(crate) fn copy(from: &Bits, to: &mut Bits)
-    requires { length to.old.items ≡ length from.now.items }
-    ensures { to.new.items ≡ from.now.items }
+/// One clock of a shift of a list that turns: answers the bit at position 0, and 0 of no bits.
+pub(crate) fn shift_ring(stage: &mut Ring, tdi: bool) -> bool
+    ensures tdo { result ≡ bit stage.old.items 0 }
+    ensures items { stage.new.items ≡ shift stage.old.items tdi }
+    ensures spare { stage.new.spare ≡ stage.old.spare }
 {
-    for i in 0..from.len() {
-        to.set(i, from.get(i));
-    }
-}
-
-/// Makes each bit be this one.
-pub(crate) fn fill(stage: &mut Bits, v: bool)
-    ensures length { length stage.new.items ≡ length stage.old.items }
-    ensures items { stage.new.items ≡ replicate (length stage.old.items) v }
-{
-    for i in 0..stage.len() {
-        stage.set(i, v);
+    if stage.is_empty() {
+        false
+    } else {
+        stage.shift(tdi)
     }
 }
 

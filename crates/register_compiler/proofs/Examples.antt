@@ -3,7 +3,7 @@ use Rattle.std.specs.Prelude.{◌≡◌, [], ◌∷◌, length, map, Some, None,
 use Rattle.std.specs.Fmt.{digits}
 use Rattle.ij_bits.specs.BitLists.{bits_of}
 use Rattle.svf_writer.specs.Written.{hex_text}
-use Rattle.headline.specs.OneScan.{done_of}
+use Rattle.headline.specs.OneScan.{scanned_of}
 use Rattle.headline.specs.Script.{script_commands}
 use Rattle.headline.specs.Sizes.{clocks}
 use Rattle.first_form.specs.Texts.{SeenForm, Write, Read, Apply}
@@ -27,7 +27,7 @@ write5_bytes : length (svf_text write5) ≡ 90
 unfolding svf_text digits hex_text
 write5_bytes = refl
 
-write5_clocks : clocks (script_commands (device_of 160) (map done_of (plan_of write5))) ≡ 29
+write5_clocks : clocks (script_commands (device_of 160) (map scanned_of (plan_of write5))) ≡ 29
 write5_clocks = refl
 
 read5_text : svf_text read5 ≡ codes "ENDIR IDLE;\nENDDR IDLE;\nSTATE RESET;\nSTATE IDLE;\nSIR 8 TDI (A0);\n! apply 1\nSDR 4 TDI (5);\n! apply 2\nSDR 4 TDI (5) TDO (5) MASK (F);\n"

@@ -1,7 +1,7 @@
 -- The groups of a procedure on one register, each with its scan.
 use Rattle.std.specs.Prelude.{◌≡◌, ℕ, Bool, false, List, [], ◌∷◌, map, replicate, unwrap_or, option_map}
 use Rattle.net_graph.specs.SeenSteps.{SeenGroup}
-use Rattle.headline.specs.OneScan.{done_of}
+use Rattle.headline.specs.OneScan.{scanned_of}
 use Rattle.headline.specs.Script.{script_text}
 use Rattle.headline.specs.Sizes.{IsShort}
 use Rattle.svf_writer.specs.SeenCommands.{SeenScan}
@@ -21,8 +21,8 @@ plan_of form = planned form.width (replicate form.width false) (queues_of form.l
 
 -- the text is the preface, then the mark and the one scan of each group
 abbrev pub TextsArePlanned : Type 0
-TextsArePlanned = (form : SeenForm) → svf_text form ≡ script_text (device_of form.opcode) (map done_of (plan_of form))
+TextsArePlanned = (form : SeenForm) → svf_text form ≡ script_text (device_of form.opcode) (map scanned_of (plan_of form))
 
 -- its clocks and its bytes are within what a reader of SVF takes
 abbrev pub TextsAreShort : Type 0
-TextsAreShort = (form : SeenForm) → IsForm form → IsShort (device_of form.opcode) (map done_of (plan_of form))
+TextsAreShort = (form : SeenForm) → IsForm form → IsShort (device_of form.opcode) (map scanned_of (plan_of form))

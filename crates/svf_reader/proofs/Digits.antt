@@ -12,7 +12,8 @@ use Rattle.ij_bits.specs.BitLists.{bits_of, number_of}
 use Rattle.ij_bits.specs.Hex.{hex_code, hex_digit}
 use Rattle.svf_reader.specs.Texts.{is_blank, is_mark}
 use Rattle.svf_reader.specs.Commands.{number_from, number}
-use Rattle.svf_reader.specs.Values.{digit_value, hex_bits, has_one, fitted, is_wide}
+use Rattle.ij_text.specs.Numbers.{hex_value as digit_value}
+use Rattle.svf_reader.specs.Values.{hex_bits, has_one, fitted, is_wide}
 use Rattle.svf_reader.proofs.Putting.{no_one}
 
 -- ---- bytes
@@ -65,11 +66,11 @@ low_bit : (b : Bool) (n : ℕ) → ((((cond b 1 0) + 2 * n) % 2) == 1) ≡ b
 low_bit true n = grind (arith, nat_tests)
 low_bit false n = grind (arith, nat_tests)
 
-high_bits : (b : Bool) (n : ℕ) → ((cond b 1 0) + 2 * n) / 2 ≡ n
+pub high_bits : (b : Bool) (n : ℕ) → ((cond b 1 0) + 2 * n) / 2 ≡ n
 high_bits true n = omega arith
 high_bits false n = omega arith
 
-bits_again : (w : ℕ) (bs : List Bool) → bits_of w (number_of bs) ≡ padded w bs
+pub bits_again : (w : ℕ) (bs : List Bool) → bits_of w (number_of bs) ≡ padded w bs
 bits_again zero bs = refl
 bits_again (suc w) [] = bits_of_zero (suc w)
 bits_again (suc w) (b ∷ bs) =
@@ -84,7 +85,7 @@ abbrev pub hex_list : List Bool → ℕ → List ℕ
 hex_list bits zero = []
 hex_list bits (suc d) = hex_digit bits d ∷ hex_list bits d
 
-number_below : (bits : List Bool) (n : ℕ) → length bits ≤ n → number_of bits < 2 ^ n
+pub number_below : (bits : List Bool) (n : ℕ) → length bits ≤ n → number_of bits < 2 ^ n
 number_below [] n fits = pow_pos n
 number_below (b ∷ bits) zero fits = absurd (omega arith)
 number_below (true ∷ bits) (suc n) fits = omega (arith, number_below bits n (omega arith), pow-suc 2 n)
@@ -101,7 +102,7 @@ padded_take zero bs = refl
 padded_take (suc w) [] = refl
 padded_take (suc w) (b ∷ bs) = ap (λ (l : List Bool). b ∷ l) (padded_take w bs)
 
-padded_split : (m n : ℕ) (bs : List Bool) → padded (m + n) bs ≡ padded m bs ++ padded n (drop m bs)
+pub padded_split : (m n : ℕ) (bs : List Bool) → padded (m + n) bs ≡ padded m bs ++ padded n (drop m bs)
 padded_split zero n bs = let none : 0 + n ≡ n = omega arith in ap (λ k. padded k bs) none
 padded_split (suc m) n [] =
     let more : suc m + n ≡ suc (m + n) = omega arith in

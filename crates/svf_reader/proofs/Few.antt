@@ -6,7 +6,7 @@ use Rattle.svf_reader.specs.declared.kept.Kept.{Kept}
 use Rattle.svf_reader.specs.declared.said.Register.{Register}
 use Rattle.svf_reader.specs.declared.said.Register.TheVariants.{Instruction, Data}
 use Rattle.svf_reader.specs.Commands.{SaidBy, Scans, ToReset, ToIdle, Runs, NoEffect, Parts, said, left_out}
-use Rattle.svf_reader.specs.Texts.{words, runs, texts, plain, blanks}
+use Rattle.svf_reader.specs.Texts.{words, behind_word, texts, plain, blanks}
 use Rattle.svf_reader.specs.Meaning.{Cause, SvfLimit, SvfSyntax, HexWide, TdiMissing, LeftOut, Refusal, Step, at_first, with_length, last_length, leaving, scan_clocks, clocked, any_wide, tdi_missing, scan_with, scan_command, scanned, done, if_said, unless_left_out, comes_to, listed, in_front_of, at_end, and_then, read_from, svf}
 use Rattle.svf_reader.specs.Scripts.{clocks_from, ReadCommandsAreFew}
 
@@ -78,7 +78,7 @@ ended_counts kept false text None step e = no_step SvfSyntax step (Counts kept s
 
 comes_counts : (kept : Kept) (ended : Bool) (text : List ℕ) (step : Step) → comes_to kept ended text ≡ Ok step → Counts kept step
 unfolding comes_to
-comes_counts kept ended text step e = ended_counts kept ended text (left_out (words text) (runs text)) step e
+comes_counts kept ended text step e = ended_counts kept ended text (left_out (words text) (behind_word text)) step e
 
 -- ---- a text
 

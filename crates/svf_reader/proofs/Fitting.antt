@@ -9,7 +9,7 @@ use Rattle.svf_writer.specs.Fits.{HasLength, TakesTdi, FitsAfter, AreFitAfter}
 use Rattle.svf_reader.specs.declared.said.Register.{Register}
 use Rattle.svf_reader.specs.declared.said.Register.TheVariants.{Instruction, Data}
 use Rattle.svf_reader.specs.declared.kept.Kept.{Kept}
-use Rattle.svf_reader.specs.Texts.{words, runs}
+use Rattle.svf_reader.specs.Texts.{words, behind_word}
 use Rattle.svf_reader.specs.Values.{fitted, hex_bits}
 use Rattle.svf_reader.specs.Commands.{Parts, SaidBy, Scans, ToReset, ToIdle, Runs, NoEffect, says, says_one, are, number, parts, no_parts, scan_of, scan, state, cycles, run_test, is_frequency, is_trst, if_so, headers, end_states, said_by, said, left_out}
 use Rattle.svf_reader.specs.Meaning.{Cause, SvfSyntax, SvfLimit, HexWide, TdiMissing, Step, last_length, with_length, leaving, scan_clocks, clocked, part_of, scan_with, scan_command, other_length, tdi_missing, scanned, done, if_said, unless_left_out, comes_to, listed}
@@ -170,4 +170,4 @@ unless_follows kept ended text None step e =
 
 pub comes_follows : (kept : Kept) (ended : Bool) (text : List ℕ) (step : Step) → comes_to kept ended text ≡ Ok step → Follows kept step
 unfolding comes_to
-comes_follows kept ended text step e = unless_follows kept ended text (left_out (words text) (runs text)) step e
+comes_follows kept ended text step e = unless_follows kept ended text (left_out (words text) (behind_word text)) step e

@@ -6,7 +6,7 @@ use Rattle.std.proofs.lemmas.Bool.Decides.{nat_tests}
 use Rattle.ij_text.specs.declared.Place.{Place}
 use Rattle.svf_reader.specs.declared.bytes.Class.{Class}
 use Rattle.svf_reader.specs.declared.bytes.Class.TheVariants.{Gap, Word, Run}
-use Rattle.svf_reader.specs.Texts.{first, in_comment, plain_from, plain, is_blank, is_mark, is_any, in_word, goes_on, longer, cut, next_place, place_behind, place_at, first_place}
+use Rattle.svf_reader.specs.Texts.{first, in_comment, plain_from, plain, is_blank, is_mark, is_any, in_word, goes_on, longer, cut, behind_bytes, behind_word, next_place, place_behind, place_at, first_place}
 use Rattle.svf_reader.specs.Reading.{in_class, run_length, word_length, words_of, runs_of}
 
 -- ---- one step of a run
@@ -35,27 +35,29 @@ byte_there text n b within is =
 ends_a_line : (b : ℕ) → not (b == 10) ≡ false → is_blank b ≡ true
 ends_a_line b h = grind (arith, nat_tests)
 
-module _ (alone : ℕ → Bool) where
-  GapWords : Bool → List ℕ → Type 0
-  GapWords inside text = cut alone (plain_from inside text) ≡ cut alone (plain (drop (run_length Gap inside text) text))
-
-  gap_words_at : (inside : Bool) (b : ℕ) (bs : List ℕ) (h k : Bool) → in_comment inside b (first bs) ≡ h → is_blank b ≡ k
-      → cut alone (plain_from true bs) ≡ cut alone (plain (drop (run_length Gap true bs) bs))
-      → cut alone (plain_from false bs) ≡ cut alone (plain (drop (run_length Gap false bs) bs))
-      → cut alone (plain_from inside (b ∷ bs)) ≡ cut alone (plain (drop (run_length Gap inside (b ∷ bs)) (b ∷ bs)))
-  gap_words_at inside b bs true k eh ek at_true at_false =
-      subst (λ h. cut alone (cond h 32 b ∷ plain_from h bs) ≡ cut alone (plain (drop (cond (h || is_blank b) (suc (run_length Gap h bs)) 0) (b ∷ bs)))) (sym eh) at_true
-  gap_words_at inside b bs false true eh ek at_true at_false =
-      subst (λ h. cut alone (cond h 32 b ∷ plain_from h bs) ≡ cut alone (plain (drop (cond (h || is_blank b) (suc (run_length Gap h bs)) 0) (b ∷ bs)))) (sym eh)
-      (subst (λ k. cond k (cut alone (plain bs)) (cond (alone b) ((b ∷ []) ∷ cut alone (plain bs)) (longer (goes_on alone (plain bs)) b (cut alone (plain bs)))) ≡ cut alone (plain (drop (cond k (suc (run_length Gap false bs)) 0) (b ∷ bs)))) (sym ek) at_false)
-  gap_words_at true b bs false false eh ek at_true at_false = absurd (let e = ends_a_line b eh in cc)
-  gap_words_at false b bs false false eh ek at_true at_false =
+-- what skips blanks skips a gap
+module _ (A : Type 0) (f : List ℕ → A) (skips : (b : ℕ) (bs : List ℕ) → is_blank b ≡ true → f (b ∷ bs) ≡ f bs) where
+  gap_at : (inside : Bool) (b : ℕ) (bs : List ℕ) (h k : Bool) → in_comment inside b (first bs) ≡ h → is_blank b ≡ k
+      → f (plain_from true bs) ≡ f (plain (drop (run_length Gap true bs) bs))
+      → f (plain_from false bs) ≡ f (plain (drop (run_length Gap false bs) bs))
+      → f (plain_from inside (b ∷ bs)) ≡ f (plain (drop (run_length Gap inside (b ∷ bs)) (b ∷ bs)))
+  gap_at inside b bs true k eh ek at_true at_false =
+      subst (λ h. f (cond h 32 b ∷ plain_from h bs) ≡ f (plain (drop (cond (h || is_blank b) (suc (run_length Gap h bs)) 0) (b ∷ bs)))) (sym eh) (skips 32 (plain_from true bs) refl ∙ at_true)
+  gap_at inside b bs false true eh ek at_true at_false =
+      subst (λ h. f (cond h 32 b ∷ plain_from h bs) ≡ f (plain (drop (cond (h || is_blank b) (suc (run_length Gap h bs)) 0) (b ∷ bs)))) (sym eh)
+      (subst (λ k. f (b ∷ plain bs) ≡ f (plain (drop (cond k (suc (run_length Gap false bs)) 0) (b ∷ bs)))) (sym ek) (skips b (plain bs) ek ∙ at_false))
+  gap_at true b bs false false eh ek at_true at_false = absurd (let e = ends_a_line b eh in cc)
+  gap_at false b bs false false eh ek at_true at_false =
       let none : run_length Gap false (b ∷ bs) ≡ 0 = ap (λ h. cond (h || is_blank b) (suc (run_length Gap h bs)) 0) eh ∙ ap (λ k. cond k (suc (run_length Gap false bs)) 0) ek in
-      ap (λ n. cut alone (plain (drop n (b ∷ bs)))) (sym none)
+      ap (λ n. f (plain (drop n (b ∷ bs)))) (sym none)
 
-  pub gap_words : (inside : Bool) (text : List ℕ) → cut alone (plain_from inside text) ≡ cut alone (plain (drop (run_length Gap inside text) text))
-  gap_words inside [] = refl
-  gap_words inside (b ∷ bs) = gap_words_at inside b bs (in_comment inside b (first bs)) (is_blank b) refl refl (gap_words true bs) (gap_words false bs)
+  pub gap_skipped : (inside : Bool) (text : List ℕ) → f (plain_from inside text) ≡ f (plain (drop (run_length Gap inside text) text))
+  gap_skipped inside [] = refl
+  gap_skipped inside (b ∷ bs) = gap_at inside b bs (in_comment inside b (first bs)) (is_blank b) refl refl (gap_skipped true bs) (gap_skipped false bs)
+
+pub gap_words : (alone : ℕ → Bool) (inside : Bool) (text : List ℕ) → cut alone (plain_from inside text) ≡ cut alone (plain (drop (run_length Gap inside text) text))
+gap_words alone inside text =
+    gap_skipped (List (List ℕ)) (cut alone) (λ b bs e. ap (λ k. cond k (cut alone bs) (cond (alone b) ((b ∷ []) ∷ cut alone bs) (longer (goes_on alone bs) b (cut alone bs)))) e) inside text
 
 -- behind a gap no gap begins
 gap_stops_at : (inside : Bool) (b : ℕ) (bs : List ℕ) (h k : Bool) → in_comment inside b (first bs) ≡ h → is_blank b ≡ k
@@ -195,6 +197,44 @@ no_words = refl
 pub no_runs : runs_of [] ≡ []
 unfolding runs_of
 no_runs = refl
+
+-- ---- behind the first word
+
+pub behind_gap : (text : List ℕ) → behind_word (plain text) ≡ behind_word (plain (drop (run_length Gap false text) text))
+behind_gap text =
+    gap_skipped (List ℕ) behind_word (λ b bs e. ap (λ k. cond k (behind_word bs) (cond (is_mark b) bs (behind_bytes bs))) e) false text
+
+bytes_at : (b : ℕ) (bs : List ℕ) (h k : Bool) → in_comment false b (first bs) ≡ h → in_word is_mark b ≡ k → behind_bytes (plain bs) ≡ plain (drop (run_length Word false bs) bs)
+    → behind_bytes (plain (b ∷ bs)) ≡ plain (drop (run_length Word false (b ∷ bs)) (b ∷ bs))
+bytes_at b bs true k eh ek rest =
+    subst (λ h. behind_bytes (cond h 32 b ∷ plain_from h bs) ≡ plain (drop (cond (not h && in_word is_mark b) (suc (run_length Word h bs)) 0) (b ∷ bs))) (sym eh)
+    (sym (ap (λ h. cond h 32 b ∷ plain_from h bs) eh))
+bytes_at b bs false true eh ek rest =
+    subst (λ h. behind_bytes (cond h 32 b ∷ plain_from h bs) ≡ plain (drop (cond (not h && in_word is_mark b) (suc (run_length Word h bs)) 0) (b ∷ bs))) (sym eh)
+    (subst (λ k. cond k (behind_bytes (plain bs)) (b ∷ plain bs) ≡ plain (drop (cond k (suc (run_length Word false bs)) 0) (b ∷ bs))) (sym ek) rest)
+bytes_at b bs false false eh ek rest =
+    subst (λ h. behind_bytes (cond h 32 b ∷ plain_from h bs) ≡ plain (drop (cond (not h && in_word is_mark b) (suc (run_length Word h bs)) 0) (b ∷ bs))) (sym eh)
+    (subst (λ k. cond k (behind_bytes (plain bs)) (b ∷ plain bs) ≡ plain (drop (cond k (suc (run_length Word false bs)) 0) (b ∷ bs))) (sym ek) (sym (ap (λ h. cond h 32 b ∷ plain_from h bs) eh)))
+
+behind_bytes_is : (text : List ℕ) → behind_bytes (plain text) ≡ plain (drop (run_length Word false text) text)
+behind_bytes_is [] = refl
+behind_bytes_is (b ∷ bs) = bytes_at b bs (in_comment false b (first bs)) (in_word is_mark b) refl refl (behind_bytes_is bs)
+
+-- where no gap begins, behind a mark and behind a longer word
+behind_front : (b : ℕ) (bs : List ℕ) (m : Bool) → is_mark b ≡ m → in_comment false b (first bs) ≡ false → is_blank b ≡ false → cond m (plain bs) (behind_bytes (plain bs)) ≡ plain (drop (cond m 1 (run_length Word false (b ∷ bs))) (b ∷ bs))
+behind_front b bs true em eh eb = refl
+behind_front b bs false em eh eb =
+    let goes : run_length Word false (b ∷ bs) ≡ suc (run_length Word false bs) = run_on Word false false (b ∷ bs) bs b refl (sym eh) (ap (λ k. not (k || is_mark b)) eb ∙ ap not em) in
+    behind_bytes_is bs ∙ ap (λ n. plain (drop n (b ∷ bs))) (sym goes)
+
+pub behind_is : (text : List ℕ) (n : ℕ) → run_length Gap false text ≡ 0 → n ≡ word_length text → behind_word (plain text) ≡ plain (drop n text)
+behind_is [] n none is = ap (λ k. plain (drop k (let l : List ℕ = [] in l))) (sym is)
+behind_is (b ∷ bs) n none is =
+    let free = no_gap b bs (in_comment false b (first bs)) (is_blank b) refl refl none in
+    ap (λ h. behind_word (cond h 32 b ∷ plain_from h bs)) free.0
+    ∙ ap (λ k. cond k (behind_word (plain bs)) (cond (is_mark b) (plain bs) (behind_bytes (plain bs)))) free.1
+    ∙ behind_front b bs (is_mark b) refl free.0 free.1
+    ∙ ap (λ k. plain (drop k (b ∷ bs))) (sym is)
 
 -- ---- places
 

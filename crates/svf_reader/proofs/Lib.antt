@@ -11,3 +11,4 @@ pub mod Scripting
 pub mod Gaps
 pub mod Few
 pub mod Following
+pub mod Packing

@@ -13,7 +13,7 @@ use Rattle.svf_writer.specs.Written.{hex_text, part, scan_text, text_of}
 use Rattle.svf_reader.specs.declared.said.Register.{Register}
 use Rattle.svf_reader.specs.declared.said.Register.TheVariants.{Instruction, Data}
 use Rattle.svf_reader.specs.declared.kept.Kept.{Kept}
-use Rattle.svf_reader.specs.Texts.{plain, texts, is_blank, is_mark, is_any, goes_on, longer, in_front, cut, words, runs, blanks}
+use Rattle.svf_reader.specs.Texts.{plain, texts, is_blank, is_mark, is_any, goes_on, longer, in_front, cut, words, runs, behind_bytes, behind_word, blanks}
 use Rattle.svf_reader.specs.Commands.{Parts, SaidBy, Scans, ToReset, ToIdle, Runs, says, names_one, no_parts, with_part, both, one_part, then_parts, parts, behind_hex, scan_of, scan, state, cycles, run_test, said_by, said, left_out_names, is_left_out, left_out}
 use Rattle.svf_reader.specs.Values.{fitted, hex_bits, is_wide}
 use Rattle.svf_reader.specs.Meaning.{Cause, SvfSyntax, SvfLimit, HexWide, Step, with_length, leaving, scan_clocks, clocked, part_wide, part_of, any_wide, scan_with, scan_command, scanned, done, if_said, unless_left_out, comes_to, at_end, and_then, read_from}
@@ -36,9 +36,9 @@ same_words kept ended t u None e =
 blank_comes : (kept : Kept) (ended : Bool) (b : ℕ) (t : List ℕ) → is_blank b ≡ true → comes_to kept ended (b ∷ t) ≡ comes_to kept ended t
 unfolding comes_to
 blank_comes kept ended b t h =
-    same_words kept ended (b ∷ t) t (left_out (words (b ∷ t)) (runs (b ∷ t))) (blank_cut is_mark b t h)
-    ∙ ap (λ ws. unless_left_out kept ended t (left_out ws (runs (b ∷ t)))) (blank_cut is_mark b t h)
-    ∙ ap (λ rs. unless_left_out kept ended t (left_out (words t) rs)) (blank_cut is_any b t h)
+    same_words kept ended (b ∷ t) t (left_out (words (b ∷ t)) (behind_word (b ∷ t))) (blank_cut is_mark b t h)
+    ∙ ap (λ ws. unless_left_out kept ended t (left_out ws (behind_word (b ∷ t)))) (blank_cut is_mark b t h)
+    ∙ ap (λ k. unless_left_out kept ended t (left_out (words t) (cond k (behind_word t) (cond (is_mark b) t (behind_bytes t))))) h
 
 blank_at : (kept : Kept) (at b : ℕ) (t : List ℕ) (ts : List (List ℕ)) → is_blank b ≡ true → read_from kept at ((b ∷ t) ∷ ts) ≡ read_from kept (suc at) (t ∷ ts)
 blank_at kept at b t [] h =
@@ -66,7 +66,7 @@ blank_front kept at b xs h other =
 
 -- ---- a command's text
 
-comes_said : (kept : Kept) (body : List ℕ) (s : SaidBy) → left_out (words body) (runs body) ≡ None → said (words body) ≡ Some s → comes_to kept true body ≡ done kept s
+comes_said : (kept : Kept) (body : List ℕ) (s : SaidBy) → left_out (words body) (behind_word body) ≡ None → said (words body) ≡ Some s → comes_to kept true body ≡ done kept s
 unfolding comes_to
 comes_said kept body s none is =
     ap (unless_left_out kept true body) none ∙ ap (if_said kept) is
@@ -84,7 +84,7 @@ pub record Spelled (text : List ℕ) (s : SaidBy) : Type 0 where
   pub text_is : text ≡ body ++ (59 ∷ 10 ∷ [])
   pub quiet : AreQuiet body
   pub starts : blanks body ≡ 0
-  pub read_here : left_out (words body) (runs body) ≡ None
+  pub read_here : left_out (words body) (behind_word body) ≡ None
   pub says_so : said (words body) ≡ Some s
 
 -- ---- decimal numbers as words
@@ -121,7 +121,7 @@ run_spelled n few =
     let w = decimal n in
     let body : List ℕ = codes "RUNTEST " ++ (w ++ codes " TCK") in
     let ws : words body ≡ codes "RUNTEST" ∷ w ∷ codes "TCK" ∷ [] = ap (λ (l : List (List ℕ)). codes "RUNTEST" ∷ l) (decimal_cut is_mark (λ b m. m) w (codes " TCK") some is.bytes refl) in
-    let rs : runs body ≡ codes "RUNTEST" ∷ w ∷ codes "TCK" ∷ [] = ap (λ (l : List (List ℕ)). codes "RUNTEST" ∷ l) (decimal_cut is_any (λ b m. refl) w (codes " TCK") some is.bytes refl) in
+    let rs : runs (behind_word body) ≡ w ∷ codes "TCK" ∷ [] = decimal_cut is_any (λ b m. refl) w (codes " TCK") some is.bytes refl in
     let reset : says (codes "RESET") w ≡ false = no_name 82 (codes "ESET") w (lit≤ tt) is.bytes in
     let drpause : says (codes "DRPAUSE") w ≡ false = no_name 68 (codes "RPAUSE") w (lit≤ tt) is.bytes in
     let irpause : says (codes "IRPAUSE") w ≡ false = no_name 73 (codes "RPAUSE") w (lit≤ tt) is.bytes in
@@ -142,7 +142,7 @@ run_spelled n few =
       text_is = simp append_assoc;
       quiet = quiet_both (codes "RUNTEST ") (w ++ codes " TCK") (quiet_by_test (codes "RUNTEST ") refl) (quiet_both w (codes " TCK") (decimal_quiet w is.bytes) (quiet_by_test (codes " TCK") refl));
       starts = refl;
-      read_here = ap (λ l. left_out l (runs body)) ws ∙ ap (left_out (codes "RUNTEST" ∷ w ∷ codes "TCK" ∷ [])) rs ∙ ap (λ k. cond k (Some (codes "RUNTEST")) (let o : Option (List ℕ) = None in o)) both;
+      read_here = ap (λ l. left_out l (behind_word body)) ws ∙ ap (λ rs. cond (names_one (codes "RESET" ∷ []) rs || names_one left_out_names rs) (Some (codes "RUNTEST")) (let o : Option (List ℕ) = None in o)) rs ∙ ap (λ k. cond k (Some (codes "RUNTEST")) (let o : Option (List ℕ) = None in o)) both;
       says_so = ap said ws ∙ ap (λ k. cond k (cycles (codes "TCK" ∷ [])) (cycles (w ∷ codes "TCK" ∷ []))) idle ∙ ap (option_map Runs) (number_again n (omega arith));
     }
 
@@ -199,7 +199,7 @@ part_quiet word (Some bits) h = quiet_both word (hex_text bits ++ codes ")") h (
 -- a scan whose parts are read, behind the word of its register
 module _ (name : List ℕ) (register : Register)
     (first : (xs : List ℕ) → words ((name ++ codes " ") ++ xs) ≡ name ∷ words xs)
-    (reads : (ws rs : List (List ℕ)) → left_out (name ∷ ws) rs ≡ None)
+    (reads : (ws : List (List ℕ)) (rest : List ℕ) → left_out (name ∷ ws) rest ≡ None)
     (scans : (ws : List (List ℕ)) → said (name ∷ ws) ≡ scan register ws)
     (quiet_name : AreQuiet (name ++ codes " "))
     (starts : (xs : List ℕ) → blanks ((name ++ codes " ") ++ xs) ≡ 0) where
@@ -231,7 +231,7 @@ module _ (name : List ℕ) (register : Register)
             (quiet_both tdi (tdo ++ mask) (part_quiet (codes " TDI (") s.tdi (quiet_by_test (codes " TDI (") refl))
             (quiet_both tdo mask (part_quiet (codes " TDO (") s.tdo (quiet_by_test (codes " TDO (") refl)) (part_quiet (codes " MASK (") s.mask (quiet_by_test (codes " MASK (") refl)))));
         starts = starts (w ++ all);
-        read_here = ap (λ l. left_out l (runs body)) ws ∙ reads (w ∷ words all) (runs body);
+        read_here = ap (λ l. left_out l (behind_word body)) ws ∙ reads (w ∷ words all) (behind_word body);
         says_so = ap said ws ∙ scans (w ∷ words all) ∙ ap (λ k. scan_of register k (parts 4 no_parts (words all))) (number_again n (omega arith)) ∙ ap (scan_of register (Some n)) read ∙ sized n p some;
       }
 
@@ -275,7 +275,7 @@ pub record ReadAs (text : List ℕ) (c : SeenCommand) : Type 0 where
 
 module _ (name : List ℕ) (register : Register)
     (first : (xs : List ℕ) → words ((name ++ codes " ") ++ xs) ≡ name ∷ words xs)
-    (reads : (ws rs : List (List ℕ)) → left_out (name ∷ ws) rs ≡ None)
+    (reads : (ws : List (List ℕ)) (rest : List ℕ) → left_out (name ∷ ws) rest ≡ None)
     (scans : (ws : List (List ℕ)) → said (name ∷ ws) ≡ scan register ws)
     (quiet_name : AreQuiet (name ++ codes " "))
     (starts : (xs : List ℕ) → blanks ((name ++ codes " ") ++ xs) ≡ 0)

@@ -5,6 +5,7 @@ use Rattle.std.specs.Option.{option_map}
 use Rattle.std.specs.List.{list_all, list_any}
 use Rattle.std.specs.Str.{bytes_eq, str_eq_ignore_ascii_case}
 use Rattle.std.specs.Char.{is_ascii_digit, is_ascii_hexdigit}
+use Rattle.svf_reader.specs.Texts.{words, runs}
 use Rattle.svf_reader.specs.declared.said.Register.{Register}
 use Rattle.svf_reader.specs.declared.said.Register.TheVariants.{Instruction, Data}
 
@@ -186,22 +187,18 @@ abbrev pub begins_with_on : List (List ℕ) → Bool
 begins_with_on [] = false
 begins_with_on (w ∷ ws) = says (codes "ON") w
 
--- the commands that are left out, by the first word, the words behind it, and the runs behind the first one: HDR, HIR,
--- TDR and TIR of a length, PIO, PIOMAP, TRST ON, paths of states, and what names a pause state or another way to count
-unfoldable pub is_left_out : List ℕ → List (List ℕ) → List (List ℕ) → Bool
-is_left_out w ws others =
-    cond (says_one headers w) (begins_with_length ws)
+-- the commands that are left out, by the first word and the text behind it: HDR, HIR, TDR and TIR of a length, PIO,
+-- PIOMAP, TRST ON, paths of states, and what names a pause state or another way to count; states and ways to count are
+-- whole runs of bytes that aren't blank, parentheses and all
+unfoldable pub is_left_out : List ℕ → List ℕ → Bool
+is_left_out w rest =
+    cond (says_one headers w) (begins_with_length (words rest))
     (cond (says_one (codes "PIO" ∷ codes "PIOMAP" ∷ []) w) true
-    (cond (says (codes "TRST") w) (begins_with_on ws)
-    (cond (says (codes "STATE") w) (nat_le 2 (length others) || names_one left_out_names others)
-    (cond (says_one (codes "RUNTEST" ∷ end_states) w) (names_one (codes "RESET" ∷ []) others || names_one left_out_names others) false))))
+    (cond (says (codes "TRST") w) (begins_with_on (words rest))
+    (cond (says (codes "STATE") w) (nat_le 2 (length (runs rest)) || names_one left_out_names (runs rest))
+    (cond (says_one (codes "RUNTEST" ∷ end_states) w) (names_one (codes "RESET" ∷ []) (runs rest) || names_one left_out_names (runs rest)) false))))
 
--- all but the first
-abbrev pub others : List (List ℕ) → List (List ℕ)
-others [] = []
-others (w ∷ ws) = ws
-
--- the first word of a command that is left out, as it stands
-unfoldable pub left_out : List (List ℕ) → List (List ℕ) → Option (List ℕ)
-left_out [] runs = None
-left_out (w ∷ ws) runs = cond (is_left_out w ws (others runs)) (Some w) None
+-- the first word of a command that is left out, as it stands, by the words and the text behind the first of them
+unfoldable pub left_out : List (List ℕ) → List ℕ → Option (List ℕ)
+left_out [] rest = None
+left_out (w ∷ ws) rest = cond (is_left_out w rest) (Some w) None

@@ -54,6 +54,19 @@ pause : svf (codes "STATE IRPAUSE;") ≡ refused (LeftOut (codes "STATE")) 0
 unfolding svf said said_by scan one_part state run_test cycles is_frequency is_trst left_out is_left_out fitted is_wide comes_to done scanned
 pause = refl
 
+-- two runs stand behind STATE
+path : svf (codes "STATE(1F) IDLE;") ≡ refused (LeftOut (codes "STATE")) 0
+unfolding svf said said_by scan one_part state run_test cycles is_frequency is_trst left_out is_left_out fitted is_wide comes_to done scanned
+path = refl
+
+path_of_marks : svf (codes "STATE( x;") ≡ refused (LeftOut (codes "STATE")) 0
+unfolding svf said said_by scan one_part state run_test cycles is_frequency is_trst left_out is_left_out fitted is_wide comes_to done scanned
+path_of_marks = refl
+
+one_state : svf (codes "STATE (x);") ≡ refused SvfSyntax 0
+unfolding svf said said_by scan one_part state run_test cycles is_frequency is_trst left_out is_left_out fitted is_wide comes_to done scanned
+one_state = refl
+
 twice : svf (codes "SDR 4 TDI (5) TDI (5);") ≡ refused SvfSyntax 0
 unfolding svf said said_by scan one_part state run_test cycles is_frequency is_trst left_out is_left_out fitted is_wide comes_to done scanned
 twice = refl

@@ -6,7 +6,7 @@ use Rattle.svf_writer.specs.SeenCommands.{SeenScan, SeenCommand, SIR, SDR, Reset
 use Rattle.svf_reader.specs.declared.said.Register.{Register}
 use Rattle.svf_reader.specs.declared.said.Register.TheVariants.{Instruction, Data}
 use Rattle.svf_reader.specs.declared.kept.Kept.{Kept}
-use Rattle.svf_reader.specs.Texts.{texts, words, runs, plain, blanks}
+use Rattle.svf_reader.specs.Texts.{texts, words, plain, behind_word, blanks}
 use Rattle.svf_reader.specs.Commands.{Parts, SaidBy, Scans, ToReset, ToIdle, Runs, NoEffect, said, left_out}
 use Rattle.svf_reader.specs.Values.{hex_bits, fitted, is_wide}
 
@@ -108,7 +108,7 @@ unless_left_out kept ended text (Some word) = Err (LeftOut word)
 unless_left_out kept ended text None = cond ended (if_said kept (said (words text))) (Err SvfSyntax)
 
 unfoldable pub comes_to : Kept → Bool → List ℕ → Result Step Cause
-comes_to kept ended text = unless_left_out kept ended text (left_out (words text) (runs text))
+comes_to kept ended text = unless_left_out kept ended text (left_out (words text) (behind_word text))
 
 -- ---- a text
 

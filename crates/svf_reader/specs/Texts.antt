@@ -81,6 +81,16 @@ words text = cut is_mark text
 abbrev pub runs : List ℕ → List (List ℕ)
 runs text = cut is_any text
 
+-- what stands behind the bytes of a word at the front
+abbrev pub behind_bytes : List ℕ → List ℕ
+behind_bytes [] = []
+behind_bytes (b ∷ bs) = cond (in_word is_mark b) (behind_bytes bs) (b ∷ bs)
+
+-- the text behind the first word
+abbrev pub behind_word : List ℕ → List ℕ
+behind_word [] = []
+behind_word (b ∷ bs) = cond (is_blank b) (behind_word bs) (cond (is_mark b) bs (behind_bytes bs))
+
 -- how many blanks stand at the front
 abbrev pub blanks : List ℕ → ℕ
 blanks [] = 0

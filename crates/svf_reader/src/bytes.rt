@@ -37,14 +37,17 @@ pub(crate) fn byte_at(text: &[u8], i: usize) -> u8
     if i < text.len() { text[i] } else { 0 }
 }
 
-/// Whether a byte is in a comment, by whether the one before it is, and the next one.
-fn in_comment(inside: bool, b: u8, next: u8) -> bool
-    ensures { result ≡ in_comment inside b next }
+/// Whether a byte is in a comment, by whether the one before it is, and the one at an index, which is the next one. From
+/// `0` on no byte begins or ends a comment.
+fn in_comment(inside: bool, b: u8, text: &[u8], next: usize) -> bool
+    ensures { result ≡ in_comment inside b (first (drop next text.now)) }
 {
-    if inside {
+    if b >= b'0' {
+        inside
+    } else if inside {
         b != b'\n'
     } else {
-        b == b'!' || (b == b'/' && next == b'/')
+        b == b'!' || (b == b'/' && byte_at(text, next) == b'/')
     }
 }
 
@@ -53,7 +56,7 @@ fn in_class(class: Class, hidden: bool, b: u8) -> bool
 {
     match class {
         Class::Gap => hidden || is_blank(b),
-        Class::Word => !hidden && !is_blank(b) && !is_mark(b),
+        Class::Word => !hidden && (b >= b'0' || (!is_blank(b) && !is_mark(b))),
         Class::Run => !hidden && !is_blank(b),
         Class::Command => hidden || b != b';',
     }
@@ -68,7 +71,7 @@ pub(crate) fn run_len(text: &[u8], class: Class) -> usize
     let mut inside = false;
     while n < text.len() {
         let b = byte_at(text, n);
-        let hidden = in_comment(inside, b, byte_at(text, n + 1));
+        let hidden = in_comment(inside, b, text, n + 1);
         if !in_class(class, hidden, b) {
             return n;
         }

@@ -1,8 +1,8 @@
 // Hexadecimal texts as bits.
-ghost use Rattle.std.specs.Prelude.{◌≡◌, ◌+◌, ◌*◌, ◌^◌, ◌<◌, ◌≤◌, ◌&&◌, true, false, not, cond, nat_lt, List, Bool, ◌∷◌, ◌++◌, length, replicate, slice_set};
-ghost use Rattle.ij_bits.specs.BitLists.{bits_of};
+ghost use Rattle.std.specs.Prelude.{◌≡◌, ◌+◌, ◌^◌, ◌/◌, ◌<◌, ◌≤◌, ◌==◌, not, [], ◌++◌, length, drop, IfOk, IfSome};
+ghost use Rattle.ij_bits.specs.BitLists.{number_of};
 ghost use Rattle.svf_reader.specs.Answers.{Gives};
-ghost use Rattle.svf_reader.specs.Values.{digit_value, hex_bits, Changes};
+ghost use Rattle.svf_reader.specs.Values.{hex_bits, has_one, fitted, is_wide};
 ghost use Rattle.svf_reader.specs.Meaning.{hex_value};
 ghost use Rattle.svf_reader.specs.Seen.{digits_of};
 
@@ -10,117 +10,139 @@ use crate::fault::Refused;
 use crate::pieces::next_word;
 use crate::words::is_close;
 use ij_bits::Bits;
-use std::alloc::Global;
+use ij_text::hex_value as digit_value;
+use std::alloc::{AllocError, Global};
 
-fn digit_value(d: u8) -> u8
-    ensures { result ≡ digit_value d }
+/// The number that at most 16 digits stand for.
+fn digits_number(digits: &[u8]) -> u64
+    requires { length digits.now ≤ 16 }
+    ensures { result ≡ number_of (hex_bits digits.now) }
 {
-    if d.is_ascii_digit() {
-        d - b'0'
-    } else {
-        let upper = d.to_ascii_uppercase();
-        if upper < 55 { 0 } else { upper - 55 }
+    let mut value = 0u64;
+    for d in digits {
+        value = 16 * value + u64::from(digit_value(*d) % 16);
     }
+    value
 }
 
-/// Whether a position is below a length: that of a bit of the digit with this index, from the last digit.
-fn has_place(len: u32, index: usize, place: u32) -> bool
-    requires { place < 4 }
-    ensures { result ≡ nat_lt (4 * index + place) len }
+/// Whether one of some digits has a 1.
+fn have_one(digits: &[u8]) -> bool
+    ensures { result ≡ has_one (hex_bits digits.now) }
 {
-    index < len as usize && 4 * index as u64 + u64::from(place) < u64::from(len)
-}
-
-/// Puts a bit of a digit. Whether it is a 1 that has no place.
-fn put_bit(bits: &mut Bits, index: usize, place: u32, v: bool) -> bool
-    requires { place < 4 }
-    ensures items { bits.new.items ≡ cond (v && nat_lt (4 * index + place) (length bits.old.items)) (slice_set bits.old.items (4 * index + place) true) bits.old.items }
-    ensures wide { result ≡ (v && not (nat_lt (4 * index + place) (length bits.old.items))) }
-    ensures len { length bits.new.items ≡ length bits.old.items }
-{
-    if !v {
-        return false;
+    let mut one = false;
+    for d in digits {
+        one |= digit_value(*d) % 16 != 0;
     }
-    let fits = has_place(bits.len(), index, place);
-    if fits {
-        bits.set(4 * index as u32 + place, true);
+    one
+}
+
+/// Whether a number has a 1 at a place or above.
+fn has_one_above(value: u64, place: u32) -> bool
+    requires { place < 64 }
+    ensures { result ≡ not (value / 2 ^ place == 0) }
+{
+    value >> place != 0
+}
+
+/// Digits in two parts.
+#[derive(Clone, Copy)]
+struct Parted<'a> {
+    front: &'a [u8],
+    last: &'a [u8],
+}
+
+/// The last 16 digits, or as many as there are, and those in front of them.
+fn split_last(digits: &[u8]) -> Parted<'_>
+    ensures all { digits.now ≡ result.front.now ++ result.last.now }
+    ensures few { length result.last.now ≤ 16 }
+    ensures front { length result.last.now < 16 → result.front.now ≡ [] }
+{
+    let (front, last) = digits.split_at(digits.len().saturating_sub(16));
+    Parted { front, last }
+}
+
+/// Adds 64 bits of the last digits at a time, as long as so many are asked for. The digits that are left.
+fn put_words<'a>(bits: &mut Bits, len: u32, digits: &'a [u8]) -> &'a [u8]
+    requires empty { bits.old.items ≡ [] }
+    requires room { len ≤ bits.old.spare }
+    ensures items { bits.new.items ≡ fitted (length bits.new.items) (hex_bits digits.now) }
+    ensures left { drop (length bits.new.items) (hex_bits digits.now) ≡ hex_bits result.now }
+    ensures within { length bits.new.items ≤ len }
+    ensures near { len < length bits.new.items + 64 }
+    ensures room { len ≤ length bits.new.items + bits.new.spare }
+{
+    let mut rest = digits;
+    while len - bits.len() >= 64 {
+        let parts = split_last(rest);
+        bits.append_number_reserved(digits_number(parts.last), 64);
+        rest = parts.front;
     }
-    !fits
+    rest
 }
 
-/// Puts the four bits of a digit. Whether one is a 1 that has no place.
-fn put_digit(bits: &mut Bits, index: usize, value: u8) -> bool
-    ensures bits { (xs ys : List Bool) → length xs ≡ 4 * index → Changes (length bits.old.items) bits.old.items bits.new.items result (xs ++ (false ∷ false ∷ false ∷ false ∷ ys)) (xs ++ (bits_of 4 value ++ ys)) }
-    ensures len { length bits.new.items ≡ length bits.old.items }
+/// Adds the bits of some digits, exactly as many as asked for. Whether one of those that are left is a 1.
+fn put_digits(bits: &mut Bits, len: u32, digits: &[u8]) -> bool
+    requires empty { bits.old.items ≡ [] }
+    requires room { len ≤ bits.old.spare }
+    ensures items { bits.new.items ≡ fitted len (hex_bits digits.now) }
+    ensures wide { result ≡ is_wide len (hex_bits digits.now) }
 {
-    let half = value / 2;
-    let quarter = half / 2;
-    let eighth = quarter / 2;
-    let a = put_bit(bits, index, 0, value % 2 == 1);
-    let b = put_bit(bits, index, 1, half % 2 == 1);
-    let c = put_bit(bits, index, 2, quarter % 2 == 1);
-    let d = put_bit(bits, index, 3, eighth % 2 == 1);
-    a | b | c | d
+    let rest = put_words(bits, len, digits);
+    let parts = split_last(rest);
+    let value = digits_number(parts.last);
+    let left = len - bits.len();
+    bits.append_number_reserved(value, left);
+    has_one_above(value, left) | have_one(parts.front)
 }
 
-/// Puts the bits of some digits, of which the last has the index above `rest`. Whether one is a 1 that has no place.
-fn put_digits(bits: &mut Bits, rest: usize, digits: &[u8]) -> bool
-    requires { rest + length digits.now < 2 ^ 64 }
-    ensures bits { (ys : List Bool) → Changes (length bits.old.items) bits.old.items bits.new.items result (replicate (4 * (rest + length digits.now)) false ++ ys) (replicate (4 * rest) false ++ (hex_bits digits.now ++ ys)) }
-    ensures len { length bits.new.items ≡ length bits.old.items }
+/// The bits of some digits, of which the last has position 0.
+#[tactic(auto, unfolding(crate::specs::Meaning::hex_value))]
+fn digits_bits(alloc: Global, len: u32, digits: &[u8]) -> Result<Bits, Refused>
+    ensures { Gives (λ bits. bits.items) result (hex_value len digits.now) }
 {
-    let n = digits.len();
-    let mut wide = false;
-    for i in 0..n {
-        wide |= put_digit(bits, rest + (n - 1 - i), digit_value(digits[i]));
+    let mut bits = Bits::zeros(alloc, len)?;
+    bits.clear();
+    if put_digits(&mut bits, len, digits) {
+        return Err(Refused::Wide);
     }
-    wide
+    Ok(bits)
 }
 
-/// How many digits stand in front of the `)`.
-fn digit_count(text: &[u8]) -> usize
-    ensures value { result ≡ length (digits_of text.now) }
-    ensures within { result ≤ length text.now }
+/// The digits of a hexadecimal text up to its `)`, if they stand together.
+fn lone_word(text: &[u8]) -> Option<&[u8]>
+    ensures { IfSome result (λ digits. digits.now ≡ digits_of text.now) }
 {
-    let mut text = text;
-    let mut count = 0;
-    while let Some(next) = next_word(text) {
-        if is_close(next.piece) {
-            return count;
-        }
-        count += next.piece.len();
-        text = next.rest;
+    let word = next_word(text)?;
+    let end = next_word(word.rest)?;
+    if is_close(word.piece) || !is_close(end.piece) {
+        return None;
     }
-    count
+    Some(word.piece)
 }
 
-/// Puts the bits of a hexadecimal text up to its `)`, of which the last digit has position 0, over zeros. Whether one is
-/// a 1 that has no place.
-fn put_text(bits: &mut Bits, text: &[u8]) -> bool
-    ensures { Changes (length bits.old.items) bits.old.items bits.new.items result (replicate (4 * length (digits_of text.now)) false) (hex_bits (digits_of text.now)) }
+/// The digits of a hexadecimal text up to its `)`.
+fn gathered(alloc: Global, text: &[u8]) -> Result<Vec<u8>, AllocError>
+    ensures { IfOk result (λ digits. digits.items ≡ digits_of text.now) }
 {
-    let mut left = digit_count(text);
-    let mut wide = false;
+    let mut digits = Vec::new(alloc);
     let mut text = text;
     while let Some(next) = next_word(text) {
         if is_close(next.piece) {
             break;
         }
-        left -= next.piece.len();
-        wide |= put_digits(bits, left, next.piece);
+        digits.extend_from_slice(next.piece)?;
         text = next.rest;
     }
-    wide
+    Ok(digits)
 }
 
 /// The bits of a hexadecimal text up to its `)`, of which the last digit has position 0.
-#[tactic(auto, unfolding(crate::specs::Meaning::hex_value))]
 pub(crate) fn hex_value(alloc: Global, len: u32, text: &[u8]) -> Result<Bits, Refused>
     ensures { Gives (λ bits. bits.items) result (hex_value len (digits_of text.now)) }
 {
-    let mut bits = Bits::zeros(alloc, len)?;
-    if put_text(&mut bits, text) {
-        return Err(Refused::Wide);
+    if let Some(digits) = lone_word(text) {
+        return digits_bits(alloc, len, digits);
     }
-    Ok(bits)
+    let digits = gathered(alloc, text)?;
+    digits_bits(alloc, len, &digits)
 }

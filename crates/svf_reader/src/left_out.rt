@@ -1,7 +1,8 @@
 // Commands of SVF that are left out.
 ghost use Rattle.std.specs.Prelude.{◌≡◌, nat_le, length, option_map};
-ghost use Rattle.svf_reader.specs.Commands.{begins_with_length, begins_with_on, is_left_out, left_out, others, left_out_names, headers, names_one};
+ghost use Rattle.svf_reader.specs.Commands.{begins_with_length, begins_with_on, is_left_out, left_out, left_out_names, headers, names_one};
 ghost use Rattle.svf_reader.specs.Reading.{words_of, runs_of};
+ghost use Rattle.svf_reader.specs.Texts.{plain, behind_word};
 
 use crate::pieces::{next_run, next_word};
 use crate::words::{names_one, number, says, says_one};
@@ -25,16 +26,6 @@ fn begins_with_on(text: &[u8]) -> bool
     }
 }
 
-/// The text behind the first run.
-fn others(text: &[u8]) -> &[u8]
-    ensures { runs_of result.now ≡ others (runs_of text.now) }
-{
-    match next_run(text) {
-        None => text,
-        Some(run) => run.rest,
-    }
-}
-
 /// Whether two runs or more stand in a text.
 fn has_two(text: &[u8]) -> bool
     ensures { result ≡ nat_le 2 (length (runs_of text.now)) }
@@ -52,10 +43,10 @@ fn names_left_out(text: &[u8]) -> bool
     names_one(text, &[b"DRPAUSE", b"IRPAUSE", b"SCK", b"SEC", b"MAXIMUM"])
 }
 
-/// Whether a command is left out, by its first word, the text behind it, and the text behind its first run.
-#[tactic(auto, unfolding(crate::specs::Commands::is_left_out))]
-fn is_left_out(word: &[u8], text: &[u8], runs: &[u8]) -> bool
-    ensures { result ≡ is_left_out word.now (words_of text.now) (runs_of runs.now) }
+/// Whether a command is left out, by its first word and the text behind it.
+#[tactic(auto, unfolding(crate::specs::Commands::is_left_out, crate::specs::Reading::words_of, crate::specs::Reading::runs_of))]
+fn is_left_out(word: &[u8], text: &[u8]) -> bool
+    ensures { result ≡ is_left_out word.now (plain text.now) }
 {
     if says_one(word, &[b"HDR", b"HIR", b"TDR", b"TIR"]) {
         begins_with_length(text)
@@ -64,9 +55,9 @@ fn is_left_out(word: &[u8], text: &[u8], runs: &[u8]) -> bool
     } else if says(word, b"TRST") {
         begins_with_on(text)
     } else if says(word, b"STATE") {
-        has_two(runs) || names_left_out(runs)
+        has_two(text) || names_left_out(text)
     } else if says_one(word, &[b"RUNTEST", b"ENDDR", b"ENDIR"]) {
-        names_one(runs, &[b"RESET"]) || names_left_out(runs)
+        names_one(text, &[b"RESET"]) || names_left_out(text)
     } else {
         false
     }
@@ -75,10 +66,10 @@ fn is_left_out(word: &[u8], text: &[u8], runs: &[u8]) -> bool
 /// The first word of a command that is left out.
 #[tactic(auto, unfolding(crate::specs::Commands::left_out))]
 pub(crate) fn left_out(text: &[u8]) -> Option<&[u8]>
-    ensures { option_map (λ word. word.now) result ≡ left_out (words_of text.now) (runs_of text.now) }
+    ensures { option_map (λ word. word.now) result ≡ left_out (words_of text.now) (behind_word (plain text.now)) }
 {
     let word = next_word(text)?;
-    if is_left_out(word.piece, word.rest, others(text)) {
+    if is_left_out(word.piece, word.rest) {
         Some(word.piece)
     } else {
         None

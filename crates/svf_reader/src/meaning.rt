@@ -195,7 +195,7 @@ fn done(alloc: Global, kept: Kept, said: Said) -> Result<Outcome, Refused>
 }
 
 /// What a command comes to, of which this is the text, and whether its `;` is there.
-#[tactic(auto, unfolding(crate::specs::Meaning::comes_to, crate::specs::Reading::words_of, crate::specs::Reading::runs_of))]
+#[tactic(auto, unfolding(crate::specs::Meaning::comes_to, crate::specs::Reading::words_of))]
 pub(crate) fn comes_to(
     alloc: Global,
     kept: Kept,

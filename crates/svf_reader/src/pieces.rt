@@ -1,6 +1,7 @@
 // Words and runs at the front of a text.
 ghost use Rattle.std.specs.Prelude.{◌≡◌, ◌+◌, ◌<◌, ◌≤◌, false, [], ◌∷◌, length, MatchOption, IfSome};
 ghost use Rattle.svf_reader.specs.Reading.{run_length, word_length, words_of, runs_of};
+ghost use Rattle.svf_reader.specs.Texts.{plain, behind_word};
 
 use crate::bytes::{Class, byte_at, is_mark, run_len};
 
@@ -15,6 +16,7 @@ pub(crate) struct Piece<'a> {
 fn behind_gap(text: &[u8]) -> &[u8]
     ensures words { words_of text.now ≡ words_of result.now }
     ensures runs { runs_of text.now ≡ runs_of result.now }
+    ensures behind { behind_word (plain text.now) ≡ behind_word (plain result.now) }
     ensures stops { run_length Class.Gap false result.now ≡ 0 }
     ensures shorter { length result.now ≤ length text.now }
 {
@@ -37,6 +39,7 @@ fn word_len(text: &[u8]) -> usize
 /// The first word of a command's text, if there is one. A parenthesis is a word by itself.
 pub(crate) fn next_word<'a>(text: &'a [u8]) -> Option<Piece<'a>>
     ensures value { MatchOption result (words_of text.now ≡ []) (λ p. words_of text.now ≡ p.piece.now ∷ words_of p.rest.now) }
+    ensures behind { IfSome result (λ p. behind_word (plain text.now) ≡ plain p.rest.now) }
     ensures shorter { IfSome result (λ p. length p.rest.now < length text.now) }
     ensures within { IfSome result (λ p. length p.piece.now + length p.rest.now ≤ length text.now) }
 {

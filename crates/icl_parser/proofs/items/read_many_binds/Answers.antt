@@ -1,5 +1,5 @@
 use Rattle.std.proofs.Common.{List, map, sym, ap, ◌∙◌, arith}
-use Rattle.icl_syntax.specs.Values.{Binding}
+use Rattle.icl_syntax.specs.Values.{SeenBind}
 use Rattle.icl_syntax.specs.Grammar.{appended}
 use Rattle.icl_syntax.specs.Views.{seen_list, seen_bind}
 use Rattle.icl_parser.specs.Seen.{toks, seen_read}
@@ -20,7 +20,7 @@ pub loop-alloc-preserved : goal.loop-alloc-preserved
 loop-alloc-preserved c = record {
   shorter = omega (arith, c.in_ok-binds.ensures.shorter, c.loop-alloc.invariant.shorter);
   goes_on =
-      parts_go_on (λ (ys : List Binding). bind) appended (λ ys. read_bind) (λ ys. bind_reads) (seen_list seen_bind c.loop-alloc.binds.value) (toks c.loop-alloc.binds.rest.now) (seen_read (seen_list seen_bind) c.in_ok-binds.binds)
+      parts_go_on (λ (ys : List SeenBind). bind) appended (λ ys. read_bind) (λ ys. bind_reads) (seen_list seen_bind c.loop-alloc.binds.value) (toks c.loop-alloc.binds.rest.now) (seen_read (seen_list seen_bind) c.in_ok-binds.binds)
       (sym c.before_close.ensures ∙ c.loop-alloc-test.true) c.in_ok-binds.ensures.gives
       ∙ c.loop-alloc.invariant.goes_on;
 }

@@ -1,6 +1,6 @@
 use Rattle.std.proofs.Common.{List, sym, ap, ◌∙◌, arith}
 use Rattle.std.proofs.lemmas.Result.{err_from_is_err_and}
-use Rattle.icl_syntax.specs.Values.{Row}
+use Rattle.icl_syntax.specs.Values.{SeenRow}
 use Rattle.icl_syntax.specs.Grammar.{appended}
 use Rattle.icl_syntax.specs.Modules.{row}
 use Rattle.icl_syntax.specs.Views.{seen_list, seen_row}
@@ -30,7 +30,7 @@ pub loop-alloc-preserved : goal.loop-alloc-preserved
 loop-alloc-preserved c = record {
   shorter = omega (arith, c.in_ok-rows-2.ensures.shorter, c.loop-alloc.invariant.shorter);
   goes_on =
-      parts_go_on (λ (ys : List Row). row) appended (λ ys. read_row) (λ ys. row_reads) (seen_list seen_row c.loop-alloc.rows.value) (toks c.loop-alloc.rows.rest.now) (seen_read (seen_list seen_row) c.in_ok-rows-2.rows)
+      parts_go_on (λ (ys : List SeenRow). row) appended (λ ys. read_row) (λ ys. row_reads) (seen_list seen_row c.loop-alloc.rows.value) (toks c.loop-alloc.rows.rest.now) (seen_read (seen_list seen_row) c.in_ok-rows-2.rows)
       (sym c.before_close.ensures ∙ c.loop-alloc-test.true) c.in_ok-rows-2.ensures.gives
       ∙ c.loop-alloc.invariant.goes_on;
 }

@@ -1,7 +1,8 @@
 use Rattle.std.proofs.Common.{◌≡◌, ◌<◌, ◌≤◌, ◌+◌, ◌*◌, ◌-◌, ◌==◌, ℕ, cond, Bool, true, false, List, [], ◌∷◌, None, sym, ap, ◌∙◌, arith, get_or, drop, length}
 use Rattle.std.proofs.lemmas.Grind.{common_steps}
 use Rattle.std.proofs.lemmas.Bool.Decides.{nat_tests}
-use Rattle.icl_syntax.specs.Tokens.{decimal_from, small}
+use Rattle.ij_text.specs.Numbers.{decimal_from}
+use Rattle.icl_syntax.specs.Tokens.{small}
 use Rattle.icl_parser.proofs.leaves.decimal.Goals as goal
 
 -- further digits make a decimal no smaller

@@ -1,5 +1,5 @@
 use Rattle.std.proofs.Common.{◌≡◌, ◌≤◌, drop}
-use Rattle.icl_syntax.specs.Tokens.{decimal_from}
+use Rattle.ij_text.specs.Numbers.{decimal_from}
 use Rattle.icl_parser.proofs.leaves.decimal.Given as goal
 
 abbrev pub invariant-loop-b : goal.invariant-loop-b

@@ -1,5 +1,5 @@
 use Rattle.std.proofs.Common.{List, map, sym, ap, ◌∙◌, arith}
-use Rattle.icl_syntax.specs.Values.{Instruction}
+use Rattle.icl_syntax.specs.Values.{SeenLinkInstr}
 use Rattle.icl_syntax.specs.Grammar.{appended}
 use Rattle.icl_syntax.specs.Views.{seen_list, seen_instr}
 use Rattle.icl_parser.specs.Seen.{toks, seen_read}
@@ -20,7 +20,7 @@ pub loop-alloc-preserved : goal.loop-alloc-preserved
 loop-alloc-preserved c = record {
   shorter = omega (arith, c.in_ok-instrs.ensures.shorter, c.loop-alloc.invariant.shorter);
   goes_on =
-      parts_go_on (λ (ys : List Instruction). instruction) appended (λ ys. read_instruction) (λ ys. instruction_reads) (seen_list seen_instr c.loop-alloc.instrs.value) (toks c.loop-alloc.instrs.rest.now) (seen_read (seen_list seen_instr) c.in_ok-instrs.instrs)
+      parts_go_on (λ (ys : List SeenLinkInstr). instruction) appended (λ ys. read_instruction) (λ ys. instruction_reads) (seen_list seen_instr c.loop-alloc.instrs.value) (toks c.loop-alloc.instrs.rest.now) (seen_read (seen_list seen_instr) c.in_ok-instrs.instrs)
       (sym c.before_close.ensures ∙ c.loop-alloc-test.true) c.in_ok-instrs.ensures.gives
       ∙ c.loop-alloc.invariant.goes_on;
 }

@@ -1,5 +1,5 @@
 use Rattle.std.proofs.Common.{List, map, sym, ap, ◌∙◌, arith}
-use Rattle.icl_syntax.specs.Values.{EnumValue}
+use Rattle.icl_syntax.specs.Values.{SeenEnumWord}
 use Rattle.icl_syntax.specs.Grammar.{appended}
 use Rattle.icl_syntax.specs.Views.{seen_list, seen_enum_word}
 use Rattle.icl_parser.specs.Seen.{toks, seen_read}
@@ -20,7 +20,7 @@ pub loop-alloc-preserved : goal.loop-alloc-preserved
 loop-alloc-preserved c = record {
   shorter = omega (arith, c.in_ok-words.ensures.shorter, c.loop-alloc.invariant.shorter);
   goes_on =
-      parts_go_on (λ (ys : List EnumValue). enum_word) appended (λ ys. read_enum_word) (λ ys. enum_word_reads) (seen_list seen_enum_word c.loop-alloc.words.value) (toks c.loop-alloc.words.rest.now) (seen_read (seen_list seen_enum_word) c.in_ok-words.words)
+      parts_go_on (λ (ys : List SeenEnumWord). enum_word) appended (λ ys. read_enum_word) (λ ys. enum_word_reads) (seen_list seen_enum_word c.loop-alloc.words.value) (toks c.loop-alloc.words.rest.now) (seen_read (seen_list seen_enum_word) c.in_ok-words.words)
       (sym c.before_close.ensures ∙ c.loop-alloc-test.true) c.in_ok-words.ensures.gives
       ∙ c.loop-alloc.invariant.goes_on;
 }

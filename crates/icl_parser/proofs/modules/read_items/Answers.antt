@@ -1,5 +1,5 @@
 use Rattle.std.proofs.Common.{List, map, sym, ap, ◌∙◌, arith}
-use Rattle.icl_syntax.specs.Values.{Thing}
+use Rattle.icl_syntax.specs.Values.{SeenItem}
 use Rattle.icl_syntax.specs.Grammar.{appended}
 use Rattle.icl_syntax.specs.Views.{seen_list, seen_item}
 use Rattle.icl_parser.specs.Seen.{toks, seen_read}
@@ -20,7 +20,7 @@ pub loop-alloc-preserved : goal.loop-alloc-preserved
 loop-alloc-preserved c = record {
   shorter = omega (arith, c.in_ok-items.ensures.shorter, c.loop-alloc.invariant.shorter);
   goes_on =
-      parts_go_on (λ (ys : List Thing). item) appended (λ ys. read_item) (λ ys. item_reads) (seen_list seen_item c.loop-alloc.items.value) (toks c.loop-alloc.items.rest.now) (seen_read (seen_list seen_item) c.in_ok-items.items)
+      parts_go_on (λ (ys : List SeenItem). item) appended (λ ys. read_item) (λ ys. item_reads) (seen_list seen_item c.loop-alloc.items.value) (toks c.loop-alloc.items.rest.now) (seen_read (seen_list seen_item) c.in_ok-items.items)
       (sym c.before_close.ensures ∙ c.loop-alloc-test.true) c.in_ok-items.ensures.gives
       ∙ c.loop-alloc.invariant.goes_on;
 }

@@ -1,30 +1,42 @@
-use Rattle.std.proofs.Common.{◌≡◌, ◌+◌, ◌-◌, ◌*◌, ◌++◌, ◌∷◌, Bool, false, List, length, take, get_or, replicate, arith, ap, sym, ◌∙◌, subst, append_assoc}
-use Rattle.std.proofs.lemmas.List.{length-replicate}
-use Rattle.ij_bits.specs.BitLists.{bits_of}
-use Rattle.svf_reader.specs.Values.{digit_value, hex_bits, Changes}
-use Rattle.svf_reader.proofs.Putting.{changes_both, changes_at, hex_bits-more, zeros_split}
+use Rattle.std.proofs.Common.{◌≡◌, ◌<◌, ◌≤◌, ◌+◌, ◌-◌, ◌/◌, ◌^◌, ◌++◌, Bool, not, List, length, drop, arith, ap, sym, ◌∙◌}
+use Rattle.std.specs.Prelude.{◌==◌, ◌||◌}
+use Rattle.ij_bits.specs.BitLists.{bits_of, number_of}
+use Rattle.svf_reader.specs.Values.{hex_bits, has_one, fitted, is_wide}
+use Rattle.svf_reader.proofs.Packing.{InParts, fitted_more, last_bits, wide_is}
 use Rattle.svf_reader.proofs.hex.put_digits.Goals as goal
 
-pub loop-i-preserved : goal.loop-i-preserved
-loop-i-preserved c =
-    let n = length c.args.digits.now in
-    let i = c.loop-i.i in
-    let index = c.args.rest + (n - 1 - i) in
-    let place : c.args.rest + (n - (i + 1)) ≡ index = omega arith in
-    let old = c.args.bits.now.items in
-    let d = get_or c.args.digits.now i 0 in
-    record {
-      len = c.put_digit-wide.ensures.len ∙ c.loop-i.invariant.len;
-      bits = λ ys.
-          let front = hex_bits (take i c.args.digits.now) ++ ys in
-          let zeros : replicate (4 * (c.args.rest + (n - i))) false ++ front ≡ replicate (4 * index) false ++ (false ∷ false ∷ false ∷ false ∷ front) = zeros_split (4 * index) 4 (4 * (c.args.rest + (n - i))) front (omega arith) in
-          let before : Changes (length old) old c.loop-i.bits.items c.loop-i.wide (replicate (4 * (c.args.rest + n)) false ++ ys) (replicate (4 * (c.args.rest + (n - i))) false ++ front) = c.loop-i.invariant.bits ys in
-          let put = c.put_digit-wide.ensures.bits (replicate (4 * index) false) front (length-replicate (4 * index) false) in
-          let sized : Changes (length old) c.loop-i.bits.items c.put_digit-wide.new.bits.items c.put_digit-wide.result (replicate (4 * index) false ++ (false ∷ false ∷ false ∷ false ∷ front)) (replicate (4 * index) false ++ (bits_of 4 c.digit_value.result ++ front)) = subst (λ k. Changes k c.loop-i.bits.items c.put_digit-wide.new.bits.items c.put_digit-wide.result (replicate (4 * index) false ++ (false ∷ false ∷ false ∷ false ∷ front)) (replicate (4 * index) false ++ (bits_of 4 c.digit_value.result ++ front))) c.loop-i.invariant.len put in
-          let all : replicate (4 * index) false ++ (bits_of 4 c.digit_value.result ++ front) ≡ replicate (4 * (c.args.rest + (n - (i + 1)))) false ++ (hex_bits (take (i + 1) c.args.digits.now) ++ ys) =
-          ap (λ (v : _). replicate (4 * index) false ++ (bits_of 4 v ++ front)) c.digit_value.ensures
-          ∙ ap (λ (l : List Bool). replicate (4 * index) false ++ l) (sym (append_assoc (bits_of 4 (digit_value d)) (hex_bits (take i c.args.digits.now)) ys))
-          ∙ ap (λ (l : List Bool). replicate (4 * index) false ++ (l ++ ys)) (sym (hex_bits-more c.args.digits.now i (omega arith)))
-          ∙ ap (λ k. replicate (4 * k) false ++ (hex_bits (take (i + 1) c.args.digits.now) ++ ys)) (sym place) in
-          changes_at (λ j. replicate (4 * (c.args.rest + n)) false ++ ys) all (changes_both (changes_at (λ j. replicate (4 * (c.args.rest + n)) false ++ ys) zeros before) sized);
-    }
+pub returns-clause-items : goal.returns-clause-items
+returns-clause-items c =
+    let all = hex_bits c.args.digits.now in
+    let old = c.put_words-rest.new.bits.items in
+    let k = length old in
+    let rest = c.put_words-rest.result.now in
+    let front = c.split_last-parts.result.front.now in
+    let last = c.split_last-parts.result.last.now in
+    let parts : InParts rest front last = record { all = c.split_last-parts.ensures.all; few = c.split_last-parts.ensures.few; lone = c.split_last-parts.ensures.front } in
+    let n = c.args.len - c.len.result in
+    let few : n ≤ 64 = omega (arith, c.len.ensures, c.put_words-rest.ensures.near) in
+    let sum : k + n ≡ c.args.len = omega (arith, c.len.ensures, c.put_words-rest.ensures.within) in
+    c.append_number_reserved.ensures.items
+    ∙ ap (λ v. old ++ bits_of n v) c.digits_number-value.ensures
+    ∙ ap (λ (l : List Bool). l ++ bits_of n (number_of (hex_bits last))) c.put_words-rest.ensures.items
+    ∙ ap (λ (l : List Bool). fitted k all ++ l) (sym (ap (fitted n) c.put_words-rest.ensures.left ∙ last_bits n rest front last parts few))
+    ∙ sym (fitted_more k n all)
+    ∙ ap (λ m. fitted m all) sum
+
+pub returns-clause-wide : goal.returns-clause-wide
+unfolding is_wide
+returns-clause-wide c =
+    let all = hex_bits c.args.digits.now in
+    let k = length c.put_words-rest.new.bits.items in
+    let rest = c.put_words-rest.result.now in
+    let front = c.split_last-parts.result.front.now in
+    let last = c.split_last-parts.result.last.now in
+    let parts : InParts rest front last = record { all = c.split_last-parts.ensures.all; few = c.split_last-parts.ensures.few; lone = c.split_last-parts.ensures.front } in
+    let n = c.args.len - c.len.result in
+    let few : n < 64 = omega (arith, c.len.ensures, c.put_words-rest.ensures.near) in
+    let sum : k + n ≡ c.args.len = omega (arith, c.len.ensures, c.put_words-rest.ensures.within) in
+    ap (λ (b : Bool). b || c.have_one.result) (c.has_one_above.ensures ∙ ap (λ v. not ((v / 2 ^ n) == 0)) c.digits_number-value.ensures)
+    ∙ ap (λ (b : Bool). not ((number_of (hex_bits last) / 2 ^ n) == 0) || b) c.have_one.ensures
+    ∙ sym (wide_is k n all rest front last parts few c.put_words-rest.ensures.left)
+    ∙ ap (λ m. has_one (drop m all)) sum

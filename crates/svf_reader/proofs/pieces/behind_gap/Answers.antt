@@ -1,7 +1,8 @@
-use Rattle.std.proofs.Common.{ap, sym, ◌∙◌, drop, false}
+use Rattle.std.proofs.Common.{ℕ, List, ap, sym, ◌∙◌, drop, false}
 use Rattle.svf_reader.specs.declared.bytes.Class.TheVariants.{Gap}
 use Rattle.svf_reader.specs.Reading.{run_length, words_of, runs_of}
-use Rattle.svf_reader.proofs.Lexing.{word_gap, run_gap, gap_stops}
+use Rattle.svf_reader.specs.Texts.{plain, behind_word}
+use Rattle.svf_reader.proofs.Lexing.{word_gap, run_gap, gap_stops, behind_gap}
 use Rattle.svf_reader.proofs.pieces.behind_gap.Goals as goal
 
 pub returns-clause-words : goal.returns-clause-words
@@ -11,6 +12,10 @@ returns-clause-words c =
 pub returns-clause-runs : goal.returns-clause-runs
 returns-clause-runs c =
     run_gap c.args.text.now ∙ ap (λ n. runs_of (drop n c.args.text.now)) (sym c.run_len.ensures.value) ∙ ap runs_of (sym c.split_at.ensures.back)
+
+pub returns-clause-behind : goal.returns-clause-behind
+returns-clause-behind c =
+    behind_gap c.args.text.now ∙ ap (λ n. behind_word (plain (drop n c.args.text.now))) (sym c.run_len.ensures.value) ∙ ap (λ (t : List ℕ). behind_word (plain t)) (sym c.split_at.ensures.back)
 
 pub returns-clause-stops : goal.returns-clause-stops
 returns-clause-stops c =

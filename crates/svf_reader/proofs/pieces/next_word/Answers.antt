@@ -2,7 +2,8 @@ use Rattle.std.proofs.Common.{◌≡◌, ◌≤◌, ◌∷◌, List, ℕ, ap, sy
 use Rattle.std.proofs.lemmas.List.{nil_from_length}
 use Rattle.std.proofs.lemmas.Bool.Decides.{nat_tests}
 use Rattle.svf_reader.specs.Reading.{words_of}
-use Rattle.svf_reader.proofs.Lexing.{next_word_is, no_words}
+use Rattle.svf_reader.specs.Texts.{plain}
+use Rattle.svf_reader.proofs.Lexing.{next_word_is, no_words, behind_is}
 use Rattle.svf_reader.proofs.pieces.next_word.Goals as goal
 
 pub returns-then-is_empty-clause-value : goal.returns-then-is_empty-clause-value
@@ -18,6 +19,13 @@ returns-clause-value c =
     c.behind_gap-text.ensures.words ∙ front.is
     ∙ ap (λ (w : List ℕ). w ∷ words_of (drop c.word_len.result text)) (sym c.split_at.ensures.front)
     ∙ ap (λ (r : List ℕ). c.split_at.result.0.now ∷ words_of r) (sym c.split_at.ensures.back)
+
+pub returns-clause-behind : goal.returns-clause-behind
+returns-clause-behind c =
+    let text = c.behind_gap-text.result.now in
+    c.behind_gap-text.ensures.behind
+    ∙ behind_is text c.word_len.result c.behind_gap-text.ensures.stops c.word_len.ensures.value
+    ∙ ap plain (sym c.split_at.ensures.back)
 
 pub returns-clause-shorter : goal.returns-clause-shorter
 returns-clause-shorter c =

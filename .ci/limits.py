@@ -1,0 +1,96 @@
+#!/usr/bin/env python3
+"""Runs of the built program at the limits of sizes, and on devices: what no contract and no test within the prover's reach can show.
+
+    limits.py PROGRAM        run at the top of a checkout
+"""
+import os
+import pathlib
+import subprocess
+import sys
+import tempfile
+
+SOURCE_LIMIT = 16_777_216
+SVF_LIMIT = 134_217_728
+FLAT = pathlib.Path('examples/flat').resolve()
+REPORT = b'register net.R 0101\nscans 2 clocks 29 differs 0\n'
+
+program = os.path.abspath(sys.argv[1])
+failed = []
+count = 0
+
+
+def check(what, found, wanted):
+    global count
+    count += 1
+    if found != wanted:
+        failed.append(f'{what}: {found!r}, wanted {wanted!r}')
+
+
+def run(words, stdout=subprocess.PIPE):
+    done = subprocess.run([program, *map(str, words)], stdout=stdout, stderr=subprocess.PIPE)
+    return done.returncode, done.stdout, done.stderr
+
+
+def play(svf, stdout=subprocess.PIPE):
+    return run(['play', svf, FLAT / 'chip.icl', FLAT / 'chip.dev', FLAT / 'chip.tab', 'chip'], stdout)
+
+
+def compile_to(svf, icl=FLAT / 'chip.icl'):
+    return run(['compile', icl, FLAT / 'chip.pdl', FLAT / 'chip.dev', 'chip', 'p', svf])
+
+
+with tempfile.TemporaryDirectory() as folder:
+    folder = pathlib.Path(folder)
+
+    # a text of exactly the limit is read, and one byte more is too long
+    icl = folder / 'long.icl'
+    module = (FLAT / 'chip.icl').read_bytes()
+    icl.write_bytes(module + b' ' * (SOURCE_LIMIT - len(module)))
+    check('ICL at the limit', compile_to(folder / 'none.svf', icl), (3, b'', b'refused core FirstForm\n'))
+    with icl.open('ab') as file:
+        file.write(b' ')
+    check('ICL above the limit', compile_to(folder / 'none.svf', icl), (3, b'', f'refused file Long {icl}\n'.encode()))
+    check('no SVF is begun', (folder / 'none.svf').exists(), False)
+
+    svf = folder / 'flat.svf'
+    svf.write_bytes(b'a longer text that is there already\n' * 100)
+    check('a compile', compile_to(svf), (0, b'', b''))
+    text = svf.read_bytes()
+    check('the size of the SVF text', len(text), 90)
+    check('its play', play(svf), (0, REPORT, b''))
+    svf.write_bytes(text + b'\n' * (SVF_LIMIT - len(text)))
+    check('SVF at the limit', play(svf), (0, REPORT, b''))
+    with svf.open('ab') as file:
+        file.write(b'\n')
+    check('SVF above the limit', play(svf), (3, b'', f'refused file Long {svf}\n'.encode()))
+    svf.write_bytes(text)
+
+    # a device that takes nothing, and one that was closed
+    check('SVF on a full device', compile_to('/dev/full'), (5, b'', b'write fault /dev/full\n'))
+    with open('/dev/full', 'wb') as full:
+        check('a report on a full device', play(svf, full)[::2], (5, b'write fault output\n'))
+    reader, writer = os.pipe()
+    os.close(reader)
+    check('a report on a closed pipe', play(svf, writer)[::2], (5, b'write fault output\n'))
+    os.close(writer)
+
+    # a long report is handed to the operating system in pieces of 8 KiB: in such a pipe each write stands apart, in packets
+    # of at most 4,096 bytes
+    scan = b'SDR 65536 TDI (0) TDO (' + b'F' * 16384 + b');\n'
+    svf.write_bytes(b'SIR 8 TDI (A0);\n' + scan * 4)
+    reader, writer = os.pipe2(os.O_DIRECT)
+    player = subprocess.Popen(
+        [program, 'play', svf, FLAT / 'chip.icl', FLAT / 'chip.dev', FLAT / 'chip.tab', 'chip'], stdout=writer)
+    os.close(writer)
+    packets = []
+    while packet := os.read(reader, 65536):
+        packets.append(packet)
+    check('the status of a play that differs', player.wait(), 1)
+    report = b''.join(packets)
+    check('its lines', report.count(b'\n'), 262_146)
+    check('its writes are large', len(packets) <= len(report) // 4096 + len(report) // 8192 + 2, True)
+
+for line in failed:
+    print(line)
+print(f'limits: {count - len(failed)} passed, {len(failed)} failed')
+sys.exit(1 if failed else 0)
