@@ -8,7 +8,7 @@ mod bodies;
 mod design;
 mod expressions;
 mod items;
-pub mod laws;
+mod laws;
 mod parts;
 mod properties;
 mod put;
@@ -18,3 +18,4 @@ mod tests;
 mod token;
 
 pub use design::put_design;
+pub use laws::{designs_are_read_again, printed_tokens_derive_the_design};

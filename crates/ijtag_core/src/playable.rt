@@ -14,7 +14,7 @@ use crate::words::PlayWords;
 use first_form::{Design, FormFault, read_design};
 use std::alloc::Global;
 use svf_reader::{SvfFault, read_svf};
-use svf_writer::commands::Commands;
+use svf_writer::Commands;
 
 /// What is played, and on what.
 #[derive(Drop)]

@@ -8,7 +8,7 @@ use pdl_parser::parse_pdl;
 use std::alloc::{AllocError, Global};
 use std::test::Fail;
 use svf_reader::read_svf;
-use svf_writer::command::Command;
+use svf_writer::Command;
 
 /// A text of so many equal pieces between a front and a back.
 fn repeated(

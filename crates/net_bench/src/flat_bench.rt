@@ -6,7 +6,7 @@ ghost use Rattle.net_graph.specs.Signals.{hold_at};
 
 use crate::circuit::{Circuit, DataRegister};
 use ij_bits::{Bits, OutOfMemory, Ring};
-use net_graph::device::Device;
+use net_graph::Device;
 use std::alloc::Global;
 use std::marker::Model;
 use tap_machine::TapState;

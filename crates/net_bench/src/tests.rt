@@ -6,11 +6,10 @@ ghost use Rattle.net_bench.specs.Playing.{after_pins};
 use crate::FlatBench;
 use crate::stages::put_number;
 use ij_bits::{Bits, List, OutOfMemory};
-use net_graph::device::Device;
+use net_graph::Device;
 use std::alloc::{AllocError, Global};
 use std::test::Fail;
-use svf_writer::command::{Command, Scan};
-use svf_writer::commands::Commands;
+use svf_writer::{Command, Commands, Scan};
 use tap_machine::{Player, Stable};
 
 /// The lowest bits of a number.

@@ -1,7 +1,7 @@
 // The plan of one scan.
 
 use ij_bits::List;
-use net_graph::step::{ReadBit, WriteBit};
+use net_graph::{ReadBit, WriteBit};
 
 /// What one scan changes and compares: data bits, and select bits where it opens the way to others. Every other bit on the
 /// active path is kept, and isn't compared.

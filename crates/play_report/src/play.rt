@@ -13,10 +13,9 @@ use crate::compares::put_compares;
 use crate::lines::{put_register, put_totals};
 use ij_io::{Sink, StoreFault};
 use net_bench::FlatBench;
-use net_graph::device::Device;
+use net_graph::Device;
 use std::alloc::Global;
-use svf_writer::command::Command;
-use svf_writer::commands::Commands;
+use svf_writer::{Command, Commands};
 use tap_machine::{Player, Stable};
 
 /// The number of scans that a command is, 1 or 0.

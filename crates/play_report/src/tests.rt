@@ -4,7 +4,7 @@ ghost use Rattle.std.specs.Prelude.{length};
 use crate::put_play;
 use ij_bits::List;
 use ij_io::{StoreFault, SureSink};
-use net_graph::device::Device;
+use net_graph::Device;
 use std::alloc::Global;
 use std::test::Fail;
 use svf_reader::read_svf;

@@ -14,7 +14,7 @@ use first_form::{Form, Line};
 use ij_bits::Bits;
 use ij_io::{Sink, StoreFault};
 use std::alloc::Global;
-use svf_writer::write::put_preface;
+use svf_writer::put_preface;
 
 /// The line of the first iWrite or iRead that no iApply follows, and `None` where an iApply follows each of them. Lines
 /// of the PDL text are counted from 1, and the first command stands on line 3. Takes no memory.

@@ -3,7 +3,7 @@ ghost use Rattle.std.specs.Prelude.{◌≡◌, IfOk, None, codes};
 
 use ij_bits::{List, OutOfMemory};
 use ij_text::Name;
-use net_graph::device::Device;
+use net_graph::Device;
 use std::alloc::Global;
 
 /// The device whose access link `tap IJTAG` has this opcode, with an instruction register of 8 bits and no

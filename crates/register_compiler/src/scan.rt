@@ -5,7 +5,7 @@ ghost use Rattle.register_compiler.specs.Svf.{scan_of};
 
 use ij_bits::{Bits, OutOfMemory};
 use std::alloc::Global;
-use svf_writer::command::Scan;
+use svf_writer::Scan;
 
 /// The scan that shifts these bits in, position 0 first, and compares each bit that comes out with that of `expect`,
 /// or none without it. TDI, TDO and MASK take memory.

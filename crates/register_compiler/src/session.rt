@@ -12,8 +12,7 @@ use first_form::Line;
 use ij_bits::Bits;
 use ij_io::{Sink, StoreFault};
 use std::alloc::Global;
-use svf_writer::command::Command;
-use svf_writer::write::{put, put_mark};
+use svf_writer::{Command, put, put_mark};
 
 /// Writes the mark of an iApply with its number, and its command. After a refusal some first bytes are written.
 fn put_marked<K: Sink>(number: u32, command: &Command, k: &mut K) -> Result<(), StoreFault>

@@ -15,7 +15,7 @@ use crate::left_out::left_out;
 use crate::said::{PartTexts, Register, Said};
 use ij_bits::{Bits, List};
 use std::alloc::Global;
-use svf_writer::command::{Command, Scan};
+use svf_writer::{Command, Scan};
 
 /// What a command comes to: the command, if it acts on the controller, and what is kept behind it.
 #[derive(Drop)]

@@ -16,8 +16,7 @@ use crate::pieces::{Piece, next_word};
 use ij_bits::OutOfMemory;
 use ij_text::Place;
 use std::alloc::Global;
-use svf_writer::command::Command;
-use svf_writer::commands::Commands;
+use svf_writer::{Command, Commands};
 
 /// The text in front of the next `;`, if there is one, and the text behind it.
 fn next_text<'a>(text: &'a [u8]) -> Option<Piece<'a>>

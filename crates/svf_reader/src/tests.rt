@@ -5,7 +5,7 @@ use ij_bits::Bits;
 use ij_text::Place;
 use std::alloc::Global;
 use std::test::Fail;
-use svf_writer::command::{Command, Scan};
+use svf_writer::{Command, Scan};
 
 /// What became of a text: the number of its commands, or the variant of the refusal, and its line and column.
 fn outcome(alloc: Global, text: &[u8]) -> (u8, usize, u32, u32) {

@@ -5,7 +5,7 @@ ghost use Rattle.tap_machine.specs.Play.{pins, rests_after, scans_in};
 use crate::progress::{Phase, Progress, Sources};
 use crate::{Pins, Stable};
 use std::marker::Model;
-use svf_writer::commands::Commands;
+use svf_writer::Commands;
 
 /// A play of SVF commands, clock by clock (Serial Vector Format, revision E). It copies no scan and takes no memory.
 ///

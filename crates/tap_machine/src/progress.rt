@@ -7,8 +7,7 @@ ghost use Rattle.tap_machine.specs.Play.{quiet, kept_now, expected, mask_now};
 
 use crate::{Pins, Stable};
 use ij_bits::Bits;
-use svf_writer::command::{Command, Scan};
-use svf_writer::commands::Commands;
+use svf_writer::{Command, Commands, Scan};
 
 /// The length of the last scan of a kind, and the bits of the commands that it took its TDI and MASK from. Without
 /// MASK each bit is compared.

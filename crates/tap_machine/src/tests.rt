@@ -5,8 +5,7 @@ use crate::{Pins, Player, Stable, Tap, TapState};
 use ij_bits::{Bits, OutOfMemory};
 use std::alloc::Global;
 use std::test::Fail;
-use svf_writer::command::{Command, Scan};
-use svf_writer::commands::Commands;
+use svf_writer::{Command, Commands, Scan};
 
 #[test]
 fn a_controller_walks_to_reset_and_through_a_data_scan(rt: HostRuntime) {
