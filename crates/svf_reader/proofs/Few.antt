@@ -8,7 +8,8 @@ use Rattle.svf_reader.specs.declared.said.Register.TheVariants.{Instruction, Dat
 use Rattle.svf_reader.specs.Commands.{SaidBy, Scans, ToReset, ToIdle, Runs, NoEffect, Parts, said, left_out}
 use Rattle.svf_reader.specs.Texts.{words, behind_word, texts, plain, blanks}
 use Rattle.svf_reader.specs.Meaning.{Cause, SvfLimit, SvfSyntax, HexWide, TdiMissing, LeftOut, Refusal, Step, at_first, with_length, last_length, leaving, scan_clocks, clocked, any_wide, tdi_missing, scan_with, scan_command, scanned, done, if_said, unless_left_out, comes_to, listed, in_front_of, at_end, and_then, read_from, svf}
-use Rattle.svf_reader.specs.Scripts.{clocks_from, ReadCommandsAreFew}
+use Rattle.svf_writer.specs.Clocks.{clocks_from}
+use Rattle.svf_reader.specs.Scripts.{ReadCommandsAreFew}
 
 -- ---- one command
 
