@@ -2,9 +2,11 @@
 use Rattle.std.proofs.Common.{◌≡◌, ℕ, suc, ◌+◌, ◌≤◌, List, [], ◌∷◌, ◌++◌, length, take, drop, refl, sym, ap, subst, ◌∙◌, append_assoc, append-nil, arith, zero, ◌-◌, length-append, length-drop}
 use Rattle.std.proofs.lemmas.List.{drop-drop, length-take, take-append-drop}
 use Rattle.ij_text.specs.declared.Place.{Place}
+use Rattle.ij_text.specs.Places.{first_place, place_behind}
+use Rattle.ij_text.proofs.Behind.{place_behind-append}
 use Rattle.icl_lexer.specs.declared.token.Token.{Token}
 use Rattle.icl_lexer.specs.declared.token.Kind.{Kind}
-use Rattle.icl_lexer.specs.Cutting.{IsPiece, Piece, joined, AreLongest, IsCutUpTo, tokens_from, token_of, first_place, place_behind, next_place}
+use Rattle.icl_lexer.specs.Cutting.{IsPiece, Piece, joined, AreLongest, IsCutUpTo, tokens_from, token_of}
 
 -- the text is cut up to a byte and place, and these are the tokens so far
 pub record CutSoFar (text : List ℕ) (tokens : List Token) (start : ℕ) (at : Place) : Type 0 where
@@ -27,10 +29,6 @@ longest_more [] qs rest h k = k
 longest_more (p ∷ ps) qs rest h k =
     (subst (λ l. IsPiece (p.bytes ++ l) p.kind (length p.bytes)) (sym (joined_more ps qs rest)) h.0, longest_more ps qs rest h.1 k)
 
-pub place_more : (xs : List ℕ) (at : Place) (ys : List ℕ) → place_behind at (xs ++ ys) ≡ place_behind (place_behind at xs) ys
-place_more [] at ys = refl
-place_more (x ∷ xs) at ys = place_more xs (next_place at x) ys
-
 length_both : (xs ys : List ℕ) (s : ℕ) → s + length (xs ++ ys) ≡ s + length xs + length ys
 length_both xs ys s = let e = length-append xs ys in omega (arith, e)
 
@@ -44,7 +42,7 @@ tokens_more (p ∷ ps) s at qs =
     ap (λ (ts : List Token). front ++ ts) (tokens_more ps (s + length p.bytes) (place_behind at p.bytes) qs)
     ∙ sym (append_assoc front others (tokens_from end place qs))
     ∙ ap (λ (k : ℕ). (front ++ others) ++ tokens_from k place qs) (sym (length_both p.bytes (joined ps []) s))
-    ∙ ap (λ (a : Place). (front ++ others) ++ tokens_from (s + length (p.bytes ++ joined ps [])) a qs) (sym (place_more p.bytes at (joined ps [])))
+    ∙ ap (λ (a : Place). (front ++ others) ++ tokens_from (s + length (p.bytes ++ joined ps [])) a qs) (sym (place_behind-append p.bytes at (joined ps [])))
 
 take_front : (text : List ℕ) (n len : ℕ) → len ≤ length (drop n text) → length (take len (drop n text)) ≡ len
 take_front text n len h = let e = length-take len (drop n text) in omega (arith, e, h)
@@ -76,7 +74,7 @@ cut_more text tokens start at kind len so_far piece =
           ∙ ap (λ (t : List Token). tokens_from 0 first_place ps ++ t) last
           ∙ sym (tokens_more ps 0 first_place (p ∷ []));
       start_is = let both = length-append (joined ps []) (take len rest) in let e = ap length bytes in omega (arith, both, e, long, so_far.start_is);
-      at_is = ap (λ a. place_behind a (take len rest)) so_far.at_is ∙ sym (place_more (joined ps []) first_place (take len rest)) ∙ ap (place_behind first_place) (sym bytes);
+      at_is = ap (λ a. place_behind a (take len rest)) so_far.at_is ∙ sym (place_behind-append (joined ps []) first_place (take len rest)) ∙ ap (place_behind first_place) (sym bytes);
     }
 
 -- nothing is cut at the start

@@ -1,4 +1,4 @@
-pub mod Fronts
+pub mod Matches
 pub mod Cuts
 pub mod Unique
 pub mod Total

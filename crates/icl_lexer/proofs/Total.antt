@@ -4,17 +4,19 @@ use Rattle.std.specs.Prelude.{slice_range}
 use Rattle.std.proofs.lemmas.List.{nil_from_length}
 use Rattle.std.proofs.Math.Seq.{take-append_seam, drop-append_seam}
 use Rattle.ij_text.specs.declared.Place.{Place}
+use Rattle.ij_text.specs.Places.{first_place, place_behind}
+use Rattle.ij_text.proofs.Behind.{place_behind-append}
 use Rattle.icl_lexer.specs.declared.token.Token.{Token}
 use Rattle.icl_lexer.specs.declared.token.Kind.{Kind}
 use Rattle.icl_lexer.specs.declared.token.Kind.TheVariants.{Gap, Is}
 use Rattle.icl_lexer.specs.declared.fault.LexFault.{LexFault}
-use Rattle.icl_lexer.specs.declared.pieces.Front.{Front}
+use Rattle.icl_lexer.specs.declared.pieces.Match.{Match}
 use Rattle.icl_lexer.specs.Pieces.{kind_of}
-use Rattle.icl_lexer.specs.Fronts.{longest_front}
-use Rattle.icl_lexer.specs.Cutting.{IsPiece, NoPiece, Piece, joined, AreLongest, IsCutUpTo, AreTokens, HasFault, tokens_from, token_of, first_place, place_behind, fault_of, opens_comment}
+use Rattle.icl_lexer.specs.Matches.{longest_match}
+use Rattle.icl_lexer.specs.Cutting.{IsPiece, NoPiece, Piece, joined, AreLongest, IsCutUpTo, AreTokens, HasFault, tokens_from, token_of, fault_of, opens_comment}
 use Rattle.icl_lexer.specs.Laws.{AreInText}
-use Rattle.icl_lexer.proofs.Fronts.{is_piece, no_piece, no_mark}
-use Rattle.icl_lexer.proofs.Cuts.{CutSoFar, cut_more, nothing_cut, place_more}
+use Rattle.icl_lexer.proofs.Matches.{is_piece, no_piece, no_mark}
+use Rattle.icl_lexer.proofs.Cuts.{CutSoFar, cut_more, nothing_cut}
 use Rattle.icl_lexer.proofs.Unique.{piece_some}
 
 -- ---- each text is cut, or at fault
@@ -27,17 +29,17 @@ abbrev Begins : List ℕ → Type 0
 Begins text = ((kind : Kind) × (len : ℕ) × (IsPiece text kind len)) ⊎ (NoPiece text)
 
 begins : (text : List ℕ) → Begins text
-begins text = by_front (longest_front text (length text)) refl
+begins text = by_match (longest_match text (length text)) refl
   where
-    by_comment : (front : Front) → longest_front text (length text) ≡ Some front → (opens : Bool) → opens_comment text ≡ opens → (n : ℕ) → front.len ≡ n → Begins text
+    by_comment : (front : Match) → longest_match text (length text) ≡ Some front → (opens : Bool) → opens_comment text ≡ opens → (n : ℕ) → front.len ≡ n → Begins text
     by_comment front e false o n l = inl (front.kind, front.len, is_piece text front e (λ one. o))
     by_comment front e true o zero l = inl (front.kind, front.len, is_piece text front e (λ one. absurd (omega (arith, one, l))))
     by_comment front e true o (suc zero) l = inr (no_mark text front e l o)
     by_comment front e true o (suc (suc n)) l = inl (front.kind, front.len, is_piece text front e (λ one. absurd (omega (arith, one, l))))
 
-    by_front : (f : Option Front) → longest_front text (length text) ≡ f → Begins text
-    by_front None e = inr (no_piece text e)
-    by_front (Some front) e = by_comment front e (opens_comment text) refl front.len refl
+    by_match : (f : Option Match) → longest_match text (length text) ≡ f → Begins text
+    by_match None e = inr (no_piece text e)
+    by_match (Some front) e = by_comment front e (opens_comment text) refl front.len refl
 
 whole : (text : List ℕ) (tokens : List Token) (start : ℕ) (at : Place) → CutSoFar text tokens start at → drop start text ≡ [] → Outcome text
 whole text tokens start at c e = inl (tokens, (c.pieces, subst (IsCutUpTo text c.pieces) e c.cut, c.tokens_are))
@@ -111,7 +113,7 @@ in_text (p ∷ ps) text front from e h le =
     moved : (next : ℕ) → AreInText text next (tokens_from (length (front ++ p.bytes)) (place_behind first_place (front ++ p.bytes)) ps) → AreInText text next (tokens_from (length front + length p.bytes) (place_behind (place_behind first_place front) p.bytes) ps)
     moved next again =
         subst (λ n. AreInText text next (tokens_from n (place_behind (place_behind first_place front) p.bytes) ps)) (length-append front p.bytes)
-        (subst (λ a. AreInText text next (tokens_from (length (front ++ p.bytes)) a ps)) (place_more front first_place p.bytes) again)
+        (subst (λ a. AreInText text next (tokens_from (length (front ++ p.bytes)) a ps)) (place_behind-append front first_place p.bytes) again)
 
 pub tokens_in_text : (text : List ℕ) (tokens : List Token) → AreTokens text tokens → AreInText text 0 tokens
 tokens_in_text text tokens (ps, c, e) = subst (AreInText text 0) (sym e) (in_text ps text [] 0 c.whole c.longest (omega arith))

@@ -3,12 +3,13 @@ use Rattle.std.proofs.Common.{◌≡◌, ℕ, zero, suc, ◌<◌, List, [], ◌�
 use Rattle.std.proofs.Math.Seq.{take-append_seam, drop-append_seam}
 use Rattle.std.specs.Prelude.{IfOk, OnErr, IsErrOf}
 use Rattle.ij_bits.specs.Room.{Listed}
+use Rattle.ij_text.specs.Places.{first_place, place_behind}
 use Rattle.icl_lexer.specs.declared.token.Token.{Token}
 use Rattle.icl_lexer.specs.declared.token.Kind.{Kind}
 use Rattle.icl_lexer.specs.declared.fault.LexFault.{LexFault}
 use Rattle.icl_lexer.specs.declared.fault.LexFault.TheVariants.{BadByte, OpenComment, OpenText, OutOfMemory}
 use Rattle.icl_lexer.specs.Pieces.{kind_of}
-use Rattle.icl_lexer.specs.Cutting.{IsPiece, NoPiece, Piece, joined, AreLongest, IsCutUpTo, AreTokens, HasFault, tokens_from, first_place, place_behind, fault_of}
+use Rattle.icl_lexer.specs.Cutting.{IsPiece, NoPiece, Piece, joined, AreLongest, IsCutUpTo, AreTokens, HasFault, tokens_from, fault_of}
 use Rattle.icl_lexer.specs.Answers.{Gives}
 
 abbrev some_kind : Kind → Option Kind

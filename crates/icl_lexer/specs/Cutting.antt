@@ -1,26 +1,13 @@
 -- How an ICL text is cut into pieces, its tokens and the gaps between them (IEEE 1687-2014).
-use Rattle.std.specs.Prelude.{◌≡◌, ◌≢◌, ℕ, suc, ◌+◌, ◌<◌, ◌≤◌, ◌==◌, Bool, true, false, ◌&&◌, ◌||◌, cond, List, [], ◌∷◌, ◌++◌, length, take, Some, None}
+use Rattle.std.specs.Prelude.{◌≡◌, ◌≢◌, ℕ, ◌+◌, ◌<◌, ◌≤◌, ◌==◌, Bool, true, false, ◌&&◌, ◌||◌, cond, List, [], ◌∷◌, ◌++◌, length, take, Some, None}
 use Rattle.ij_text.specs.declared.Place.{Place}
+use Rattle.ij_text.specs.Places.{first_place, place_behind}
 use Rattle.icl_lexer.specs.declared.token.Token.{Token}
 use Rattle.icl_lexer.specs.declared.token.Kind.{Kind}
 use Rattle.icl_lexer.specs.declared.token.Kind.TheVariants.{Gap, Is}
 use Rattle.icl_lexer.specs.declared.fault.LexFault.{LexFault}
 use Rattle.icl_lexer.specs.declared.fault.LexFault.TheVariants.{BadByte, OpenComment, OpenText}
 use Rattle.icl_lexer.specs.Pieces.{kind_of}
-
--- ---- places
-
-abbrev pub first_place : Place
-first_place = record { line = 1; col = 1 }
-
--- behind a line feed (10) a line begins
-abbrev pub next_place : Place → ℕ → Place
-next_place p b = cond (b == 10) (record { line = suc p.line; col = 1 }) (record { line = p.line; col = suc p.col })
-
--- the place of the byte behind some bytes that begin at a place
-abbrev pub place_behind : Place → List ℕ → Place
-place_behind p [] = p
-place_behind p (b ∷ bs) = place_behind (next_place p b) bs
 
 -- ---- pieces
 

@@ -1,7 +1,7 @@
 pub mod Pieces
 pub mod Cutting
 pub mod States
-pub mod Fronts
+pub mod Matches
 pub mod Answers
 pub mod Laws
 pub mod Examples

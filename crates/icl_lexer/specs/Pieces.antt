@@ -1,6 +1,8 @@
 -- What a list of bytes is as a piece of an ICL text (IEEE 1687-2014): a gap, or a token of some kind.
 use Rattle.std.specs.Prelude.{ℕ, ◌==◌, Bool, true, false, not, ◌||◌, cond, List, [], ◌∷◌, Option, Some, None, codes}
-use Rattle.std.specs.Char.{is_ascii_digit, is_ascii_alphabetic, is_ascii_hexdigit}
+use Rattle.std.specs.Char.{is_ascii_digit, is_ascii_hexdigit}
+use Rattle.ij_text.specs.Bytes.{is_blank}
+use Rattle.ij_text.specs.Words.{begins_name, in_name}
 use Rattle.icl_lexer.specs.declared.token.TokenKind.{TokenKind}
 use Rattle.icl_lexer.specs.declared.token.TokenKind.TheVariants.{Word, Decimal, Sized, Quoted, Param, Mark}
 use Rattle.icl_lexer.specs.declared.token.Kind.{Kind}
@@ -8,19 +10,8 @@ use Rattle.icl_lexer.specs.declared.token.Kind.TheVariants.{Gap, Is}
 
 -- ---- bytes
 
--- a letter or `_`
-abbrev pub begins_word : ℕ → Bool
-begins_word b = is_ascii_alphabetic b || b == 95
-
-abbrev pub in_word : ℕ → Bool
-in_word b = begins_word b || is_ascii_digit b
-
 abbrev pub in_decimal : ℕ → Bool
 in_decimal b = is_ascii_digit b || b == 95
-
--- a space, a tab, a line feed or a carriage return
-abbrev pub is_blank : ℕ → Bool
-is_blank b = b == 32 || (b == 9 || (b == 10 || b == 13))
 
 -- b B d D h H
 abbrev pub is_base : ℕ → Bool
@@ -75,12 +66,12 @@ abbrev pub decimal : List ℕ → Option Kind
 decimal bs = size in_decimal Decimal bs
 
 abbrev pub parameter : List ℕ → Option Kind
-parameter bs = size in_word Param bs
+parameter bs = size in_name Param bs
 
 -- behind the `$` of a parameter
 abbrev pub dollar : List ℕ → Option Kind
 dollar [] = None
-dollar (b ∷ bs) = cond (begins_word b) (parameter bs) None
+dollar (b ∷ bs) = cond (begins_name b) (parameter bs) None
 
 -- in quoted text, up to the `"` (34) that ends it: behind a backslash (92) any byte is a part of the text
 abbrev pub quoted : Bool → List ℕ → Option Kind
@@ -104,7 +95,7 @@ abbrev pub kind_of : List ℕ → Option Kind
 kind_of [] = None
 kind_of (b ∷ bs) =
     cond (is_blank b) (ends Gap bs)
-    (cond (begins_word b) (run in_word (Is Word) bs)
+    (cond (begins_name b) (run in_name (Is Word) bs)
     (cond (is_ascii_digit b) (decimal bs)
     (cond (b == 36) (dollar bs)
     (cond (b == 39) (base bs)

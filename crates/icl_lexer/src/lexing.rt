@@ -3,12 +3,11 @@ ghost use Rattle.std.specs.Prelude.{◌≡◌, ◌≢◌, ◌⊎◌, ◌+◌, �
 ghost use Rattle.icl_lexer.specs.Cutting.{AreTokens, HasFault, Tokens, fault_of, token_of};
 ghost use Rattle.icl_lexer.specs.Answers.{Gives};
 
-use crate::bytes::place_behind;
 use crate::fault::LexFault;
 use crate::pieces::{first_piece, opens_block};
 use crate::token::{Kind, Token};
 use ij_bits::{List, OutOfMemory};
-use ij_text::Place;
+use ij_text::{Place, place_behind};
 use std::alloc::Global;
 
 /// The fault of a text that begins with no piece.
@@ -57,12 +56,12 @@ fn cut(alloc: Global, src: &[u8]) -> Result<List<Token>, LexFault>
     let mut at = Place { line: 1, col: 1 };
     while start < src.len() {
         let rest = &src[start..];
-        let Some(front) = first_piece(rest) else {
+        let Some(found) = first_piece(rest) else {
             return Err(fault_at(rest, at));
         };
-        put(&mut tokens, front.kind, at, start, start + front.len)?;
-        at = place_behind(at, &rest[..front.len]);
-        start += front.len;
+        put(&mut tokens, found.kind, at, start, start + found.len)?;
+        at = place_behind(at, &rest[..found.len]);
+        start += found.len;
     }
     Ok(tokens)
 }
@@ -78,7 +77,7 @@ fn cut(alloc: Global, src: &[u8]) -> Result<List<Token>, LexFault>
 /// byte stands, or the comment or the text begins. The list takes memory by `alloc`; where there is none, the answer is
 /// `OutOfMemory`.
 ///
-/// The text has at most 134,217,728 bytes, as an ICL file may have here; a longer one must not be given.
+/// The text has at most 134,217,728 bytes; a longer one must not be given. An ICL file may have 16,777,216.
 pub fn lex(alloc: Global, src: &[u8]) -> Result<List<Token>, LexFault>
     requires { length src.now ≤ 134217728 }
     ensures tokens { IfOk result (λ tokens. AreTokens src.now tokens.items) }

@@ -1,12 +1,11 @@
 // Where the reading of a piece stands.
 ghost use Rattle.std.specs.Prelude.{◌≡◌, ◌==◌, ◌∷◌, [], ℕ, List, None, cond, true, false};
 ghost use Rattle.icl_lexer.specs.Pieces.{base, block, kind_of, quoted, slash};
-ghost use Rattle.icl_lexer.specs.States.{begins_other, goes_on};
+ghost use Rattle.icl_lexer.specs.States.{kind_of_other, kind_from};
 
-use crate::bytes::{
-    begins_word, in_decimal, in_digits, in_word, is_base, is_blank, is_digit_x, is_mark,
-};
+use crate::bytes::{in_decimal, in_digits, is_base, is_digit_x, is_mark};
 use crate::token::{Kind, TokenKind};
+use ij_text::{begins_name, in_name, is_blank};
 
 /// What was read of a piece.
 #[derive(Clone, Copy)]
@@ -44,18 +43,18 @@ pub(crate) enum State {
 
 /// The state where the test holds, and else none that leads to a piece.
 fn only_if(test: bool, state: State) -> State
-    ensures { (bs : List ℕ) → goes_on result bs ≡ cond test (goes_on state bs) None }
+    ensures { (bs : List ℕ) → kind_from result bs ≡ cond test (kind_from state bs) None }
 {
     if test { state } else { State::Dead }
 }
 
 /// The state behind the first byte of a piece.
 fn begin(b: u8) -> State
-    ensures { (bs : List ℕ) → goes_on result bs ≡ kind_of (b ∷ bs) }
+    ensures { (bs : List ℕ) → kind_from result bs ≡ kind_of (b ∷ bs) }
 {
     if is_blank(b) {
         State::Whole(Kind::Gap)
-    } else if begins_word(b) {
+    } else if begins_name(b) {
         State::Word
     } else if b.is_ascii_digit() {
         State::Decimal
@@ -66,7 +65,7 @@ fn begin(b: u8) -> State
 
 /// The same, where the byte begins no gap, word or decimal.
 fn begin_other(b: u8) -> State
-    ensures { (bs : List ℕ) → goes_on result bs ≡ begins_other b bs }
+    ensures { (bs : List ℕ) → kind_from result bs ≡ kind_of_other b bs }
 {
     match b {
         b'$' => State::Dollar,
@@ -79,7 +78,7 @@ fn begin_other(b: u8) -> State
 
 /// The state behind a byte that may go on a decimal or a parameter.
 fn go_on_size(in_class: bool, state: State, b: u8) -> State
-    ensures { (bs : List ℕ) → goes_on result bs ≡ cond in_class (goes_on state bs) (cond (b == 39) (base bs) None) }
+    ensures { (bs : List ℕ) → kind_from result bs ≡ cond in_class (kind_from state bs) (cond (b == 39) (base bs) None) }
 {
     if in_class {
         state
@@ -90,7 +89,7 @@ fn go_on_size(in_class: bool, state: State, b: u8) -> State
 
 /// The state behind a byte of quoted text.
 fn go_on_text(b: u8) -> State
-    ensures { (bs : List ℕ) → goes_on result bs ≡ quoted false (b ∷ bs) }
+    ensures { (bs : List ℕ) → kind_from result bs ≡ quoted false (b ∷ bs) }
 {
     match b {
         b'"' => State::Whole(Kind::Is(TokenKind::Quoted)),
@@ -101,7 +100,7 @@ fn go_on_text(b: u8) -> State
 
 /// The state behind the byte behind a `/`.
 fn go_on_slash(b: u8) -> State
-    ensures { (bs : List ℕ) → goes_on result bs ≡ slash (b ∷ bs) }
+    ensures { (bs : List ℕ) → kind_from result bs ≡ slash (b ∷ bs) }
 {
     match b {
         b'/' => State::Line,
@@ -112,14 +111,14 @@ fn go_on_slash(b: u8) -> State
 
 /// The state behind a byte of a comment that doesn't end it.
 fn go_on_block(b: u8) -> State
-    ensures { (bs : List ℕ) → goes_on result bs ≡ block (b == 42) bs }
+    ensures { (bs : List ℕ) → kind_from result bs ≡ block (b == 42) bs }
 {
     if b == b'*' { State::Star } else { State::Block }
 }
 
 /// The state behind a byte of a comment behind a `*` of it.
 fn go_on_star(b: u8) -> State
-    ensures { (bs : List ℕ) → goes_on result bs ≡ block true (b ∷ bs) }
+    ensures { (bs : List ℕ) → kind_from result bs ≡ block true (b ∷ bs) }
 {
     if b == b'/' {
         State::Whole(Kind::Gap)
@@ -131,14 +130,14 @@ fn go_on_star(b: u8) -> State
 impl State {
     /// The state behind one more byte.
     pub fn next(self, b: u8) -> State
-        ensures { (bs : List ℕ) → goes_on result bs ≡ goes_on self (b ∷ bs) }
+        ensures { (bs : List ℕ) → kind_from result bs ≡ kind_from self (b ∷ bs) }
     {
         match self {
             State::Start => begin(b),
-            State::Word => only_if(in_word(b), State::Word),
+            State::Word => only_if(in_name(b), State::Word),
             State::Decimal => go_on_size(in_decimal(b), State::Decimal, b),
-            State::Dollar => only_if(begins_word(b), State::Parameter),
-            State::Parameter => go_on_size(in_word(b), State::Parameter, b),
+            State::Dollar => only_if(begins_name(b), State::Parameter),
+            State::Parameter => go_on_size(in_name(b), State::Parameter, b),
             State::Apostrophe => only_if(is_base(b), State::Base),
             State::Base => only_if(is_digit_x(b), State::Digits),
             State::Digits => only_if(in_digits(b), State::Digits),
@@ -155,7 +154,7 @@ impl State {
 
     /// What was read, if it is a piece.
     pub fn kind(self) -> Option<Kind>
-        ensures { result ≡ goes_on self [] }
+        ensures { result ≡ kind_from self [] }
     {
         match self {
             State::Whole(kind) => Some(kind),
@@ -171,7 +170,7 @@ impl State {
 
     /// Whether no byte leads to a piece.
     pub fn is_dead(self) -> bool
-        ensures only { result ≡ true → (bs : List ℕ) → goes_on self bs ≡ None }
+        ensures only { result ≡ true → (bs : List ℕ) → kind_from self bs ≡ None }
         ensures dead { self ≡ State.Dead → result ≡ true }
     {
         matches!(self, State::Dead)

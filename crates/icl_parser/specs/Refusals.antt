@@ -2,7 +2,7 @@
 use Rattle.std.specs.Prelude.{◌≡◌, Bool, true, false, ℕ, List, [], ◌∷◌, ◌++◌, Option, Some, None}
 use Rattle.grammar.specs.Refusal.{CantGoOn}
 use Rattle.ij_text.specs.declared.Place.{Place}
-use Rattle.icl_lexer.specs.Cutting.{first_place, place_behind}
+use Rattle.ij_text.specs.Places.{first_place, place_behind}
 use Rattle.icl_syntax.specs.declared.words.Limit.{Limit}
 use Rattle.icl_syntax.specs.Tokens.{SeenToken, if_word, is_left_out}
 use Rattle.icl_syntax.specs.Values.{SeenModule}

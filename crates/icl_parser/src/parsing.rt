@@ -90,7 +90,7 @@ fn modules(alloc: Global, src: &[u8], lexemes: &[Lexeme]) -> Result<Design, Pars
 /// The design of an ICL text (IEEE 1687-2014, as far as it is read here), whose tokens [`icl_lexer::lex`] gave. Takes
 /// memory by `alloc`, and leaves the text and the tokens as they are.
 ///
-/// The text has at most 134,217,728 bytes, as an ICL file may have here.
+/// The text has at most 134,217,728 bytes. An ICL file may have 16,777,216.
 ///
 /// # Errors
 ///

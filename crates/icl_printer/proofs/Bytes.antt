@@ -9,8 +9,10 @@ use Rattle.icl_lexer.specs.declared.token.Kind.{Kind}
 use Rattle.icl_lexer.specs.declared.token.Kind.TheVariants.{Gap, Is}
 use Rattle.icl_lexer.specs.declared.token.TokenKind.{TokenKind}
 use Rattle.icl_lexer.specs.declared.token.TokenKind.TheVariants.{Word, Decimal, Sized, Quoted, Param, Mark}
-use Rattle.icl_lexer.specs.Pieces.{kind_of, size, in_decimal, in_word, in_digits, in_line, run, ends, base, digits, dollar, quoted, slash, block, is_blank, begins_word, is_mark, is_base, is_digit_x}
+use Rattle.icl_lexer.specs.Pieces.{kind_of, size, in_decimal, in_digits, in_line, run, ends, base, digits, dollar, quoted, slash, block, is_mark, is_base, is_digit_x}
 use Rattle.ij_text.specs.Numbers.{decimal_from}
+use Rattle.ij_text.specs.Words.{in_name, begins_name}
+use Rattle.ij_text.specs.Bytes.{is_blank}
 use Rattle.icl_syntax.specs.Tokens.{decimal_of, small}
 
 -- ---- decimals
@@ -145,7 +147,7 @@ module _ (p : Kind → Bool) where
 
   dollar_never : p (Is Param) ≡ false → p (Is Sized) ≡ false → (bs : List ℕ) → is_of p (dollar bs) ≡ false
   dollar_never a b [] = refl
-  dollar_never a b (c ∷ bs) = cond_never (begins_word c) (size in_word Param bs) None (size_never in_word Param a b bs) refl
+  dollar_never a b (c ∷ bs) = cond_never (begins_name c) (size in_name Param bs) None (size_never in_name Param a b bs) refl
 
   quoted_never : p (Is Quoted) ≡ false → (escaped : Bool) (bs : List ℕ) → is_of p (quoted escaped bs) ≡ false
   quoted_never never escaped [] = refl
@@ -205,7 +207,7 @@ quoted_text (b ∷ bs) h =
     let q = is_quoted in
     let h0 : is_of q (kind_of (b ∷ bs)) ≡ true = ap (is_of q) h in
     let h1 = not_here q (is_blank b) (ends Gap bs) _ (ends_never q Gap refl bs) h0 in
-    let h2 = not_here q (begins_word b) (run in_word (Is Word) bs) _ (run_never q in_word (Is Word) refl bs) h1 in
+    let h2 = not_here q (begins_name b) (run in_name (Is Word) bs) _ (run_never q in_name (Is Word) refl bs) h1 in
     let h3 = not_here q (is_ascii_digit b) (size in_decimal Decimal bs) _ (size_never q in_decimal Decimal refl refl bs) h2 in
     let h4 = not_here q (b == 36) (dollar bs) _ (dollar_never q refl refl bs) h3 in
     let h5 = not_here q (b == 39) (base bs) _ (base_never q refl bs) h4 in
@@ -220,7 +222,7 @@ param_text (b ∷ bs) h =
     let q = is_param in
     let h0 : is_of q (kind_of (b ∷ bs)) ≡ true = ap (is_of q) h in
     let h1 = not_here q (is_blank b) (ends Gap bs) _ (ends_never q Gap refl bs) h0 in
-    let h2 = not_here q (begins_word b) (run in_word (Is Word) bs) _ (run_never q in_word (Is Word) refl bs) h1 in
+    let h2 = not_here q (begins_name b) (run in_name (Is Word) bs) _ (run_never q in_name (Is Word) refl bs) h1 in
     let h3 = not_here q (is_ascii_digit b) (size in_decimal Decimal bs) _ (size_never q in_decimal Decimal refl refl bs) h2 in
     let marks = cond_never q (b == 47) (slash bs) (cond (is_mark b) (ends (Is Mark) bs) None) (slash_never q refl refl bs) (cond_never q (is_mark b) (ends (Is Mark) bs) None (ends_never q (Is Mark) refl bs) refl) in
     let texts = cond_never q (b == 34) (quoted false bs) (cond (b == 47) (slash bs) (cond (is_mark b) (ends (Is Mark) bs) None)) (quoted_never q refl false bs) marks in

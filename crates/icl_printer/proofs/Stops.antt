@@ -4,11 +4,13 @@ use Rattle.std.specs.Prelude.{◌||◌, ◌&&◌}
 use Rattle.std.specs.Char.{is_ascii_digit}
 use Rattle.std.proofs.Math.Seq.{take-append-add}
 use Rattle.std.proofs.lemmas.List.{take_at}
+use Rattle.ij_text.specs.Words.{in_name, begins_name}
+use Rattle.ij_text.specs.Bytes.{is_blank}
 use Rattle.icl_lexer.specs.declared.token.Kind.{Kind}
 use Rattle.icl_lexer.specs.declared.token.Kind.TheVariants.{Gap, Is}
 use Rattle.icl_lexer.specs.declared.token.TokenKind.{TokenKind}
 use Rattle.icl_lexer.specs.declared.token.TokenKind.TheVariants.{Word, Decimal, Sized, Quoted, Param, Mark}
-use Rattle.icl_lexer.specs.Pieces.{kind_of, size, in_decimal, in_word, in_digits, in_line, run, ends, base, digits, dollar, quoted, slash, block, is_blank, begins_word, is_mark, is_base, is_digit_x}
+use Rattle.icl_lexer.specs.Pieces.{kind_of, size, in_decimal, in_digits, in_line, run, ends, base, digits, dollar, quoted, slash, block, is_mark, is_base, is_digit_x}
 use Rattle.icl_lexer.specs.Cutting.{IsPiece, opens_comment}
 use Rattle.icl_printer.specs.Layout.{blank_of, ends_line}
 use Rattle.icl_printer.proofs.Bytes.{is_of, run_never, block_never}
@@ -16,7 +18,7 @@ use Rattle.icl_printer.proofs.Bytes.{is_of, run_never, block_never}
 -- a blank that stands behind a token
 pub record IsBehind (b : ℕ) : Type 0 where
   pub gap : (bs : List ℕ) → kind_of (b ∷ bs) ≡ ends Gap bs
-  pub in_a_word : in_word b ≡ false
+  pub in_a_word : in_name b ≡ false
   pub in_a_decimal : in_decimal b ≡ false
   pub in_some_digits : in_digits b ≡ false
   pub quote : (b == 39) ≡ false
@@ -85,7 +87,7 @@ module _ (b : ℕ) (is : IsBehind b) (more : List ℕ) (k : TokenKind) where
 
   dollar_stops : (bs : List ℕ) → dollar bs ≡ Some (Is k) → dollar (bs ++ b ∷ more) ≡ None
   dollar_stops [] h = absurd (cc)
-  dollar_stops (x ∷ bs) h = cond_stops (begins_word x) (size in_word Param bs) None (size in_word Param (bs ++ b ∷ more)) None (size_stops in_word is.in_a_word Param bs) (nothing_stops None) h
+  dollar_stops (x ∷ bs) h = cond_stops (begins_name x) (size in_name Param bs) None (size in_name Param (bs ++ b ∷ more)) None (size_stops in_name is.in_a_word Param bs) (nothing_stops None) h
 
   quoted_stops : (escaped : Bool) (bs : List ℕ) → quoted escaped bs ≡ Some (Is k) → quoted escaped (bs ++ b ∷ more) ≡ None
   quoted_stops escaped [] h = absurd (cc)
@@ -104,7 +106,7 @@ module _ (b : ℕ) (is : IsBehind b) (more : List ℕ) (k : TokenKind) where
   token_stops [] h = absurd (cc)
   token_stops (x ∷ bs) h =
       cond_stops (is_blank x) (ends Gap bs) _ (ends Gap (bs ++ b ∷ more)) _ (ends_stops Gap bs)
-      (cond_stops (begins_word x) (run in_word (Is Word) bs) _ (run in_word (Is Word) (bs ++ b ∷ more)) _ (run_stops in_word is.in_a_word (Is Word) bs)
+      (cond_stops (begins_name x) (run in_name (Is Word) bs) _ (run in_name (Is Word) (bs ++ b ∷ more)) _ (run_stops in_name is.in_a_word (Is Word) bs)
       (cond_stops (is_ascii_digit x) (size in_decimal Decimal bs) _ (size in_decimal Decimal (bs ++ b ∷ more)) _ (size_stops in_decimal is.in_a_decimal Decimal bs)
       (cond_stops (x == 36) (dollar bs) _ (dollar (bs ++ b ∷ more)) _ (dollar_stops bs)
       (cond_stops (x == 39) (base bs) _ (base (bs ++ b ∷ more)) _ (base_stops bs)

@@ -12,3 +12,4 @@ pub mod Gaps
 pub mod Few
 pub mod Following
 pub mod Packing
+pub mod Keeping

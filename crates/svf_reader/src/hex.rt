@@ -1,6 +1,7 @@
 // Hexadecimal texts as bits.
-ghost use Rattle.std.specs.Prelude.{◌≡◌, ◌+◌, ◌^◌, ◌/◌, ◌<◌, ◌≤◌, ◌==◌, not, [], ◌++◌, length, drop, IfOk, IfSome};
+ghost use Rattle.std.specs.Prelude.{◌≡◌, ◌+◌, ◌^◌, ◌/◌, ◌%◌, ◌<◌, ◌≤◌, ◌==◌, not, [], ◌++◌, length, drop, IfOk, IfSome};
 ghost use Rattle.ij_bits.specs.BitLists.{number_of};
+ghost use Rattle.ij_text.specs.Numbers.{hex_value as digit_value};
 ghost use Rattle.svf_reader.specs.Answers.{Gives};
 ghost use Rattle.svf_reader.specs.Values.{hex_bits, has_one, fitted, is_wide};
 ghost use Rattle.svf_reader.specs.Meaning.{hex_value};
@@ -10,8 +11,20 @@ use crate::fault::Refused;
 use crate::pieces::next_word;
 use crate::words::is_close;
 use ij_bits::Bits;
-use ij_text::hex_value as digit_value;
+use ij_text::hex_value;
 use std::alloc::{AllocError, Global};
+
+/// A digit's value, found without asking whether it is a letter; 16 is as 0.
+fn digit_value(b: u8) -> u8
+    ensures value { result ≡ digit_value b % 16 }
+    ensures small { result < 16 }
+{
+    if b < b'0' || b > 127 || (b > b'F' && b < b'W') {
+        return hex_value(b) % 16;
+    }
+    let letter = (b + 70) / 128;
+    (b + 9 * letter) % 16
+}
 
 /// The number that at most 16 digits stand for.
 fn digits_number(digits: &[u8]) -> u64
@@ -20,7 +33,7 @@ fn digits_number(digits: &[u8]) -> u64
 {
     let mut value = 0u64;
     for d in digits {
-        value = 16 * value + u64::from(digit_value(*d) % 16);
+        value = 16 * value + u64::from(digit_value(*d));
     }
     value
 }
@@ -31,7 +44,7 @@ fn have_one(digits: &[u8]) -> bool
 {
     let mut one = false;
     for d in digits {
-        one |= digit_value(*d) % 16 != 0;
+        one |= digit_value(*d) != 0;
     }
     one
 }
@@ -137,7 +150,7 @@ fn gathered(alloc: Global, text: &[u8]) -> Result<Vec<u8>, AllocError>
 }
 
 /// The bits of a hexadecimal text up to its `)`, of which the last digit has position 0.
-pub(crate) fn hex_value(alloc: Global, len: u32, text: &[u8]) -> Result<Bits, Refused>
+pub(crate) fn text_bits(alloc: Global, len: u32, text: &[u8]) -> Result<Bits, Refused>
     ensures { Gives (λ bits. bits.items) result (hex_value len (digits_of text.now)) }
 {
     if let Some(digits) = lone_word(text) {

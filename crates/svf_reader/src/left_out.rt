@@ -69,6 +69,10 @@ pub(crate) fn left_out(text: &[u8]) -> Option<&[u8]>
     ensures { option_map (λ word. word.now) result ≡ left_out (words_of text.now) (behind_word (plain text.now)) }
 {
     let word = next_word(text)?;
+    // most commands
+    if says_one(word.piece, &[b"SDR", b"SIR"]) {
+        return None;
+    }
     if is_left_out(word.piece, word.rest) {
         Some(word.piece)
     } else {

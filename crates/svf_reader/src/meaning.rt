@@ -9,7 +9,7 @@ ghost use Rattle.svf_reader.specs.Texts.{plain};
 
 use crate::fault::Refused;
 use crate::grammar::said;
-use crate::hex::hex_value;
+use crate::hex::text_bits;
 use crate::kept::Kept;
 use crate::left_out::left_out;
 use crate::said::{PartTexts, Register, Said};
@@ -30,7 +30,7 @@ fn part_of(alloc: Global, len: u32, text: Option<&[u8]>) -> Result<Option<Bits>,
 {
     match text {
         None => Ok(None),
-        Some(text) => Ok(Some(hex_value(alloc, len, text)?)),
+        Some(text) => Ok(Some(text_bits(alloc, len, text)?)),
     }
 }
 

@@ -77,10 +77,25 @@ fn all_digits(word: &[u8]) -> bool
     word.iter().all(|b| b.is_ascii_digit())
 }
 
+/// Whether a byte is a hexadecimal digit, found without a branch.
+fn is_hex(b: u8) -> bool
+    ensures { result ≡ is_ascii_hexdigit b }
+{
+    let is_digit = (b >= b'0') & (b <= b'9');
+    let is_upper = (b >= b'A') & (b <= b'F');
+    let is_lower = (b >= b'a') & (b <= b'f');
+    is_digit | is_upper | is_lower
+}
+
+/// Whether each byte is a hexadecimal digit. It goes over all of them, which is fast where they are.
 pub(crate) fn all_hex(word: &[u8]) -> bool
     ensures { result ≡ list_all is_ascii_hexdigit word.now }
 {
-    word.iter().all(|b| b.is_ascii_hexdigit())
+    let mut all = true;
+    for b in word {
+        all &= is_hex(*b);
+    }
+    all
 }
 
 /// The number of at most 10 digits.

@@ -1,7 +1,8 @@
 use Rattle.std.proofs.Common.{ℕ, ◌+◌, ◌-◌, ◌≤◌, List, take, drop, length, sym, ap, subst, ◌∙◌, arith, length-drop}
 use Rattle.std.proofs.lemmas.List.{length-take}
+use Rattle.ij_text.specs.Places.{place_behind}
 use Rattle.icl_lexer.specs.declared.token.Token.{Token}
-use Rattle.icl_lexer.specs.Cutting.{IsPiece, NoPiece, place_behind, fault_of}
+use Rattle.icl_lexer.specs.Cutting.{IsPiece, NoPiece, fault_of}
 use Rattle.icl_lexer.proofs.Cuts.{CutSoFar, cut_more, rest_is}
 use Rattle.icl_lexer.proofs.Unique.{gives_fault}
 use Rattle.icl_lexer.proofs.lexing.cut.Goals as goal
@@ -25,13 +26,13 @@ pub loop-start-preserved : goal.loop-start-preserved
 loop-start-preserved c =
     let src = c.args.src.now in
     let start = c.loop-start.start in
-    let len = c.in-Some.front.len in
-    let piece : IsPiece (drop start src) c.in-Some.front.kind len = subst (λ l. IsPiece l c.in-Some.front.kind len) (rest_is src start) c.in-Some.ensures.some in
+    let len = c.in-Some.found.len in
+    let piece : IsPiece (drop start src) c.in-Some.found.kind len = subst (λ l. IsPiece l c.in-Some.found.kind len) (rest_is src start) c.in-Some.ensures.some in
     let within = piece.within in
     let fits : start + len ≤ length src = omega (arith, within, length-drop start src, c.loop-start.invariant.within) in
     let short = length-take len (take (length src - start) (drop start src)) in
     let place = c.place_behind-at.ensures.value ∙ ap (λ l. place_behind c.loop-start.at (take len l)) (rest_is src start) in
-    let more = cut_more src c.loop-start.tokens.items start c.loop-start.at c.in-Some.front.kind len c.loop-start.invariant.cut piece in
+    let more = cut_more src c.loop-start.tokens.items start c.loop-start.at c.in-Some.found.kind len c.loop-start.invariant.cut piece in
     record {
       within = fits;
       column = c.place_behind-at.ensures.column;

@@ -23,7 +23,7 @@ loop-d-preserved c =
     let v = digit_value (get_or digits i 0) in
     let more : number_of (hex_bits (take (i + 1) digits)) ≡ 16 * number_of (hex_bits (take i digits)) + v % 16 =
     ap number_of (hex_bits-more digits i (omega arith)) ∙ digit_front v (hex_bits (take i digits)) in
-    let here : c.from.result ≡ v % 16 = c.from.ensures ∙ ap (λ k. k % 16) c.hex_value.ensures.value in
+    let here : c.from.result ≡ v % 16 = c.from.ensures ∙ c.digit_value.ensures.value in
     let one : i + 1 ≡ suc i = omega arith in
     let next : 16 ^ (i + 1) ≡ 16 ^ suc i = ap (λ k. 16 ^ k) one in
     record {

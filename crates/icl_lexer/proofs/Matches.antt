@@ -1,12 +1,12 @@
--- The longest front that is a piece, found by the states.
+-- The longest match, found by the states.
 use Rattle.std.proofs.Common.{◌≡◌, ◌++◌, ◌+◌, ◌<◌, ◌≤◌, ℕ, zero, suc, [], ◌∷◌, List, length, take, drop, get_or, Option, Some, None, refl, sym, ap, subst, ◌∙◌, arith, inl, inr, ◌⊎◌, true, false}
 use Rattle.icl_lexer.specs.declared.token.Kind.{Kind}
-use Rattle.icl_lexer.specs.declared.pieces.Front.{Front}
+use Rattle.icl_lexer.specs.declared.pieces.Match.{Match}
 use Rattle.icl_lexer.specs.Pieces.{kind_of}
-use Rattle.icl_lexer.specs.Fronts.{newer, longest_front}
+use Rattle.icl_lexer.specs.Matches.{longer, longest_match}
 use Rattle.icl_lexer.specs.Cutting.{IsPiece, NoPiece, opens_comment}
 
--- one more byte of a front
+-- one more byte of a match
 pub take_more : (text : List ℕ) (n : ℕ) (bs : List ℕ) → n < length text → take n text ++ get_or text n 0 ∷ bs ≡ take (suc n) text ++ bs
 take_more [] n bs h = absurd (omega (arith, h))
 take_more (b ∷ text) zero bs h = refl
@@ -22,18 +22,18 @@ take_both [] (suc n) m = take_none (suc n + m) ∙ sym (take_none m)
 take_both (b ∷ text) (suc n) m =
     ap (λ k. take k (b ∷ text)) (let e : suc n + m ≡ suc (n + m) = omega arith in e) ∙ ap (λ (l : List ℕ). b ∷ l) (take_both text n m)
 
--- where no byte leads to a piece, no longer front is one
-pub no_longer : (text : List ℕ) (n m : ℕ) → ((bs : List ℕ) → kind_of (take n text ++ bs) ≡ None) → longest_front text (n + m) ≡ longest_front text n
-no_longer text n zero h = ap (longest_front text) (let e : n + 0 ≡ n = omega arith in e)
+-- where no byte leads to a piece, no longer match is there
+pub no_longer : (text : List ℕ) (n m : ℕ) → ((bs : List ℕ) → kind_of (take n text ++ bs) ≡ None) → longest_match text (n + m) ≡ longest_match text n
+no_longer text n zero h = ap (longest_match text) (let e : n + 0 ≡ n = omega arith in e)
 no_longer text n (suc m) h =
     let e : n + suc m ≡ suc (n + m) = omega arith in
     let none : kind_of (take (suc (n + m)) text) ≡ None = ap (λ k. kind_of (take k text)) (sym e) ∙ ap kind_of (take_both text n (suc m)) ∙ h (take (suc m) (drop n text)) in
-    ap (longest_front text) e ∙ ap (λ k. newer (longest_front text (n + m)) k (suc (n + m))) none ∙ no_longer text n m h
+    ap (longest_match text) e ∙ ap (λ k. longer (longest_match text (n + m)) k (suc (n + m))) none ∙ no_longer text n m h
 
--- what the longest front of at most n bytes is
-abbrev pub Told : List ℕ → ℕ → Option Front → Type 0
+-- what the longest match of at most n bytes is
+abbrev pub Told : List ℕ → ℕ → Option Match → Type 0
 Told text n None = (m : ℕ) → m ≤ n → kind_of (take m text) ≡ None
-Told text n (Some front) = (0 < front.len) × (front.len ≤ n) × (kind_of (take front.len text) ≡ Some front.kind) × ((m : ℕ) → front.len < m → m ≤ n → kind_of (take m text) ≡ None)
+Told text n (Some found) = (0 < found.len) × (found.len ≤ n) × (kind_of (take found.len text) ≡ Some found.kind) × ((m : ℕ) → found.len < m → m ≤ n → kind_of (take m text) ≡ None)
 
 nothing : (text : List ℕ) (m : ℕ) → m ≤ 0 → kind_of (take m text) ≡ None
 nothing [] zero h = refl
@@ -56,39 +56,39 @@ up_to text m n h below last = at (le_split m n h)
     at (inl le) = below le
     at (inr e) = ap (λ k. kind_of (take k text)) e ∙ last
 
-pub told : (text : List ℕ) (n : ℕ) → Told text n (longest_front text n)
+pub told : (text : List ℕ) (n : ℕ) → Told text n (longest_match text n)
 told text zero = nothing text
-told text (suc n) = step (longest_front text n) (told text n) (kind_of (take (suc n) text)) refl
+told text (suc n) = step (longest_match text n) (told text n) (kind_of (take (suc n) text)) refl
   where
-    step : (front : Option Front) → Told text n front → (k : Option Kind) → kind_of (take (suc n) text) ≡ k → Told text (suc n) (newer front k (suc n))
-    step front h (Some kind) e = (omega arith, omega arith, e, λ m lt le. absurd (omega (arith, lt, le)))
+    step : (found : Option Match) → Told text n found → (k : Option Kind) → kind_of (take (suc n) text) ≡ k → Told text (suc n) (longer found k (suc n))
+    step found h (Some kind) e = (omega arith, omega arith, e, λ m lt le. absurd (omega (arith, lt, le)))
     step None h None e = λ m le. up_to text m n le (h m) e
-    step (Some front) h None e = (h.0, omega (arith, h.1), h.2, λ m lt le. up_to text m n le (h.3 m lt) e)
+    step (Some found) h None e = (h.0, omega (arith, h.1), h.2, λ m lt le. up_to text m n le (h.3 m lt) e)
 
--- the longest front is a piece, unless it is a `/` that begins a comment
-pub is_piece : (text : List ℕ) (front : Front) → longest_front text (length text) ≡ Some front → (front.len ≡ 1 → opens_comment text ≡ false) → IsPiece text front.kind front.len
-is_piece text front e h =
-    let t : Told text (length text) (Some front) = subst (Told text (length text)) e (told text (length text)) in
-    record { within = t.1; one = t.2; longest = t.3; no_comment = λ opens. longer front.len t.0 (λ one. clash (sym (h one) ∙ opens)) }
+-- the longest match is a piece, unless it is a `/` that begins a comment
+pub is_piece : (text : List ℕ) (found : Match) → longest_match text (length text) ≡ Some found → (found.len ≡ 1 → opens_comment text ≡ false) → IsPiece text found.kind found.len
+is_piece text found e h =
+    let t : Told text (length text) (Some found) = subst (Told text (length text)) e (told text (length text)) in
+    record { within = t.1; one = t.2; longest = t.3; no_comment = λ opens. above_one found.len t.0 (λ one. clash (sym (h one) ∙ opens)) }
   where
     clash : false ≡ true → ⊥
     clash e = absurd cc
 
-    longer : (n : ℕ) → 0 < n → (n ≡ 1 → ⊥) → 1 < n
-    longer n some ne = omega (arith, some, ne)
+    above_one : (n : ℕ) → 0 < n → (n ≡ 1 → ⊥) → 1 < n
+    above_one n some ne = omega (arith, some, ne)
 
 abbrev some_kind : Kind → Option Kind
 some_kind k = Some k
 
--- without a front there is no piece
-pub no_piece : (text : List ℕ) → longest_front text (length text) ≡ None → NoPiece text
+-- without a match there is no piece
+pub no_piece : (text : List ℕ) → longest_match text (length text) ≡ None → NoPiece text
 no_piece text e kind len p =
     let t : Told text (length text) None = subst (Told text (length text)) e (told text (length text)) in
     absurd (let no : None ≡ some_kind kind = sym (t len p.within) ∙ p.one in cc)
 
 -- with that `/` alone there is none
-pub no_mark : (text : List ℕ) (front : Front) → longest_front text (length text) ≡ Some front → front.len ≡ 1 → opens_comment text ≡ true → NoPiece text
-no_mark text front e one opens kind len p =
-    let t : Told text (length text) (Some front) = subst (Told text (length text)) e (told text (length text)) in
+pub no_mark : (text : List ℕ) (found : Match) → longest_match text (length text) ≡ Some found → found.len ≡ 1 → opens_comment text ≡ true → NoPiece text
+no_mark text found e one opens kind len p =
+    let t : Told text (length text) (Some found) = subst (Told text (length text)) e (told text (length text)) in
     let long = p.no_comment opens in
     absurd (let no : None ≡ some_kind kind = sym (t.3 len (omega (arith, long, one)) p.within) ∙ p.one in cc)

@@ -1,0 +1,31 @@
+-- Commands that aren't left out.
+use Rattle.std.proofs.Common.{◌≡◌, ℕ, Bool, true, false, cond, nat_le, List, [], ◌∷◌, length, Option, Some, None, ap, refl, codes, bytes_eq}
+use Rattle.std.specs.Prelude.{◌||◌}
+use Rattle.std.specs.List.{list_any}
+use Rattle.std.specs.Str.{str_to_ascii_lowercase}
+use Rattle.std.proofs.lemmas.Slice.Eq.{bytes_eq-Decides}
+use Rattle.svf_reader.specs.Texts.{words, runs}
+use Rattle.svf_reader.specs.Commands.{says, says_one, begins_with_length, begins_with_on, headers, end_states, left_out_names, names_one, is_left_out, left_out}
+
+bytes_are : (xs ys : List ℕ) → bytes_eq xs ys ≡ true → xs ≡ ys
+bytes_are xs ys e = (bytes_eq-Decides xs ys).0 e
+
+-- whether a command is left out, by its first word in lower case
+abbrev left_lower : List ℕ → List ℕ → Bool
+left_lower w rest =
+    cond (list_any (λ name. bytes_eq w (str_to_ascii_lowercase name)) headers) (begins_with_length (words rest))
+    (cond (list_any (λ name. bytes_eq w (str_to_ascii_lowercase name)) (codes "PIO" ∷ codes "PIOMAP" ∷ [])) true
+    (cond (bytes_eq w (str_to_ascii_lowercase (codes "TRST"))) (begins_with_on (words rest))
+    (cond (bytes_eq w (str_to_ascii_lowercase (codes "STATE"))) (nat_le 2 (length (runs rest)) || names_one left_out_names (runs rest))
+    (cond (list_any (λ name. bytes_eq w (str_to_ascii_lowercase name)) (codes "RUNTEST" ∷ end_states)) (names_one (codes "RESET" ∷ []) (runs rest) || names_one left_out_names (runs rest)) false))))
+
+scan_lower : (w rest : List ℕ) (a b : Bool) → bytes_eq (str_to_ascii_lowercase w) (str_to_ascii_lowercase (codes "SDR")) ≡ a → bytes_eq (str_to_ascii_lowercase w) (str_to_ascii_lowercase (codes "SIR")) ≡ b → (a || (b || false)) ≡ true → left_lower (str_to_ascii_lowercase w) rest ≡ false
+scan_lower w rest true b ea eb either = ap (λ l. left_lower l rest) (bytes_are (str_to_ascii_lowercase w) (str_to_ascii_lowercase (codes "SDR")) ea)
+scan_lower w rest false true ea eb either = ap (λ l. left_lower l rest) (bytes_are (str_to_ascii_lowercase w) (str_to_ascii_lowercase (codes "SIR")) eb)
+scan_lower w rest false false ea eb either = absurd (cc)
+
+-- a scan isn't left out
+pub scan_kept : (w rest : List ℕ) (ws : List (List ℕ)) → says_one (codes "SDR" ∷ codes "SIR" ∷ []) w ≡ true → left_out (w ∷ ws) rest ≡ None
+unfolding is_left_out left_out
+scan_kept w rest ws is =
+    ap (λ k. cond k (Some w) (let o : Option (List ℕ) = None in o)) (scan_lower w rest (says (codes "SDR") w) (says (codes "SIR") w) refl refl is)
