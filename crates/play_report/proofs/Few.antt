@@ -6,78 +6,13 @@ use Rattle.svf_writer.specs.SeenCommands.{SIR, SDR, Reset, Idle, Run, SeenComman
 use Rattle.svf_writer.specs.Fits.{HasLength, TakesTdi, FitsAfter, AreFit, AreFitAfter}
 use Rattle.tap_machine.specs.declared.Stable.{Stable}
 use Rattle.tap_machine.specs.declared.Stable.TheVariants.{Reset as InReset, Idle as InIdle}
-use Rattle.tap_machine.specs.Play.{Kept as Held, Played, quiet, shifts, sdr_pins, sir_pins, to_idle, pins, pins_with, played, kept_now, nothing_kept, scans_in}
+use Rattle.tap_machine.specs.Play.{pins, scans_in}
+use Rattle.tap_machine.proofs.Clocks.{at_least, pins_are_clocks}
 use Rattle.svf_reader.specs.Meaning.{svf}
-use Rattle.svf_reader.specs.Scripts.{with_leave, clocks_from}
+use Rattle.svf_writer.specs.Clocks.{with_leave, clocks_from}
 use Rattle.svf_reader.proofs.Few.{read_commands_are_few as few_clocks}
 use Rattle.svf_reader.proofs.Following.{read_commands_fit}
 use Rattle.play_report.specs.Few.{ReadCommandsArePlayable}
-
-length-shifts : (scan k : ℕ) (ts : List Bool) (es : List (Option Bool)) → length (shifts scan k ts es) ≡ length ts
-length-shifts scan k [] es = refl
-length-shifts scan k (t ∷ ts) es = ap suc (length-shifts scan (suc k) ts _)
-
-length-sdr_pins : (scan : ℕ) (p : Played) → length (sdr_pins scan p) ≡ length p.tdi + 5
-length-sdr_pins scan p =
-    omega (arith, length-append (shifts scan 0 p.tdi p.expects) (map quiet (true ∷ false ∷ [])), length-shifts scan 0 p.tdi p.expects)
-
-length-sir_pins : (scan : ℕ) (p : Played) → length (sir_pins scan p) ≡ length p.tdi + 6
-length-sir_pins scan p =
-    omega (arith, length-append (shifts scan 0 p.tdi p.expects) (map quiet (true ∷ false ∷ [])), length-shifts scan 0 p.tdi p.expects)
-
-abbrev is_reset : Stable → Bool
-is_reset InReset = true
-is_reset InIdle = false
-
-length-to_idle : (from : Stable) (n : ℕ) → length (to_idle from) + n ≡ with_leave (is_reset from) n
-length-to_idle InReset n = omega arith
-length-to_idle InIdle n = omega arith
-
--- what is held of the last scan of a kind has its length
-abbrev IsHeld : Option ℕ → Held → Type 0
-IsHeld last held = (n : ℕ) → last ≡ Some n → length held.tdi ≡ n
-
-tdi_long : (last : Option ℕ) (held : Held) (o : Option (List Bool)) (n : ℕ) → IsHeld last held → HasLength n o → TakesTdi last o n → length (unwrap_or o held.tdi) ≡ n
-tdi_long last held None n is long taken = is n taken
-tdi_long last held (Some bits) n is long taken = long
-
-long_now : (last : Option ℕ) (held : Held) (s : SeenScan) → IsHeld last held → FitsAfter last s → length (unwrap_or s.tdi held.tdi) ≡ s.len
-long_now last held s is fits = tdi_long last held s.tdi s.len is fits.tdi fits.taken
-
-number_or : Option ℕ → ℕ
-number_or None = 0
-number_or (Some n) = n
-
-same_number : (m n : ℕ) → Some m ≡ Some n → m ≡ n
-unfolding number_or
-same_number m n e = ap number_or e
-
-held_now : (last : Option ℕ) (held : Held) (s : SeenScan) → IsHeld last held → FitsAfter last s → IsHeld (Some s.len) (kept_now held s)
-held_now last held s is fits = λ n e. long_now last held s is fits ∙ same_number s.len n e
-
-clocks_are : (cs : List SeenCommand) (li ld : Option ℕ) (ir dr : Held) (from : Stable) (scans : ℕ) → AreFitAfter li ld cs → IsHeld li ir → IsHeld ld dr → clocks_from (is_reset from) cs ≡ length (pins_with ir dr from scans cs)
-clocks_are [] li ld ir dr from scans fit hi hd = refl
-clocks_are (SIR s ∷ cs) li ld ir dr from scans fit hi hd =
-    let rest = pins_with (kept_now ir s) dr InIdle (suc scans) cs in
-    let here = sir_pins (suc scans) (played ir s) in
-    let later = clocks_are cs (Some s.len) ld (kept_now ir s) dr InIdle (suc scans) fit.1 (held_now li ir s hi fit.0) hd in
-    omega (arith, length-append (to_idle from) (here ++ rest), length-append here rest, length-sir_pins (suc scans) (played ir s), long_now li ir s hi fit.0, length-to_idle from (s.len + 6), later)
-clocks_are (SDR s ∷ cs) li ld ir dr from scans fit hi hd =
-    let rest = pins_with ir (kept_now dr s) InIdle (suc scans) cs in
-    let here = sdr_pins (suc scans) (played dr s) in
-    let later = clocks_are cs li (Some s.len) ir (kept_now dr s) InIdle (suc scans) fit.1 hi (held_now ld dr s hd fit.0) in
-    omega (arith, length-append (to_idle from) (here ++ rest), length-append here rest, length-sdr_pins (suc scans) (played dr s), long_now ld dr s hd fit.0, length-to_idle from (s.len + 5), later)
-clocks_are (Reset ∷ cs) li ld ir dr from scans fit hi hd = omega (arith, clocks_are cs li ld ir dr InReset scans fit hi hd)
-clocks_are (Idle ∷ cs) li ld ir dr from scans fit hi hd =
-    omega (arith, length-append (to_idle from) (pins_with ir dr InIdle scans cs), length-to_idle from 0, clocks_are cs li ld ir dr InIdle scans fit hi hd)
-clocks_are (Run n ∷ cs) li ld ir dr from scans fit hi hd =
-    let rest = pins_with ir dr InIdle scans cs in
-    let here = replicate n (quiet false) in
-    omega (arith, length-append (to_idle from) (here ++ rest), length-append here rest, length-replicate n (quiet false), length-to_idle from n, clocks_are cs li ld ir dr InIdle scans fit hi hd)
-
-at_least : (b : Bool) (n : ℕ) → n ≤ with_leave b n
-at_least true n = omega arith
-at_least false n = omega arith
 
 few_scans : (cs : List SeenCommand) (b : Bool) → scans_in cs ≤ clocks_from b cs
 few_scans [] b = omega arith
@@ -87,13 +22,10 @@ few_scans (Reset ∷ cs) b = omega (arith, few_scans cs true)
 few_scans (Idle ∷ cs) b = omega (arith, few_scans cs false)
 few_scans (Run n ∷ cs) b = omega (arith, few_scans cs false)
 
-nothing_held : IsHeld None nothing_kept
-nothing_held n e = absurd (let none : None ≡ Some n = e in cc)
-
 pub read_commands_are_playable : (src : List ℕ) (cs : List SeenCommand) → svf src ≡ Ok cs → AreFit cs → (length (pins InReset 0 cs) ≤ 1000000000) × (scans_in cs ≤ 1000000000)
 read_commands_are_playable src cs e fit =
     let few = few_clocks src cs e in
-    let count = clocks_are cs None None nothing_kept nothing_kept InReset 0 fit nothing_held nothing_held in
+    let count = pins_are_clocks cs InReset 0 fit in
     (omega (arith, few, count), omega (arith, few, few_scans cs true))
 
 pub all_are_playable : ReadCommandsArePlayable

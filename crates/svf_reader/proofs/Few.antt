@@ -7,8 +7,9 @@ use Rattle.svf_reader.specs.declared.parsed.Register.{Register}
 use Rattle.svf_reader.specs.declared.parsed.Register.TheVariants.{Instruction, Data}
 use Rattle.svf_reader.specs.Commands.{SeenParsed, Scans, ToReset, ToIdle, Runs, NoEffect, Parts, command_of_words, left_out}
 use Rattle.svf_reader.specs.Texts.{words, behind_word, texts, plain, blanks}
+use Rattle.svf_writer.specs.Clocks.{clocks_from}
 use Rattle.svf_reader.specs.Meaning.{Cause, SvfLimit, SvfSyntax, HexWide, TdiMissing, LeftOut, Refusal, Step, at_first, with_length, last_length, with_leaving_clock, scan_clocks, within_clock_limit, any_wide, tdi_missing, scan_with, scan_command, scanned, effect_of, if_parsed, unless_left_out, read_command, listed, in_front_of, at_end, and_then, read_from, svf}
-use Rattle.svf_reader.specs.Scripts.{clocks_from, ReadCommandsAreFew}
+use Rattle.svf_reader.specs.Scripts.{ReadCommandsAreFew}
 
 -- ---- one command
 

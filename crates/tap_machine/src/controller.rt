@@ -8,7 +8,9 @@ use std::marker::Model;
 /// One clock of the controller: the state in which it came, and the state to which it led.
 #[derive(Clone, Copy, PartialEq, Eq, Debug)]
 pub struct Act {
+    /// The state in which the clock came.
     pub before: TapState,
+    /// The state to which it led.
     pub after: TapState,
 }
 
