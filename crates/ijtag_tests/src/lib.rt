@@ -11,3 +11,5 @@ mod largest;
 mod names_and_numbers;
 #[cfg(test)]
 mod pdl_texts;
+#[cfg(test)]
+mod svf_texts;

@@ -3,7 +3,8 @@ use Rattle.std.proofs.Common.{◌≡◌, ℕ, zero, suc, ◌<◌, Bool, true, fa
 use Rattle.std.specs.Prelude.{◌==◌, ◌||◌}
 use Rattle.std.proofs.lemmas.Bool.Decides.{nat_tests}
 use Rattle.svf_reader.specs.declared.bytes.Class.TheVariants.{Gap, Command}
-use Rattle.svf_reader.specs.Texts.{first, in_comment, plain_from, plain, is_blank, blanks, in_front, texts}
+use Rattle.ij_text.specs.Bytes.{is_blank}
+use Rattle.svf_reader.specs.Texts.{first, in_comment, plain_from, plain, blanks, in_front, texts}
 use Rattle.svf_reader.specs.Reading.{run_length}
 
 -- ---- the blanks at the front

@@ -4,7 +4,8 @@ use Rattle.std.specs.Prelude.{◌==◌, ◌&&◌, ◌||◌}
 use Rattle.std.proofs.lemmas.Bool.Decides.{nat_tests}
 use Rattle.svf_writer.specs.Written.{text_of}
 use Rattle.svf_reader.specs.declared.so_far.ReadSoFar.{ReadSoFar}
-use Rattle.svf_reader.specs.Texts.{first, opens, in_comment, plain_from, plain, texts, is_blank}
+use Rattle.ij_text.specs.Bytes.{is_blank}
+use Rattle.svf_reader.specs.Texts.{first, opens, in_comment, plain_from, plain, texts}
 use Rattle.svf_reader.specs.Meaning.{read_from}
 use Rattle.svf_reader.specs.Scripts.{IsGapFrom, CommandsAreReadAgain}
 use Rattle.svf_reader.proofs.Rereading.{blank_front, written_read}

@@ -1,12 +1,12 @@
 -- Gaps and words at the front of a text.
-use Rattle.std.proofs.Common.{◌≡◌, ℕ, zero, suc, ◌+◌, ◌<◌, ◌≤◌, Bool, true, false, not, cond, List, [], ◌∷◌, ◌++◌, length, take, drop, refl, ap, sym, ◌∙◌, subst, arith, get_or}
+use Rattle.std.proofs.Common.{◌≡◌, ℕ, zero, suc, ◌+◌, ◌<◌, ◌≤◌, Bool, true, false, not, cond, List, [], ◌∷◌, length, take, drop, refl, ap, sym, ◌∙◌, subst, arith, get_or}
 use Rattle.std.specs.Prelude.{◌==◌, ◌&&◌, ◌||◌}
-use Rattle.std.proofs.lemmas.List.{take_more, drop_more}
+use Rattle.std.proofs.lemmas.List.{drop_more}
 use Rattle.std.proofs.lemmas.Bool.Decides.{nat_tests}
-use Rattle.ij_text.specs.declared.Place.{Place}
 use Rattle.svf_reader.specs.declared.bytes.Class.{Class}
 use Rattle.svf_reader.specs.declared.bytes.Class.TheVariants.{Gap, Word, Run}
-use Rattle.svf_reader.specs.Texts.{first, in_comment, plain_from, plain, is_blank, is_mark, is_any, in_word, goes_on, longer, cut, behind_bytes, behind_word, next_place, place_behind, place_at, first_place}
+use Rattle.ij_text.specs.Bytes.{is_blank}
+use Rattle.svf_reader.specs.Texts.{first, in_comment, plain_from, plain, is_mark, is_any, in_word, goes_on, longer, cut, behind_bytes, behind_word}
 use Rattle.svf_reader.specs.Reading.{in_class, run_length, word_length, words_of, runs_of}
 
 -- ---- one step of a run
@@ -235,12 +235,3 @@ behind_is (b ∷ bs) n none is =
     ∙ ap (λ k. cond k (behind_word (plain bs)) (cond (is_mark b) (plain bs) (behind_bytes (plain bs)))) free.1
     ∙ behind_front b bs (is_mark b) refl free.0 free.1
     ∙ ap (λ k. plain (drop k (b ∷ bs))) (sym is)
-
--- ---- places
-
-place_push : (p : Place) (xs : List ℕ) (b : ℕ) → place_behind p (xs ++ b ∷ []) ≡ next_place (place_behind p xs) b
-place_push p [] b = refl
-place_push p (x ∷ xs) b = place_push (next_place p x) xs b
-
-pub place_more : (text : List ℕ) (n : ℕ) → n < length text → place_at text (n + 1) ≡ next_place (place_at text n) (get_or text n 0)
-place_more text n within = ap (place_behind first_place) (take_more text n 0 within) ∙ place_push first_place (take n text) (get_or text n 0)

@@ -8,7 +8,7 @@ use Rattle.svf_reader.specs.declared.fault.SvfFault.TheVariants.{LeftOut as Faul
 use Rattle.svf_reader.specs.declared.fault.SvfCause.{SvfCause}
 use Rattle.svf_reader.specs.declared.fault.SvfCause.TheVariants.{LeftOut as IsLeftOut, SvfSyntax as Syntax, SvfLimit as Limit, HexWide as Wide, TdiMissing as NoTdi, OutOfMemory}
 use Rattle.svf_reader.specs.Meaning.{Cause, LeftOut, SvfSyntax, SvfLimit, HexWide, TdiMissing, part_wide, part_of, svf}
-use Rattle.svf_reader.specs.Texts.{place_at}
+use Rattle.ij_text.specs.Places.{place_at}
 
 -- the cause, unless memory ran out
 abbrev pub Fails : {Y : Type 0} → SvfCause → Result Y Cause → Type 0

@@ -2,7 +2,8 @@
 use Rattle.std.specs.Prelude.{ℕ, suc, ◌==◌, Bool, false, not, ◌&&◌, ◌||◌, cond, List, [], ◌∷◌}
 use Rattle.svf_reader.specs.declared.bytes.Class.{Class}
 use Rattle.svf_reader.specs.declared.bytes.Class.TheVariants.{Gap, Word, Run, Command}
-use Rattle.svf_reader.specs.Texts.{first, in_comment, is_blank, is_mark, in_word, is_any, words, runs, plain}
+use Rattle.ij_text.specs.Bytes.{is_blank}
+use Rattle.svf_reader.specs.Texts.{first, in_comment, is_mark, in_word, is_any, words, runs, plain}
 
 abbrev pub in_class : Class → Bool → ℕ → Bool
 in_class Gap hidden b = hidden || is_blank b

@@ -1,6 +1,6 @@
 -- How an SVF text falls into comments, commands and words (Serial Vector Format, revision E).
-use Rattle.std.specs.Prelude.{ℕ, suc, ◌==◌, Bool, true, false, not, ◌&&◌, ◌||◌, cond, List, [], ◌∷◌, take}
-use Rattle.ij_text.specs.declared.Place.{Place}
+use Rattle.std.specs.Prelude.{ℕ, suc, ◌==◌, Bool, true, false, not, ◌&&◌, ◌||◌, cond, List, [], ◌∷◌}
+use Rattle.ij_text.specs.Bytes.{is_blank}
 
 -- ---- comments
 
@@ -40,10 +40,6 @@ texts [] = [] ∷ []
 texts (b ∷ bs) = cond (b == 59) ([] ∷ texts bs) (in_front b (texts bs))
 
 -- ---- words
-
--- spaces, tabs and line ends
-abbrev pub is_blank : ℕ → Bool
-is_blank b = b == 32 || (b == 9 || (b == 10 || b == 13))
 
 -- parentheses
 abbrev pub is_mark : ℕ → Bool
@@ -95,21 +91,3 @@ behind_word (b ∷ bs) = cond (is_blank b) (behind_word bs) (cond (is_mark b) bs
 abbrev pub blanks : List ℕ → ℕ
 blanks [] = 0
 blanks (b ∷ bs) = cond (is_blank b) (suc (blanks bs)) 0
-
--- ---- places
-
-abbrev pub first_place : Place
-first_place = record { line = 1; col = 1 }
-
--- behind a line feed (10) a line begins
-abbrev pub next_place : Place → ℕ → Place
-next_place p b = cond (b == 10) (record { line = suc p.line; col = 1 }) (record { line = p.line; col = suc p.col })
-
--- the place of the byte behind some bytes that begin at a place
-abbrev pub place_behind : Place → List ℕ → Place
-place_behind p [] = p
-place_behind p (b ∷ bs) = place_behind (next_place p b) bs
-
--- the place of a byte
-abbrev pub place_at : List ℕ → ℕ → Place
-place_at text n = place_behind first_place (take n text)

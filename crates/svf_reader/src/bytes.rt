@@ -1,9 +1,10 @@
-// Classes of bytes, runs of them, and the places of bytes.
+// Classes of bytes, and runs of them.
 ghost use Rattle.std.specs.Prelude.{◌≡◌, ◌+◌, ◌^◌, ◌<◌, ◌≤◌, false, drop, length, take};
 ghost use Rattle.svf_reader.specs.Reading.{in_class, run_length};
-ghost use Rattle.svf_reader.specs.Texts.{first, in_comment, is_blank, is_mark, next_place, place_at};
+ghost use Rattle.ij_text.specs.Bytes.{is_blank};
+ghost use Rattle.svf_reader.specs.Texts.{first, in_comment, is_mark};
 
-use ij_text::Place;
+use ij_text::is_blank;
 
 /// What a run of bytes is made of.
 #[derive(Clone, Copy)]
@@ -16,12 +17,6 @@ pub(crate) enum Class {
     Run,
     /// All but a `;` outside of comments.
     Command,
-}
-
-fn is_blank(b: u8) -> bool
-    ensures { result ≡ is_blank b }
-{
-    b == b' ' || b == b'\t' || b == b'\n' || b == b'\r'
 }
 
 pub(crate) fn is_mark(b: u8) -> bool
@@ -79,38 +74,4 @@ pub(crate) fn run_len(text: &[u8], class: Class) -> usize
         n += 1;
     }
     n
-}
-
-/// The place behind a byte.
-fn next_place(at: Place, b: u8) -> Place
-    requires column { 1 ≤ at.col }
-    requires fits { at.line + at.col + 1 < 2 ^ 32 }
-    ensures value { result ≡ next_place at b }
-    ensures column { 1 ≤ result.col }
-    ensures sum { result.line + result.col ≤ at.line + at.col + 1 }
-{
-    if b == b'\n' {
-        Place {
-            line: at.line + 1,
-            col: 1,
-        }
-    } else {
-        Place {
-            line: at.line,
-            col: at.col + 1,
-        }
-    }
-}
-
-/// The place of the byte at an index.
-pub(crate) fn place_at(text: &[u8], n: usize) -> Place
-    requires within { n ≤ length text.now }
-    requires short { length text.now < 2 ^ 31 }
-    ensures { result ≡ place_at text.now n }
-{
-    let mut at = Place { line: 1, col: 1 };
-    for i in 0..n {
-        at = next_place(at, text[i]);
-    }
-    at
 }

@@ -5,7 +5,6 @@ ghost use Rattle.svf_reader.specs.declared.fault.SvfCause.TheVariants as cause;
 
 use ij_bits::OutOfMemory;
 use ij_text::{Name, Place};
-use std::alloc::{AllocError, AllocFailed};
 
 /// Why an SVF text is refused: the cause of the first command at fault, and the place of that command's first byte.
 #[derive(Drop)]
@@ -47,22 +46,6 @@ impl From<OutOfMemory> for SvfCause {
     ghost from_gives = { λ _ e. e ≡ cause.OutOfMemory };
 
     fn from(_: OutOfMemory) -> Self {
-        SvfCause::OutOfMemory
-    }
-}
-
-impl From<AllocError> for SvfCause {
-    ghost from_gives = { λ _ e. e ≡ cause.OutOfMemory };
-
-    fn from(_: AllocError) -> Self {
-        SvfCause::OutOfMemory
-    }
-}
-
-impl<T: Drop> From<AllocFailed<T>> for SvfCause {
-    ghost from_gives = { λ _ e. e ≡ cause.OutOfMemory };
-
-    fn from(_: AllocFailed<T>) -> Self {
         SvfCause::OutOfMemory
     }
 }

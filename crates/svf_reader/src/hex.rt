@@ -10,9 +10,9 @@ ghost use Rattle.svf_reader.specs.Seen.{digits_of};
 use crate::fault::SvfCause;
 use crate::pieces::next_word;
 use crate::words::is_close;
-use ij_bits::Bits;
+use ij_bits::{Bits, OutOfMemory};
 use ij_text::hex_value;
-use std::alloc::{AllocError, Global};
+use std::alloc::Global;
 
 /// A digit's value, found without asking whether it is a letter; 16 is as 0.
 fn digit_value(b: u8) -> u8
@@ -134,7 +134,7 @@ fn lone_word(text: &[u8]) -> Option<&[u8]>
 }
 
 /// The digits of a hexadecimal text up to its `)`.
-fn gathered(alloc: Global, text: &[u8]) -> Result<Vec<u8>, AllocError>
+fn gathered(alloc: Global, text: &[u8]) -> Result<Vec<u8>, OutOfMemory>
     ensures { IfOk result (λ digits. digits.items ≡ digits_of text.now) }
 {
     let mut digits = Vec::new(alloc);

@@ -12,8 +12,6 @@ mod parsed;
 mod pieces;
 mod reading;
 mod so_far;
-#[cfg(test)]
-mod tests;
 mod words;
 
 pub use fault::SvfFault;

@@ -13,7 +13,8 @@ use crate::hex::text_bits;
 use crate::left_out::left_out;
 use crate::parsed::{Parsed, PartTexts, Register};
 use crate::so_far::ReadSoFar;
-use ij_bits::{Bits, List};
+use ij_bits::Bits;
+use ij_text::{CLOCK_LIMIT, SCAN_LIMIT, name_of};
 use std::alloc::Global;
 use svf_writer::{Command, Scan};
 
@@ -125,7 +126,7 @@ fn within_clock_limit(
     ensures { Gives seen_step result (within_clock_limit kept in_reset n (seen_command command)) }
 {
     let clocks = u64::from(kept.clocks) + n;
-    if clocks > 1_000_000_000 {
+    if clocks > u64::from(CLOCK_LIMIT) {
         return Err(SvfCause::SvfLimit);
     }
     let clocks = clocks as u32;
@@ -150,7 +151,7 @@ fn scanned(
 ) -> Result<Outcome, SvfCause>
     ensures { Gives seen_step result (scanned kept register len (seen_parts parts.entry)) }
 {
-    if len > 65536 {
+    if len > u64::from(SCAN_LIMIT) {
         return Err(SvfCause::SvfLimit);
     }
     let len = len as u32;
@@ -171,7 +172,7 @@ fn scanned(
 fn run(kept: ReadSoFar, cycles: u64) -> Result<Outcome, SvfCause>
     ensures { Gives seen_step result (effect_of kept (Runs cycles)) }
 {
-    if cycles > 1_000_000_000 {
+    if cycles > u64::from(CLOCK_LIMIT) {
         return Err(SvfCause::SvfLimit);
     }
     within_clock_limit(
@@ -210,8 +211,7 @@ pub(crate) fn read_command(
     ensures { Gives seen_step result (read_command kept ended (plain text.now)) }
 {
     if let Some(word) = left_out(text) {
-        let word = Vec::from_slice(alloc, word)?;
-        return Err(SvfCause::LeftOut(List::from(word)));
+        return Err(SvfCause::LeftOut(name_of(alloc, word)?));
     }
     if !ended {
         return Err(SvfCause::SvfSyntax);

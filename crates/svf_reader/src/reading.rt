@@ -6,15 +6,16 @@ ghost use Rattle.svf_writer.specs.Fits.{AreFit};
 ghost use Rattle.svf_writer.specs.SeenCommands.{seen_command};
 ghost use Rattle.svf_reader.specs.Answers.{AtPlace, Refuses, IsRefused};
 ghost use Rattle.svf_reader.specs.Meaning.{Refusal, LeftOut, SvfSyntax, SvfLimit, HexWide, TdiMissing, listed, svf};
-ghost use Rattle.svf_reader.specs.Texts.{plain, texts, blanks, place_at};
+ghost use Rattle.ij_text.specs.Places.{place_at};
+ghost use Rattle.svf_reader.specs.Texts.{plain, texts, blanks};
 
-use crate::bytes::{Class, place_at, run_len};
+use crate::bytes::{Class, run_len};
 use crate::fault::{SvfCause, SvfFault};
 use crate::meaning::read_command;
 use crate::pieces::{Piece, next_word};
 use crate::so_far::ReadSoFar;
 use ij_bits::OutOfMemory;
-use ij_text::Place;
+use ij_text::{Place, place_at};
 use std::alloc::Global;
 use svf_writer::{Command, Commands};
 

@@ -17,13 +17,13 @@ returns-in_err-scan c =
     let p = seen_parts c.args.parts in
     let at = err_from_is_err_and c.from_residual.result c.from_residual.ensures.1 in
     rw (at.1, at.2) (fails_on c.in_err-scan.field-0.0 (scan_value c.args.len p) (scanned c.args.kept c.args.register c.args.len p) c.in_err-scan.ensures
-    (λ cause e. scanned_err c.args.kept c.args.register c.args.len p cause (below c.args.len c.if-len-gt65536.false) e))
+    (λ cause e. scanned_err c.args.kept c.args.register c.args.len p cause (below c.args.len (omega (arith, c.from.ensures, c.if-len-from.false))) e))
 
 pub returns-then-tdi_missing : goal.returns-then-tdi_missing
 returns-then-tdi_missing c =
     let p = seen_parts c.args.parts in
     let missing = ap (λ l. tdi_missing l c.args.len p) (sym c.last_length.ensures) ∙ sym c.tdi_missing.ensures ∙ c.if-tdi_missing.true in
-    scanned_ok_at c.args.kept c.args.register c.args.len p (seen_scan c.in_ok-scan.scan) true (below c.args.len c.if-len-gt65536.false) c.in_ok-scan.ensures missing
+    scanned_ok_at c.args.kept c.args.register c.args.len p (seen_scan c.in_ok-scan.scan) true (below c.args.len (omega (arith, c.from.ensures, c.if-len-from.false))) c.in_ok-scan.ensures missing
 
 pub returns : goal.returns
 returns c =
@@ -32,7 +32,7 @@ returns c =
     let register = c.args.register in
     let len = c.args.len in
     let there = ap (λ l. tdi_missing l len p) (sym c.last_length.ensures) ∙ sym c.tdi_missing.ensures ∙ c.if-tdi_missing.false in
-    let is = scanned_ok_at kept register len p (seen_scan c.in_ok-scan.scan) false (below len c.if-len-gt65536.false) c.in_ok-scan.ensures there in
+    let is = scanned_ok_at kept register len p (seen_scan c.in_ok-scan.scan) false (below len (omega (arith, c.from.ensures, c.if-len-from.false))) c.in_ok-scan.ensures there in
     let n = c.with_leaving_clock-clocks.ensures ∙ ap (with_leaving_clock kept) c.scan_clocks.ensures in
     let read : within_clock_limit c.with_length.result false c.with_leaving_clock-clocks.result (seen_command c.scan_command.result) ≡ within_clock_limit (with_length register len kept) false (with_leaving_clock kept (scan_clocks register len)) (scan_command register (seen_scan c.in_ok-scan.scan)) =
     ap (λ (k : ReadSoFar). within_clock_limit k false c.with_leaving_clock-clocks.result (seen_command c.scan_command.result)) c.with_length.ensures

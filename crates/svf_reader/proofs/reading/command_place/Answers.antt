@@ -1,5 +1,5 @@
 use Rattle.std.proofs.Common.{◌+◌, ◌-◌, length, false, ap, sym, ◌∙◌}
-use Rattle.svf_reader.specs.Texts.{place_at}
+use Rattle.ij_text.specs.Places.{place_at}
 use Rattle.svf_reader.proofs.Cuts.{blanks_are}
 use Rattle.svf_reader.proofs.reading.command_place.Goals as goal
 
