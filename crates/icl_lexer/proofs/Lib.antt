@@ -1,4 +1,5 @@
 pub mod Matches
+pub mod Short
 pub mod Cuts
 pub mod Unique
 pub mod Total

@@ -1,10 +1,12 @@
 // The piece at the front of a text.
-ghost use Rattle.std.specs.Prelude.{◌≡◌, length, option_map, IfSome, IfNone};
+ghost use Rattle.std.specs.Prelude.{◌≡◌, ◌≤◌, length, option_map, IfSome, IfNone};
+ghost use Rattle.ij_text.specs.Words.{in_name};
 ghost use Rattle.icl_lexer.specs.Cutting.{IsPiece, NoPiece, opens_block, opens_comment};
-ghost use Rattle.icl_lexer.specs.Matches.{longest_match, longer};
+ghost use Rattle.icl_lexer.specs.Matches.{longest_match, longer, run_len};
 
-use crate::state::State;
-use crate::token::Kind;
+use crate::state::{State, begin};
+use crate::token::{Kind, TokenKind};
+use ij_text::in_name;
 
 /// So many bytes at the front of a text are a piece.
 #[derive(Clone, Copy)]
@@ -52,11 +54,43 @@ fn longest_match(text: &[u8]) -> Option<Match>
     found
 }
 
+/// How many bytes at the front of a text are bytes of a name.
+fn name_len(text: &[u8]) -> usize
+    ensures counted { result ≡ run_len in_name text.now }
+    ensures within { result ≤ length text.now }
+{
+    let mut n = 0;
+    while n < text.len() && in_name(text[n]) {
+        n += 1;
+    }
+    n
+}
+
+/// The piece with which a text begins, where its first byte tells it: a blank, a word, or a mark that is no `/`.
+fn short_piece(text: &[u8]) -> Option<Match>
+    ensures { IfSome result (λ p. IsPiece text.now p.kind p.len) }
+{
+    match text {
+        [b, rest @ ..] => match begin(*b) {
+            State::Whole(kind) => Some(Match { kind, len: 1 }),
+            State::Word => Some(Match {
+                kind: Kind::Is(TokenKind::Word),
+                len: 1 + name_len(rest),
+            }),
+            _ => None,
+        },
+        [] => None,
+    }
+}
+
 /// The piece with which a text begins, if there is one.
 pub(crate) fn first_piece(text: &[u8]) -> Option<Match>
     ensures some { IfSome result (λ p. IsPiece text.now p.kind p.len) }
     ensures none { IfNone result (NoPiece text.now) }
 {
+    if let Some(found) = short_piece(text) {
+        return Some(found);
+    }
     let found = longest_match(text)?;
     if found.len == 1 && opens_comment(text) {
         return None;
