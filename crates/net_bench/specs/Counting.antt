@@ -6,15 +6,15 @@ use Rattle.instruments.specs.declared.Counts.{Counts}
 use Rattle.instruments.specs.Machine.{Event, Machine, count_log, tally, whole_log}
 use Rattle.instruments.specs.OnNetwork.{Running}
 use Rattle.svf_writer.specs.SeenCommands.{SeenCommand}
-use Rattle.net_bench.specs.Bench.{Chip, State, clock, power_up, sound, tdo}
+use Rattle.net_bench.specs.Bench.{Chip, State, clock, power_up, fault_free, tdo}
 use Rattle.net_bench.specs.Playing.{compares_from, play_from}
 
 -- the device that keeps the list of an instrument's events, and the one that counts them
 abbrev pub listing : Net → Device → List Machine → Chip (List Event)
-listing net device machines = sound whole_log net device machines
+listing net device machines = fault_free whole_log net device machines
 
 abbrev pub counting : Net → Device → List Machine → Chip Counts
-counting net device machines = sound count_log net device machines
+counting net device machines = fault_free count_log net device machines
 
 -- an instrument, and a state, with counts in place of lists
 abbrev pub tallied : Running (List Event) → Running Counts

@@ -5,7 +5,7 @@ use Rattle.net_graph.specs.OneRegister.{plain_net}
 use Rattle.instruments.specs.declared.Counts.{Counts}
 use Rattle.instruments.specs.Machine.{count_log}
 use Rattle.tap_machine.specs.declared.TapState.{TapState}
-use Rattle.net_bench.specs.Bench.{Chip, State, sound}
+use Rattle.net_bench.specs.Bench.{Chip, State, fault_free}
 use Rattle.net_bench.specs.Instruction.{Selected, Network as SelectsNetwork, Identity as SelectsIdentity, Bypass as SelectsBypass, selected}
 use Rattle.net_bench.specs.declared.circuit.Circuit.{Circuit}
 use Rattle.net_bench.specs.declared.circuit.DataRegister.{DataRegister}
@@ -19,7 +19,7 @@ pub record SeenFlat : Type 0 where
 
 -- the device with its network of one register, and no instruments
 abbrev pub flat_chip : ℕ → Device → Chip Counts
-flat_chip width device = sound count_log (plain_net width) device []
+flat_chip width device = fault_free count_log (plain_net width) device []
 
 -- a state of it, by the bits of each register
 abbrev pub flat_state : TapState → List Bool → List Bool → Bool → List Bool → List Bool → List Bool → State Counts

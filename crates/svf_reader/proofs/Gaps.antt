@@ -3,7 +3,7 @@ use Rattle.std.proofs.Common.{◌≡◌, ℕ, suc, ◌+◌, Bool, true, false, c
 use Rattle.std.specs.Prelude.{◌==◌, ◌&&◌, ◌||◌}
 use Rattle.std.proofs.lemmas.Bool.Decides.{nat_tests}
 use Rattle.svf_writer.specs.Written.{text_of}
-use Rattle.svf_reader.specs.declared.kept.Kept.{Kept}
+use Rattle.svf_reader.specs.declared.so_far.ReadSoFar.{ReadSoFar}
 use Rattle.svf_reader.specs.Texts.{first, opens, in_comment, plain_from, plain, texts, is_blank}
 use Rattle.svf_reader.specs.Meaning.{read_from}
 use Rattle.svf_reader.specs.Scripts.{IsGapFrom, CommandsAreReadAgain}
@@ -35,11 +35,11 @@ same_comment false b [] xs h =
     let blank = or_right (opens b 0) (is_blank b) h.0 h.1 in
     blank_opens b (first xs) blank ∙ sym (blank_opens b 0 blank)
 
-byte_front : (hidden : Bool) (b : ℕ) → (hidden || is_blank b) ≡ true → (kept : Kept) (at : ℕ) (xs : List ℕ) → read_from kept at (texts (cond hidden 32 b ∷ xs)) ≡ read_from kept (suc at) (texts xs)
+byte_front : (hidden : Bool) (b : ℕ) → (hidden || is_blank b) ≡ true → (kept : ReadSoFar) (at : ℕ) (xs : List ℕ) → read_from kept at (texts (cond hidden 32 b ∷ xs)) ≡ read_from kept (suc at) (texts xs)
 byte_front true b h kept at xs = blank_front kept at 32 xs refl refl
 byte_front false b h kept at xs = blank_front kept at b xs h (other b h).end
 
-gap_read : (inside : Bool) (gap xs : List ℕ) → IsGapFrom inside gap → (kept : Kept) (at : ℕ) → read_from kept at (texts (plain_from inside (gap ++ xs))) ≡ read_from kept (at + length gap) (texts (plain xs))
+gap_read : (inside : Bool) (gap xs : List ℕ) → IsGapFrom inside gap → (kept : ReadSoFar) (at : ℕ) → read_from kept at (texts (plain_from inside (gap ++ xs))) ≡ read_from kept (at + length gap) (texts (plain xs))
 gap_read inside [] xs h kept at =
     let same : at ≡ at + 0 = omega arith in
     ap (λ k. read_from kept at (texts (plain_from k xs))) h ∙ ap (λ n. read_from kept n (texts (plain xs))) same

@@ -5,7 +5,7 @@ use Rattle.std.specs.List.{list_any}
 use Rattle.std.specs.Str.{str_to_ascii_lowercase}
 use Rattle.std.proofs.lemmas.Slice.Eq.{bytes_eq-Decides}
 use Rattle.svf_reader.specs.Texts.{words, runs}
-use Rattle.svf_reader.specs.Commands.{says, says_one, begins_with_length, begins_with_on, headers, end_states, left_out_names, names_one, is_left_out, left_out}
+use Rattle.svf_reader.specs.Commands.{is_word, is_one_of, begins_with_length, begins_with_on, headers, end_states, left_out_names, any_is_one_of, is_left_out, left_out}
 
 bytes_are : (xs ys : List ℕ) → bytes_eq xs ys ≡ true → xs ≡ ys
 bytes_are xs ys e = (bytes_eq-Decides xs ys).0 e
@@ -16,8 +16,8 @@ left_lower w rest =
     cond (list_any (λ name. bytes_eq w (str_to_ascii_lowercase name)) headers) (begins_with_length (words rest))
     (cond (list_any (λ name. bytes_eq w (str_to_ascii_lowercase name)) (codes "PIO" ∷ codes "PIOMAP" ∷ [])) true
     (cond (bytes_eq w (str_to_ascii_lowercase (codes "TRST"))) (begins_with_on (words rest))
-    (cond (bytes_eq w (str_to_ascii_lowercase (codes "STATE"))) (nat_le 2 (length (runs rest)) || names_one left_out_names (runs rest))
-    (cond (list_any (λ name. bytes_eq w (str_to_ascii_lowercase name)) (codes "RUNTEST" ∷ end_states)) (names_one (codes "RESET" ∷ []) (runs rest) || names_one left_out_names (runs rest)) false))))
+    (cond (bytes_eq w (str_to_ascii_lowercase (codes "STATE"))) (nat_le 2 (length (runs rest)) || any_is_one_of left_out_names (runs rest))
+    (cond (list_any (λ name. bytes_eq w (str_to_ascii_lowercase name)) (codes "RUNTEST" ∷ end_states)) (any_is_one_of (codes "RESET" ∷ []) (runs rest) || any_is_one_of left_out_names (runs rest)) false))))
 
 scan_lower : (w rest : List ℕ) (a b : Bool) → bytes_eq (str_to_ascii_lowercase w) (str_to_ascii_lowercase (codes "SDR")) ≡ a → bytes_eq (str_to_ascii_lowercase w) (str_to_ascii_lowercase (codes "SIR")) ≡ b → (a || (b || false)) ≡ true → left_lower (str_to_ascii_lowercase w) rest ≡ false
 scan_lower w rest true b ea eb either = ap (λ l. left_lower l rest) (bytes_are (str_to_ascii_lowercase w) (str_to_ascii_lowercase (codes "SDR")) ea)
@@ -25,7 +25,7 @@ scan_lower w rest false true ea eb either = ap (λ l. left_lower l rest) (bytes_
 scan_lower w rest false false ea eb either = absurd (cc)
 
 -- a scan isn't left out
-pub scan_kept : (w rest : List ℕ) (ws : List (List ℕ)) → says_one (codes "SDR" ∷ codes "SIR" ∷ []) w ≡ true → left_out (w ∷ ws) rest ≡ None
+pub scan_kept : (w rest : List ℕ) (ws : List (List ℕ)) → is_one_of (codes "SDR" ∷ codes "SIR" ∷ []) w ≡ true → left_out (w ∷ ws) rest ≡ None
 unfolding is_left_out left_out
 scan_kept w rest ws is =
-    ap (λ k. cond k (Some w) (let o : Option (List ℕ) = None in o)) (scan_lower w rest (says (codes "SDR") w) (says (codes "SIR") w) refl refl is)
+    ap (λ k. cond k (Some w) (let o : Option (List ℕ) = None in o)) (scan_lower w rest (is_word (codes "SDR") w) (is_word (codes "SIR") w) refl refl is)

@@ -10,13 +10,13 @@ use Rattle.std.proofs.lemmas.Fmt.{decimal_nonempty}
 use Rattle.svf_writer.specs.SeenCommands.{SeenScan, SeenCommand, SIR, SDR, Reset, Idle, Run}
 use Rattle.svf_writer.specs.Fits.{HasLength, IsWrittenScan, IsWrittenCommand}
 use Rattle.svf_writer.specs.Written.{hex_text, part, scan_text, text_of}
-use Rattle.svf_reader.specs.declared.said.Register.{Register}
-use Rattle.svf_reader.specs.declared.said.Register.TheVariants.{Instruction, Data}
-use Rattle.svf_reader.specs.declared.kept.Kept.{Kept}
+use Rattle.svf_reader.specs.declared.parsed.Register.{Register}
+use Rattle.svf_reader.specs.declared.parsed.Register.TheVariants.{Instruction, Data}
+use Rattle.svf_reader.specs.declared.so_far.ReadSoFar.{ReadSoFar}
 use Rattle.svf_reader.specs.Texts.{plain, texts, is_blank, is_mark, is_any, goes_on, longer, in_front, cut, words, runs, behind_bytes, behind_word, blanks}
-use Rattle.svf_reader.specs.Commands.{Parts, SaidBy, Scans, ToReset, ToIdle, Runs, says, names_one, no_parts, with_part, both, one_part, then_parts, parts, behind_hex, scan_of, scan, state, cycles, run_test, said_by, said, left_out_names, is_left_out, left_out}
+use Rattle.svf_reader.specs.Commands.{Parts, SeenParsed, Scans, ToReset, ToIdle, Runs, is_word, any_is_one_of, no_parts, with_part, both, one_part, then_parts, parts, behind_hex, scan_of, scan, state, cycles, run_test, parsed_by, command_of_words, left_out_names, is_left_out, left_out}
 use Rattle.svf_reader.specs.Values.{fitted, hex_bits, is_wide}
-use Rattle.svf_reader.specs.Meaning.{Cause, SvfSyntax, SvfLimit, HexWide, Step, with_length, leaving, scan_clocks, clocked, part_wide, part_of, any_wide, scan_with, scan_command, scanned, done, if_said, unless_left_out, comes_to, at_end, and_then, read_from}
+use Rattle.svf_reader.specs.Meaning.{Cause, SvfSyntax, SvfLimit, HexWide, Step, with_length, with_leaving_clock, scan_clocks, within_clock_limit, part_wide, part_of, any_wide, scan_with, scan_command, scanned, effect_of, if_parsed, unless_left_out, read_command, at_end, and_then, read_from}
 use Rattle.svf_reader.specs.Scripts.{again}
 use Rattle.svf_reader.proofs.Whole.{texts_some, read_more}
 use Rattle.svf_reader.proofs.Digits.{is_quiet, AreDecimal, decimal_written, number_again, hex_list, stands}
@@ -28,35 +28,35 @@ blank_cut : (alone : ℕ → Bool) (b : ℕ) (t : List ℕ) → is_blank b ≡ t
 blank_cut alone b t h =
     ap (λ k. cond k (cut alone t) (cond (alone b) ((b ∷ []) ∷ cut alone t) (longer (goes_on alone t) b (cut alone t)))) h
 
-same_words : (kept : Kept) (ended : Bool) (t u : List ℕ) (o : Option (List ℕ)) → words t ≡ words u → unless_left_out kept ended t o ≡ unless_left_out kept ended u o
+same_words : (kept : ReadSoFar) (ended : Bool) (t u : List ℕ) (o : Option (List ℕ)) → words t ≡ words u → unless_left_out kept ended t o ≡ unless_left_out kept ended u o
 same_words kept ended t u (Some w) e = refl
 same_words kept ended t u None e =
-    ap (λ ws. cond ended (if_said kept (said ws)) (let r : Result Step Cause = Err SvfSyntax in r)) e
+    ap (λ ws. cond ended (if_parsed kept (command_of_words ws)) (let r : Result Step Cause = Err SvfSyntax in r)) e
 
-blank_comes : (kept : Kept) (ended : Bool) (b : ℕ) (t : List ℕ) → is_blank b ≡ true → comes_to kept ended (b ∷ t) ≡ comes_to kept ended t
-unfolding comes_to
+blank_comes : (kept : ReadSoFar) (ended : Bool) (b : ℕ) (t : List ℕ) → is_blank b ≡ true → read_command kept ended (b ∷ t) ≡ read_command kept ended t
+unfolding read_command
 blank_comes kept ended b t h =
     same_words kept ended (b ∷ t) t (left_out (words (b ∷ t)) (behind_word (b ∷ t))) (blank_cut is_mark b t h)
     ∙ ap (λ ws. unless_left_out kept ended t (left_out ws (behind_word (b ∷ t)))) (blank_cut is_mark b t h)
     ∙ ap (λ k. unless_left_out kept ended t (left_out (words t) (cond k (behind_word t) (cond (is_mark b) t (behind_bytes t))))) h
 
-blank_at : (kept : Kept) (at b : ℕ) (t : List ℕ) (ts : List (List ℕ)) → is_blank b ≡ true → read_from kept at ((b ∷ t) ∷ ts) ≡ read_from kept (suc at) (t ∷ ts)
+blank_at : (kept : ReadSoFar) (at b : ℕ) (t : List ℕ) (ts : List (List ℕ)) → is_blank b ≡ true → read_from kept at ((b ∷ t) ∷ ts) ≡ read_from kept (suc at) (t ∷ ts)
 blank_at kept at b t [] h =
     let start : at + suc (blanks t) ≡ suc at + blanks t = omega arith in
-    ap (λ ws. at_end ws (comes_to kept false (b ∷ t)) (at + blanks (b ∷ t))) (blank_cut is_mark b t h)
+    ap (λ ws. at_end ws (read_command kept false (b ∷ t)) (at + blanks (b ∷ t))) (blank_cut is_mark b t h)
     ∙ ap (λ r. at_end (words t) r (at + blanks (b ∷ t))) (blank_comes kept false b t h)
-    ∙ ap (λ k. at_end (words t) (comes_to kept false t) (at + cond k (suc (blanks t)) 0)) h
-    ∙ ap (λ n. at_end (words t) (comes_to kept false t) n) start
+    ∙ ap (λ k. at_end (words t) (read_command kept false t) (at + cond k (suc (blanks t)) 0)) h
+    ∙ ap (λ n. at_end (words t) (read_command kept false t) n) start
 blank_at kept at b t (u ∷ us) h =
     let start : at + suc (blanks t) ≡ suc at + blanks t = omega arith in
     let next : suc (at + suc (length t)) ≡ suc (suc at + length t) = omega arith in
     ap (λ r. and_then r (at + blanks (b ∷ t)) (λ k. read_from k (suc (at + suc (length t))) (u ∷ us))) (blank_comes kept true b t h)
-    ∙ ap (λ c. and_then (comes_to kept true t) (at + cond c (suc (blanks t)) 0) (λ k. read_from k (suc (at + suc (length t))) (u ∷ us))) h
-    ∙ ap (λ n. and_then (comes_to kept true t) n (λ k. read_from k (suc (at + suc (length t))) (u ∷ us))) start
-    ∙ ap (λ n. and_then (comes_to kept true t) (suc at + blanks t) (λ k. read_from k n (u ∷ us))) next
+    ∙ ap (λ c. and_then (read_command kept true t) (at + cond c (suc (blanks t)) 0) (λ k. read_from k (suc (at + suc (length t))) (u ∷ us))) h
+    ∙ ap (λ n. and_then (read_command kept true t) n (λ k. read_from k (suc (at + suc (length t))) (u ∷ us))) start
+    ∙ ap (λ n. and_then (read_command kept true t) (suc at + blanks t) (λ k. read_from k n (u ∷ us))) next
 
 -- a blank that ends no command goes in front of a text
-pub blank_front : (kept : Kept) (at b : ℕ) (xs : List ℕ) → is_blank b ≡ true → (b == 59) ≡ false → read_from kept at (texts (b ∷ xs)) ≡ read_from kept (suc at) (texts xs)
+pub blank_front : (kept : ReadSoFar) (at b : ℕ) (xs : List ℕ) → is_blank b ≡ true → (b == 59) ≡ false → read_from kept at (texts (b ∷ xs)) ≡ read_from kept (suc at) (texts xs)
 blank_front kept at b xs h other =
     let some = texts_some xs in
     ap (λ k. read_from kept at (cond k ([] ∷ texts xs) (in_front b (texts xs)))) other
@@ -66,10 +66,10 @@ blank_front kept at b xs h other =
 
 -- ---- a command's text
 
-comes_said : (kept : Kept) (body : List ℕ) (s : SaidBy) → left_out (words body) (behind_word body) ≡ None → said (words body) ≡ Some s → comes_to kept true body ≡ done kept s
-unfolding comes_to
-comes_said kept body s none is =
-    ap (unless_left_out kept true body) none ∙ ap (if_said kept) is
+parsed_read : (kept : ReadSoFar) (body : List ℕ) (s : SeenParsed) → left_out (words body) (behind_word body) ≡ None → command_of_words (words body) ≡ Some s → read_command kept true body ≡ effect_of kept s
+unfolding read_command
+parsed_read kept body s none is =
+    ap (unless_left_out kept true body) none ∙ ap (if_parsed kept) is
 
 both_true : (a b : Bool) → (a && b) ≡ true → (a ≡ true) × (b ≡ true)
 both_true true b h = (refl, h)
@@ -79,13 +79,13 @@ pub quiet_by_test : (xs : List ℕ) → list_all is_quiet xs ≡ true → AreQui
 quiet_by_test [] h = tt
 quiet_by_test (b ∷ bs) h = let both = both_true (is_quiet b) (list_all is_quiet bs) h in (both.0, quiet_by_test bs both.1)
 
-pub record Spelled (text : List ℕ) (s : SaidBy) : Type 0 where
+pub record Spelled (text : List ℕ) (s : SeenParsed) : Type 0 where
   pub body : List ℕ
   pub text_is : text ≡ body ++ (59 ∷ 10 ∷ [])
   pub quiet : AreQuiet body
   pub starts : blanks body ≡ 0
   pub read_here : left_out (words body) (behind_word body) ≡ None
-  pub says_so : said (words body) ≡ Some s
+  pub says_so : command_of_words (words body) ≡ Some s
 
 -- ---- decimal numbers as words
 
@@ -105,7 +105,7 @@ decimal_cut alone other (b ∷ bs) rest some h stops = word_cut alone b bs rest 
 no_letter : (b c : ℕ) → nat_lt b 65 ≡ true → 65 ≤ c → (to_ascii_lowercase b == c) ≡ false
 no_letter b c h k = grind (arith, nat_tests)
 
-no_name : (c : ℕ) (cs w : List ℕ) → 65 ≤ to_ascii_lowercase c → AreDecimal w → says (c ∷ cs) w ≡ false
+no_name : (c : ℕ) (cs w : List ℕ) → 65 ≤ to_ascii_lowercase c → AreDecimal w → is_word (c ∷ cs) w ≡ false
 no_name c cs [] k h = refl
 no_name c cs (b ∷ bs) k h =
     ap (λ (t : Bool). t && bytes_eq (str_to_ascii_lowercase bs) (str_to_ascii_lowercase cs)) (no_letter b (to_ascii_lowercase c) h.0.letter k)
@@ -113,7 +113,7 @@ no_name c cs (b ∷ bs) k h =
 -- ---- RUNTEST
 
 run_spelled : (n : ℕ) → n ≤ 999999999 → Spelled (text_of (Run n)) (Runs n)
-unfolding left_out is_left_out said said_by run_test cycles
+unfolding left_out is_left_out command_of_words parsed_by run_test cycles
 run_spelled n few =
     let fits : n < 2 ^ 64 = omega arith in
     let is = decimal_written n fits in
@@ -122,28 +122,28 @@ run_spelled n few =
     let body : List ℕ = codes "RUNTEST " ++ (w ++ codes " TCK") in
     let ws : words body ≡ codes "RUNTEST" ∷ w ∷ codes "TCK" ∷ [] = ap (λ (l : List (List ℕ)). codes "RUNTEST" ∷ l) (decimal_cut is_mark (λ b m. m) w (codes " TCK") some is.bytes refl) in
     let rs : runs (behind_word body) ≡ w ∷ codes "TCK" ∷ [] = decimal_cut is_any (λ b m. refl) w (codes " TCK") some is.bytes refl in
-    let reset : says (codes "RESET") w ≡ false = no_name 82 (codes "ESET") w (lit≤ tt) is.bytes in
-    let drpause : says (codes "DRPAUSE") w ≡ false = no_name 68 (codes "RPAUSE") w (lit≤ tt) is.bytes in
-    let irpause : says (codes "IRPAUSE") w ≡ false = no_name 73 (codes "RPAUSE") w (lit≤ tt) is.bytes in
-    let sck : says (codes "SCK") w ≡ false = no_name 83 (codes "CK") w (lit≤ tt) is.bytes in
-    let sec : says (codes "SEC") w ≡ false = no_name 83 (codes "EC") w (lit≤ tt) is.bytes in
-    let maximum : says (codes "MAXIMUM") w ≡ false = no_name 77 (codes "AXIMUM") w (lit≤ tt) is.bytes in
-    let idle : says (codes "IDLE") w ≡ false = no_name 73 (codes "DLE") w (lit≤ tt) is.bytes in
-    let one : names_one (codes "RESET" ∷ []) (w ∷ codes "TCK" ∷ []) ≡ false = ap (λ k. (k || false) || false) reset in
-    let rest : names_one left_out_names (w ∷ codes "TCK" ∷ []) ≡ false =
-    ap (λ k. (k || (says (codes "IRPAUSE") w || (says (codes "SCK") w || (says (codes "SEC") w || (says (codes "MAXIMUM") w || false))))) || false) drpause
-    ∙ ap (λ k. (k || (says (codes "SCK") w || (says (codes "SEC") w || (says (codes "MAXIMUM") w || false)))) || false) irpause
-    ∙ ap (λ k. (k || (says (codes "SEC") w || (says (codes "MAXIMUM") w || false))) || false) sck
-    ∙ ap (λ k. (k || (says (codes "MAXIMUM") w || false)) || false) sec
+    let reset : is_word (codes "RESET") w ≡ false = no_name 82 (codes "ESET") w (lit≤ tt) is.bytes in
+    let drpause : is_word (codes "DRPAUSE") w ≡ false = no_name 68 (codes "RPAUSE") w (lit≤ tt) is.bytes in
+    let irpause : is_word (codes "IRPAUSE") w ≡ false = no_name 73 (codes "RPAUSE") w (lit≤ tt) is.bytes in
+    let sck : is_word (codes "SCK") w ≡ false = no_name 83 (codes "CK") w (lit≤ tt) is.bytes in
+    let sec : is_word (codes "SEC") w ≡ false = no_name 83 (codes "EC") w (lit≤ tt) is.bytes in
+    let maximum : is_word (codes "MAXIMUM") w ≡ false = no_name 77 (codes "AXIMUM") w (lit≤ tt) is.bytes in
+    let idle : is_word (codes "IDLE") w ≡ false = no_name 73 (codes "DLE") w (lit≤ tt) is.bytes in
+    let one : any_is_one_of (codes "RESET" ∷ []) (w ∷ codes "TCK" ∷ []) ≡ false = ap (λ k. (k || false) || false) reset in
+    let rest : any_is_one_of left_out_names (w ∷ codes "TCK" ∷ []) ≡ false =
+    ap (λ k. (k || (is_word (codes "IRPAUSE") w || (is_word (codes "SCK") w || (is_word (codes "SEC") w || (is_word (codes "MAXIMUM") w || false))))) || false) drpause
+    ∙ ap (λ k. (k || (is_word (codes "SCK") w || (is_word (codes "SEC") w || (is_word (codes "MAXIMUM") w || false)))) || false) irpause
+    ∙ ap (λ k. (k || (is_word (codes "SEC") w || (is_word (codes "MAXIMUM") w || false))) || false) sck
+    ∙ ap (λ k. (k || (is_word (codes "MAXIMUM") w || false)) || false) sec
     ∙ ap (λ k. (k || false) || false) maximum in
-    let both : (names_one (codes "RESET" ∷ []) (w ∷ codes "TCK" ∷ []) || names_one left_out_names (w ∷ codes "TCK" ∷ [])) ≡ false = ap (λ k. k || names_one left_out_names (w ∷ codes "TCK" ∷ [])) one ∙ rest in
+    let both : (any_is_one_of (codes "RESET" ∷ []) (w ∷ codes "TCK" ∷ []) || any_is_one_of left_out_names (w ∷ codes "TCK" ∷ [])) ≡ false = ap (λ k. k || any_is_one_of left_out_names (w ∷ codes "TCK" ∷ [])) one ∙ rest in
     record {
       body = body;
       text_is = simp append_assoc;
       quiet = quiet_both (codes "RUNTEST ") (w ++ codes " TCK") (quiet_by_test (codes "RUNTEST ") refl) (quiet_both w (codes " TCK") (decimal_quiet w is.bytes) (quiet_by_test (codes " TCK") refl));
       starts = refl;
-      read_here = ap (λ l. left_out l (behind_word body)) ws ∙ ap (λ rs. cond (names_one (codes "RESET" ∷ []) rs || names_one left_out_names rs) (Some (codes "RUNTEST")) (let o : Option (List ℕ) = None in o)) rs ∙ ap (λ k. cond k (Some (codes "RUNTEST")) (let o : Option (List ℕ) = None in o)) both;
-      says_so = ap said ws ∙ ap (λ k. cond k (cycles (codes "TCK" ∷ [])) (cycles (w ∷ codes "TCK" ∷ []))) idle ∙ ap (option_map Runs) (number_again n (omega arith));
+      read_here = ap (λ l. left_out l (behind_word body)) ws ∙ ap (λ rs. cond (any_is_one_of (codes "RESET" ∷ []) rs || any_is_one_of left_out_names rs) (Some (codes "RUNTEST")) (let o : Option (List ℕ) = None in o)) rs ∙ ap (λ k. cond k (Some (codes "RUNTEST")) (let o : Option (List ℕ) = None in o)) both;
+      says_so = ap command_of_words ws ∙ ap (λ k. cond k (cycles (codes "TCK" ∷ [])) (cycles (w ∷ codes "TCK" ∷ []))) idle ∙ ap (option_map Runs) (number_again n (omega arith));
     }
 
 -- ---- scans
@@ -200,13 +200,13 @@ part_quiet word (Some bits) h = quiet_both word (hex_text bits ++ codes ")") h (
 module _ (name : List ℕ) (register : Register)
     (first : (xs : List ℕ) → words ((name ++ codes " ") ++ xs) ≡ name ∷ words xs)
     (reads : (ws : List (List ℕ)) (rest : List ℕ) → left_out (name ∷ ws) rest ≡ None)
-    (scans : (ws : List (List ℕ)) → said (name ∷ ws) ≡ scan register ws)
+    (scans : (ws : List (List ℕ)) → command_of_words (name ∷ ws) ≡ scan register ws)
     (quiet_name : AreQuiet (name ++ codes " "))
     (starts : (xs : List ℕ) → blanks ((name ++ codes " ") ++ xs) ≡ 0) where
   sized : (len : ℕ) (p : Parts) → 1 ≤ len → scan_of register (Some len) (Some p) ≡ Some (Scans register len p)
   sized len p some =
       let more : (len == 0) ≡ false = grind (arith, nat_tests) in
-      ap (λ k. cond k None (let o : Option SaidBy = Some (Scans register len p) in o)) more
+      ap (λ k. cond k None (let o : Option SeenParsed = Some (Scans register len p) in o)) more
 
   scan_spelled : (s : SeenScan) (p : Parts) → 1 ≤ s.len → s.len ≤ 65536 → goes_on is_mark (parts_text s.tdi s.tdo s.mask) ≡ false → parts 4 no_parts (words (parts_text s.tdi s.tdo s.mask)) ≡ Some p
       → Spelled (scan_text (name ++ codes " ") s) (Scans register s.len p)
@@ -232,7 +232,7 @@ module _ (name : List ℕ) (register : Register)
             (quiet_both tdo mask (part_quiet (codes " TDO (") s.tdo (quiet_by_test (codes " TDO (") refl)) (part_quiet (codes " MASK (") s.mask (quiet_by_test (codes " MASK (") refl)))));
         starts = starts (w ++ all);
         read_here = ap (λ l. left_out l (behind_word body)) ws ∙ reads (w ∷ words all) (behind_word body);
-        says_so = ap said ws ∙ scans (w ∷ words all) ∙ ap (λ k. scan_of register k (parts 4 no_parts (words all))) (number_again n (omega arith)) ∙ ap (scan_of register (Some n)) read ∙ sized n p some;
+        says_so = ap command_of_words ws ∙ scans (w ∷ words all) ∙ ap (λ k. scan_of register k (parts 4 no_parts (words all))) (number_again n (omega arith)) ∙ ap (scan_of register (Some n)) read ∙ sized n p some;
       }
 
 -- what such a scan does
@@ -247,8 +247,8 @@ maybe_again : (len : ℕ) (bits : Option (List Bool)) → HasLength len bits →
 maybe_again len None h = (refl, refl)
 maybe_again len (Some bits) h = part_again len bits h
 
-scan_done : (kept : Kept) (register : Register) (len : ℕ) (a : List Bool) (tdo mask : Option (List Bool)) → len ≤ 65536 → length a ≡ len → HasLength len tdo → HasLength len mask
-    → scanned kept register len (written_parts (Some a) tdo mask) ≡ clocked (with_length register len kept) false (leaving kept (scan_clocks register len)) (scan_command register (record { len = len; tdi = Some a; tdo = tdo; mask = mask; smask = None }))
+scan_done : (kept : ReadSoFar) (register : Register) (len : ℕ) (a : List Bool) (tdo mask : Option (List Bool)) → len ≤ 65536 → length a ≡ len → HasLength len tdo → HasLength len mask
+    → scanned kept register len (written_parts (Some a) tdo mask) ≡ within_clock_limit (with_length register len kept) false (with_leaving_clock kept (scan_clocks register len)) (scan_command register (record { len = len; tdi = Some a; tdo = tdo; mask = mask; smask = None }))
 unfolding scanned
 scan_done kept register len a tdo mask few la lo lm =
     let short : nat_lt 65536 len ≡ false = grind (arith, nat_tests) in
@@ -256,7 +256,7 @@ scan_done kept register len a tdo mask few la lo lm =
     let pa = part_again len a la in
     let po = maybe_again len tdo lo in
     let pm = maybe_again len mask lm in
-    let go : SeenScan → Result Step Cause = λ s. clocked (with_length register len kept) false (leaving kept (scan_clocks register len)) (scan_command register s) in
+    let go : SeenScan → Result Step Cause = λ s. within_clock_limit (with_length register len kept) false (with_leaving_clock kept (scan_clocks register len)) (scan_command register s) in
     ap (λ k. cond k (Err SvfLimit) (cond (any_wide len p) (Err HexWide) (go (scan_with len p)))) short
     ∙ ap (λ k. cond (k || (part_wide len p.tdo || (part_wide len p.mask || false))) (Err HexWide) (go (scan_with len p))) pa.1
     ∙ ap (λ k. cond (k || (part_wide len p.mask || false)) (Err HexWide) (go (scan_with len p))) po.1
@@ -269,20 +269,20 @@ scan_done kept register len a tdo mask few la lo lm =
 
 -- the text of a command says what does the same
 pub record ReadAs (text : List ℕ) (c : SeenCommand) : Type 0 where
-  pub said_is : SaidBy
-  pub spelled : Spelled text said_is
-  pub does : (kept : Kept) → done kept said_is ≡ again kept c
+  pub parsed_is : SeenParsed
+  pub spelled : Spelled text parsed_is
+  pub does : (kept : ReadSoFar) → effect_of kept parsed_is ≡ again kept c
 
 module _ (name : List ℕ) (register : Register)
     (first : (xs : List ℕ) → words ((name ++ codes " ") ++ xs) ≡ name ∷ words xs)
     (reads : (ws : List (List ℕ)) (rest : List ℕ) → left_out (name ∷ ws) rest ≡ None)
-    (scans : (ws : List (List ℕ)) → said (name ∷ ws) ≡ scan register ws)
+    (scans : (ws : List (List ℕ)) → command_of_words (name ∷ ws) ≡ scan register ws)
     (quiet_name : AreQuiet (name ++ codes " "))
     (starts : (xs : List ℕ) → blanks ((name ++ codes " ") ++ xs) ≡ 0)
-    (same : (kept : Kept) (s : SeenScan) → clocked (with_length register s.len kept) false (leaving kept (scan_clocks register s.len)) (scan_command register s) ≡ again kept (scan_command register s)) where
+    (same : (kept : ReadSoFar) (s : SeenScan) → within_clock_limit (with_length register s.len kept) false (with_leaving_clock kept (scan_clocks register s.len)) (scan_command register s) ≡ again kept (scan_command register s)) where
   scan_read : (len : ℕ) (tdi tdo mask smask : Option (List Bool)) → IsWrittenScan (record { len = len; tdi = tdi; tdo = tdo; mask = mask; smask = smask })
       → ReadAs (scan_text (name ++ codes " ") (record { len = len; tdi = tdi; tdo = tdo; mask = mask; smask = smask })) (scan_command register (record { len = len; tdi = tdi; tdo = tdo; mask = mask; smask = smask }))
-  unfolding done
+  unfolding effect_of
   scan_read len None tdo mask smask h = absurd (let e = h.given in cc)
   scan_read len (Some a) tdo mask (Some m) h = absurd (let e = h.smask in cc)
   scan_read len (Some a) None (Some m) None h = absurd (let e = h.together in cc)
@@ -290,38 +290,38 @@ module _ (name : List ℕ) (register : Register)
   scan_read len (Some a) None None None h =
       let s : SeenScan = record { len = len; tdi = Some a; tdo = None; mask = None; smask = None } in
       record {
-        said_is = Scans register len (written_parts (Some a) None None);
+        parsed_is = Scans register len (written_parts (Some a) None None);
         spelled = scan_spelled name register first reads scans quiet_name starts s (written_parts (Some a) None None) h.some_bits h.few_bits refl (one_part_read len a h.some_bits h.tdi);
         does = λ kept. scan_done kept register len a None None h.few_bits h.tdi tt tt ∙ same kept s;
       }
   scan_read len (Some a) (Some o) (Some m) None h =
       let s : SeenScan = record { len = len; tdi = Some a; tdo = Some o; mask = Some m; smask = None } in
       record {
-        said_is = Scans register len (written_parts (Some a) (Some o) (Some m));
+        parsed_is = Scans register len (written_parts (Some a) (Some o) (Some m));
         spelled = scan_spelled name register first reads scans quiet_name starts s (written_parts (Some a) (Some o) (Some m)) h.some_bits h.few_bits refl (three_parts_read len a o m h.some_bits h.tdi h.tdo h.mask);
         does = λ kept. scan_done kept register len a (Some o) (Some m) h.few_bits h.tdi h.tdo h.mask ∙ same kept s;
       }
 
 pub command_read : (c : SeenCommand) → IsWrittenCommand c → ReadAs (text_of c) c
-unfolding left_out is_left_out said said_by state done
+unfolding left_out is_left_out command_of_words parsed_by state effect_of
 command_read (SIR s) h =
     scan_read (codes "SIR") Instruction (λ xs. refl) (λ ws rs. refl) (λ ws. refl) (quiet_by_test (codes "SIR ") refl) (λ xs. refl) (λ kept s. refl) s.len s.tdi s.tdo s.mask s.smask h
 command_read (SDR s) h =
     scan_read (codes "SDR") Data (λ xs. refl) (λ ws rs. refl) (λ ws. refl) (quiet_by_test (codes "SDR ") refl) (λ xs. refl) (λ kept s. refl) s.len s.tdi s.tdo s.mask s.smask h
 command_read Reset h = record {
-  said_is = ToReset;
+  parsed_is = ToReset;
   spelled = record { body = codes "STATE RESET"; text_is = refl; quiet = quiet_by_test (codes "STATE RESET") refl; starts = refl; read_here = refl; says_so = refl };
   does = λ kept. refl;
 }
 command_read Idle h = record {
-  said_is = ToIdle;
+  parsed_is = ToIdle;
   spelled = record { body = codes "STATE IDLE"; text_is = refl; quiet = quiet_by_test (codes "STATE IDLE") refl; starts = refl; read_here = refl; says_so = refl };
   does = λ kept. refl;
 }
-command_read (Run n) h = record { said_is = Runs n; spelled = run_spelled n h; does = λ kept. refl }
+command_read (Run n) h = record { parsed_is = Runs n; spelled = run_spelled n h; does = λ kept. refl }
 
 -- in any text
-pub spelled_read : (text : List ℕ) (s : SaidBy) → Spelled text s → (kept : Kept) (at : ℕ) (rest : List ℕ) → read_from kept at (texts (plain (text ++ rest))) ≡ and_then (done kept s) at (λ next. read_from next (at + length text) (texts (plain rest)))
+pub spelled_read : (text : List ℕ) (s : SeenParsed) → Spelled text s → (kept : ReadSoFar) (at : ℕ) (rest : List ℕ) → read_from kept at (texts (plain (text ++ rest))) ≡ and_then (effect_of kept s) at (λ next. read_from next (at + length text) (texts (plain rest)))
 spelled_read text s is kept at rest =
     let body = is.body in
     let cut : text ++ rest ≡ body ++ (59 ∷ 10 ∷ rest) = ap (λ (l : List ℕ). l ++ rest) is.text_is ∙ append_assoc body (59 ∷ 10 ∷ []) rest in
@@ -330,13 +330,13 @@ spelled_read text s is kept at rest =
     ap (λ (l : List ℕ). read_from kept at (texts (plain l))) cut
     ∙ ap (read_from kept at) (command_cut body (10 ∷ rest) is.quiet)
     ∙ read_more kept at body (plain (10 ∷ rest))
-    ∙ ap (λ r. and_then r (at + blanks body) (λ next. read_from next (suc (at + length body)) (texts (plain (10 ∷ rest))))) (comes_said kept body s is.read_here is.says_so)
-    ∙ ap (λ n. and_then (done kept s) n (λ next. read_from next (suc (at + length body)) (texts (plain (10 ∷ rest))))) start
-    ∙ (λ i. and_then (done kept s) at (λ next. blank_front next (suc (at + length body)) 10 (plain rest) refl refl i))
-    ∙ ap (λ n. and_then (done kept s) at (λ next. read_from next n (texts (plain rest)))) end
+    ∙ ap (λ r. and_then r (at + blanks body) (λ next. read_from next (suc (at + length body)) (texts (plain (10 ∷ rest))))) (parsed_read kept body s is.read_here is.says_so)
+    ∙ ap (λ n. and_then (effect_of kept s) n (λ next. read_from next (suc (at + length body)) (texts (plain (10 ∷ rest))))) start
+    ∙ (λ i. and_then (effect_of kept s) at (λ next. blank_front next (suc (at + length body)) 10 (plain rest) refl refl i))
+    ∙ ap (λ n. and_then (effect_of kept s) at (λ next. read_from next n (texts (plain rest)))) end
 
-pub written_read : (c : SeenCommand) → IsWrittenCommand c → (kept : Kept) (at : ℕ) (rest : List ℕ) → read_from kept at (texts (plain (text_of c ++ rest))) ≡ and_then (again kept c) at (λ next. read_from next (at + length (text_of c)) (texts (plain rest)))
+pub written_read : (c : SeenCommand) → IsWrittenCommand c → (kept : ReadSoFar) (at : ℕ) (rest : List ℕ) → read_from kept at (texts (plain (text_of c ++ rest))) ≡ and_then (again kept c) at (λ next. read_from next (at + length (text_of c)) (texts (plain rest)))
 written_read c h kept at rest =
     let read = command_read c h in
-    spelled_read (text_of c) read.said_is read.spelled kept at rest
+    spelled_read (text_of c) read.parsed_is read.spelled kept at rest
     ∙ ap (λ r. and_then r at (λ next. read_from next (at + length (text_of c)) (texts (plain rest)))) (read.does kept)

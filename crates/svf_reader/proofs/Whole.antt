@@ -3,12 +3,12 @@ use Rattle.std.proofs.Common.{◌≡◌, ℕ, suc, ◌+◌, Bool, true, false, c
 use Rattle.std.specs.Prelude.{◌==◌}
 use Rattle.ij_text.specs.declared.Place.{Place}
 use Rattle.svf_writer.specs.SeenCommands.{SeenCommand}
-use Rattle.svf_reader.specs.declared.kept.Kept.{Kept}
+use Rattle.svf_reader.specs.declared.so_far.ReadSoFar.{ReadSoFar}
 use Rattle.svf_reader.specs.declared.fault.SvfFault.{SvfFault}
-use Rattle.svf_reader.specs.declared.fault.Refused.{Refused}
-use Rattle.svf_reader.specs.declared.fault.Refused.TheVariants.{LeftOut as IsLeftOut, Syntax, Limit, Wide, NoTdi, OutOfMemory}
+use Rattle.svf_reader.specs.declared.fault.SvfCause.{SvfCause}
+use Rattle.svf_reader.specs.declared.fault.SvfCause.TheVariants.{LeftOut as IsLeftOut, SvfSyntax as Syntax, SvfLimit as Limit, HexWide as Wide, TdiMissing as NoTdi, OutOfMemory}
 use Rattle.svf_reader.specs.Texts.{in_front, texts, words, plain, blanks, place_at}
-use Rattle.svf_reader.specs.Meaning.{Cause, LeftOut, SvfSyntax, SvfLimit, HexWide, TdiMissing, Refusal, Step, listed, in_front_of, at_first, at_end, and_then, comes_to, read_from, svf}
+use Rattle.svf_reader.specs.Meaning.{Cause, LeftOut, SvfSyntax, SvfLimit, HexWide, TdiMissing, Refusal, Step, listed, in_front_of, at_first, at_end, and_then, read_command, read_from, svf}
 use Rattle.svf_reader.specs.Reading.{words_of}
 use Rattle.svf_reader.specs.Answers.{Fails, AtPlace, Refuses}
 
@@ -29,21 +29,21 @@ pub texts_some : (xs : List ℕ) → (t : List ℕ) × (ts : List (List ℕ)) ×
 texts_some [] = ([], [], refl)
 texts_some (b ∷ bs) = some_at (b == 59) b (texts bs)
 
-pub read_more : (kept : Kept) (at : ℕ) (t xs : List ℕ) → read_from kept at (t ∷ texts xs) ≡ and_then (comes_to kept true t) (at + blanks t) (λ next. read_from next (suc (at + length t)) (texts xs))
+pub read_more : (kept : ReadSoFar) (at : ℕ) (t xs : List ℕ) → read_from kept at (t ∷ texts xs) ≡ and_then (read_command kept true t) (at + blanks t) (λ next. read_from next (suc (at + length t)) (texts xs))
 read_more kept at t xs =
     let some = texts_some xs in
     ap (λ (l : List (List ℕ)). read_from kept at (t ∷ l)) some.2
-    ∙ ap (λ (l : List (List ℕ)). and_then (comes_to kept true t) (at + blanks t) (λ next. read_from next (suc (at + length t)) l)) (sym some.2)
+    ∙ ap (λ (l : List (List ℕ)). and_then (read_command kept true t) (at + blanks t) (λ next. read_from next (suc (at + length t)) l)) (sym some.2)
 
-module _ (src : List ℕ) (cs : List SeenCommand) (kept : Kept) (at : ℕ) (all : List (List ℕ)) (so_far : in_front_of cs (read_from kept at all) ≡ svf src) where
-  pub refused_here : (t rest : List ℕ) (cause : Cause) → all ≡ t ∷ texts rest → comes_to kept true t ≡ Err cause → svf src ≡ Err (record { cause = cause; start = at + blanks t })
+module _ (src : List ℕ) (cs : List SeenCommand) (kept : ReadSoFar) (at : ℕ) (all : List (List ℕ)) (so_far : in_front_of cs (read_from kept at all) ≡ svf src) where
+  pub refused_here : (t rest : List ℕ) (cause : Cause) → all ≡ t ∷ texts rest → read_command kept true t ≡ Err cause → svf src ≡ Err (record { cause = cause; start = at + blanks t })
   refused_here t rest cause e h =
       sym so_far
       ∙ ap (λ l. in_front_of cs (read_from kept at l)) e
       ∙ ap (in_front_of cs) (read_more kept at t rest)
       ∙ ap (λ r. in_front_of cs (and_then r (at + blanks t) (λ next. read_from next (suc (at + length t)) (texts rest)))) h
 
-  pub next_here : (t rest : List ℕ) (step : Step) → all ≡ t ∷ texts rest → comes_to kept true t ≡ Ok step → in_front_of (cs ++ listed step.0) (read_from step.1 (suc (at + length t)) (texts rest)) ≡ svf src
+  pub next_here : (t rest : List ℕ) (step : Step) → all ≡ t ∷ texts rest → read_command kept true t ≡ Ok step → in_front_of (cs ++ listed step.0) (read_from step.1 (suc (at + length t)) (texts rest)) ≡ svf src
   next_here t rest step e h =
       sym (front_both cs (listed step.0) (read_from step.1 (suc (at + length t)) (texts rest)))
       ∙ ap (λ r. in_front_of cs (and_then r (at + blanks t) (λ next. read_from next (suc (at + length t)) (texts rest)))) (sym h)
@@ -51,28 +51,28 @@ module _ (src : List ℕ) (cs : List SeenCommand) (kept : Kept) (at : ℕ) (all 
       ∙ ap (λ l. in_front_of cs (read_from kept at l)) (sym e)
       ∙ so_far
 
-  at_the_end : (t : List ℕ) → all ≡ t ∷ [] → svf src ≡ in_front_of cs (at_end (words t) (comes_to kept false t) (at + blanks t))
+  at_the_end : (t : List ℕ) → all ≡ t ∷ [] → svf src ≡ in_front_of cs (at_end (words t) (read_command kept false t) (at + blanks t))
   at_the_end t e = sym so_far ∙ ap (λ l. in_front_of cs (read_from kept at l)) e
 
   nothing_more : svf src ≡ in_front_of cs (Ok []) → svf src ≡ Ok cs
   nothing_more h = h ∙ ap (λ l. let ok : Result (List SeenCommand) Refusal = Ok l in ok) (append-nil cs)
 
   pub end_none : (t : List ℕ) → all ≡ t ∷ [] → words t ≡ [] → svf src ≡ Ok cs
-  end_none t e none = nothing_more (at_the_end t e ∙ ap (λ ws. in_front_of cs (at_end ws (comes_to kept false t) (at + blanks t))) none)
+  end_none t e none = nothing_more (at_the_end t e ∙ ap (λ ws. in_front_of cs (at_end ws (read_command kept false t) (at + blanks t))) none)
 
-  pub end_ok : (t w : List ℕ) (ws : List (List ℕ)) (step : Step) → all ≡ t ∷ [] → words t ≡ w ∷ ws → comes_to kept false t ≡ Ok step → svf src ≡ Ok cs
+  pub end_ok : (t w : List ℕ) (ws : List (List ℕ)) (step : Step) → all ≡ t ∷ [] → words t ≡ w ∷ ws → read_command kept false t ≡ Ok step → svf src ≡ Ok cs
   end_ok t w ws step e some h =
       nothing_more (at_the_end t e
-      ∙ ap (λ l. in_front_of cs (at_end l (comes_to kept false t) (at + blanks t))) some
+      ∙ ap (λ l. in_front_of cs (at_end l (read_command kept false t) (at + blanks t))) some
       ∙ ap (λ r. in_front_of cs (at_end (w ∷ ws) r (at + blanks t))) h)
 
-  pub end_refused : (t w : List ℕ) (ws : List (List ℕ)) (cause : Cause) → all ≡ t ∷ [] → words t ≡ w ∷ ws → comes_to kept false t ≡ Err cause → svf src ≡ Err (record { cause = cause; start = at + blanks t })
+  pub end_refused : (t w : List ℕ) (ws : List (List ℕ)) (cause : Cause) → all ≡ t ∷ [] → words t ≡ w ∷ ws → read_command kept false t ≡ Err cause → svf src ≡ Err (record { cause = cause; start = at + blanks t })
   end_refused t w ws cause e some h =
       at_the_end t e
-      ∙ ap (λ l. in_front_of cs (at_end l (comes_to kept false t) (at + blanks t))) some
+      ∙ ap (λ l. in_front_of cs (at_end l (read_command kept false t) (at + blanks t))) some
       ∙ ap (λ r. in_front_of cs (at_end (w ∷ ws) r (at + blanks t))) h
 
-pub refuses : (src : List ℕ) (refused : Refused) (at : Place) (fault : SvfFault) (r : Result Step Cause) (start : ℕ) → Fails refused r
+pub refuses : (src : List ℕ) (refused : SvfCause) (at : Place) (fault : SvfFault) (r : Result Step Cause) (start : ℕ) → Fails refused r
     → ((cause : Cause) → r ≡ Err cause → svf src ≡ Err (record { cause = cause; start = start })) → at ≡ place_at src start → AtPlace refused at fault → Refuses src fault
 refuses src (IsLeftOut word) at fault r start h next place e = subst (Refuses src) (sym e) (start, next (LeftOut word.items) h, place)
 refuses src Syntax at fault r start h next place e = subst (Refuses src) (sym e) (start, next SvfSyntax h, place)

@@ -5,13 +5,13 @@ use Rattle.svf_reader.specs.Commands.{Parts}
 use Rattle.ij_text.specs.declared.Place.{Place}
 use Rattle.svf_reader.specs.declared.fault.SvfFault.{SvfFault}
 use Rattle.svf_reader.specs.declared.fault.SvfFault.TheVariants.{LeftOut as FaultLeftOut, SvfSyntax as FaultSyntax, SvfLimit as FaultLimit, HexWide as FaultWide, TdiMissing as FaultNoTdi, OutOfMemory as FaultOutOfMemory}
-use Rattle.svf_reader.specs.declared.fault.Refused.{Refused}
-use Rattle.svf_reader.specs.declared.fault.Refused.TheVariants.{LeftOut as IsLeftOut, Syntax, Limit, Wide, NoTdi, OutOfMemory}
+use Rattle.svf_reader.specs.declared.fault.SvfCause.{SvfCause}
+use Rattle.svf_reader.specs.declared.fault.SvfCause.TheVariants.{LeftOut as IsLeftOut, SvfSyntax as Syntax, SvfLimit as Limit, HexWide as Wide, TdiMissing as NoTdi, OutOfMemory}
 use Rattle.svf_reader.specs.Meaning.{Cause, LeftOut, SvfSyntax, SvfLimit, HexWide, TdiMissing, part_wide, part_of, svf}
 use Rattle.svf_reader.specs.Texts.{place_at}
 
 -- the cause, unless memory ran out
-abbrev pub Fails : {Y : Type 0} → Refused → Result Y Cause → Type 0
+abbrev pub Fails : {Y : Type 0} → SvfCause → Result Y Cause → Type 0
 Fails (IsLeftOut word) read = read ≡ Err (LeftOut word.items)
 Fails Syntax read = read ≡ Err SvfSyntax
 Fails Limit read = read ≡ Err SvfLimit
@@ -20,7 +20,7 @@ Fails NoTdi read = read ≡ Err TdiMissing
 Fails OutOfMemory read = Unit {0}
 
 -- a call answers what is to be read, unless memory runs out
-abbrev pub Gives : {X Y : Type 0} → (X → Y) → Result X Refused → Result Y Cause → Type 0
+abbrev pub Gives : {X Y : Type 0} → (X → Y) → Result X SvfCause → Result Y Cause → Type 0
 Gives view (Ok x) read = read ≡ Ok (view x)
 Gives view (Err e) read = Fails e read
 
@@ -53,7 +53,7 @@ Refuses src (FaultNoTdi at) = IsRefused src TdiMissing at
 Refuses src FaultOutOfMemory = Unit {0}
 
 -- the cause with a place
-abbrev pub AtPlace : Refused → Place → SvfFault → Type 0
+abbrev pub AtPlace : SvfCause → Place → SvfFault → Type 0
 AtPlace (IsLeftOut word) at fault = fault ≡ FaultLeftOut at word
 AtPlace Syntax at fault = fault ≡ FaultSyntax at
 AtPlace Limit at fault = fault ≡ FaultLimit at

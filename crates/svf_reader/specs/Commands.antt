@@ -6,23 +6,23 @@ use Rattle.std.specs.List.{list_all, list_any}
 use Rattle.std.specs.Str.{bytes_eq, str_eq_ignore_ascii_case}
 use Rattle.std.specs.Char.{is_ascii_digit, is_ascii_hexdigit}
 use Rattle.svf_reader.specs.Texts.{words, runs}
-use Rattle.svf_reader.specs.declared.said.Register.{Register}
-use Rattle.svf_reader.specs.declared.said.Register.TheVariants.{Instruction, Data}
+use Rattle.svf_reader.specs.declared.parsed.Register.{Register}
+use Rattle.svf_reader.specs.declared.parsed.Register.TheVariants.{Instruction, Data}
 
 -- ---- words
 
-abbrev pub says : List ℕ → List ℕ → Bool
-says name w = str_eq_ignore_ascii_case w name
+abbrev pub is_word : List ℕ → List ℕ → Bool
+is_word name w = str_eq_ignore_ascii_case w name
 
-abbrev pub says_one : List (List ℕ) → List ℕ → Bool
-says_one names w = list_any (λ name. says name w) names
+abbrev pub is_one_of : List (List ℕ) → List ℕ → Bool
+is_one_of names w = list_any (λ name. is_word name w) names
 
 -- whether the words are exactly these
-abbrev pub are : List (List ℕ) → List (List ℕ) → Bool
-are [] [] = true
-are [] (w ∷ ws) = false
-are (name ∷ names) [] = false
-are (name ∷ names) (w ∷ ws) = says name w && are names ws
+abbrev pub words_are : List (List ℕ) → List (List ℕ) → Bool
+words_are [] [] = true
+words_are [] (w ∷ ws) = false
+words_are (name ∷ names) [] = false
+words_are (name ∷ names) (w ∷ ws) = is_word name w && words_are names ws
 
 -- the number of decimal digits that stand behind those of n
 abbrev pub number_from : ℕ → List ℕ → ℕ
@@ -62,16 +62,16 @@ hex_digits [] = []
 hex_digits (w ∷ ws) = cond (is_close w) [] (w ++ hex_digits ws)
 
 -- a part, if it doesn't stand there yet
-abbrev pub fill : Option (List ℕ) → Parts → Option Parts
-fill None p = Some p
-fill (Some digits) p = None
+abbrev pub put_part_once : Option (List ℕ) → Parts → Option Parts
+put_part_once None p = Some p
+put_part_once (Some digits) p = None
 
 abbrev pub with_part : List ℕ → List ℕ → Parts → Option Parts
 with_part name digits p =
-    cond (says (codes "TDI") name) (fill p.tdi (record p { tdi = Some digits }))
-    (cond (says (codes "TDO") name) (fill p.tdo (record p { tdo = Some digits }))
-    (cond (says (codes "MASK") name) (fill p.mask (record p { mask = Some digits }))
-    (cond (says (codes "SMASK") name) (fill p.smask (record p { smask = Some digits })) None)))
+    cond (is_word (codes "TDI") name) (put_part_once p.tdi (record p { tdi = Some digits }))
+    (cond (is_word (codes "TDO") name) (put_part_once p.tdo (record p { tdo = Some digits }))
+    (cond (is_word (codes "MASK") name) (put_part_once p.mask (record p { mask = Some digits }))
+    (cond (is_word (codes "SMASK") name) (put_part_once p.smask (record p { smask = Some digits })) None)))
 
 abbrev pub both : Option Parts → Option (List (List ℕ)) → Option (Parts × List (List ℕ))
 both None rest = None
@@ -96,35 +96,35 @@ parts (suc n) p (name ∷ ws) = then_parts (one_part p name ws) (λ q rest. part
 -- ---- commands
 
 -- what a command says
-pub data SaidBy : Type 0 where
-  Scans : (register : Register) → (len : ℕ) → (parts : Parts) → SaidBy
-  ToReset : SaidBy
-  ToIdle : SaidBy
-  Runs : (cycles : ℕ) → SaidBy
-  NoEffect : SaidBy
+pub data SeenParsed : Type 0 where
+  Scans : (register : Register) → (len : ℕ) → (parts : Parts) → SeenParsed
+  ToReset : SeenParsed
+  ToIdle : SeenParsed
+  Runs : (cycles : ℕ) → SeenParsed
+  NoEffect : SeenParsed
 
 -- N { ( "TDI" | "TDO" | "MASK" | "SMASK" ) "(" hex ")" }, N at least 1, each part at most once
-abbrev pub scan_of : Register → Option ℕ → Option Parts → Option SaidBy
+abbrev pub scan_of : Register → Option ℕ → Option Parts → Option SeenParsed
 scan_of register None p = None
 scan_of register (Some len) p = cond (len == 0) None (option_map (Scans register len) p)
 
-unfoldable pub scan : Register → List (List ℕ) → Option SaidBy
+unfoldable pub scan : Register → List (List ℕ) → Option SeenParsed
 scan register [] = None
 scan register (n ∷ ws) = scan_of register (number n) (parts 4 no_parts ws)
 
 -- "RESET" | "IDLE"
-unfoldable pub state : List (List ℕ) → Option SaidBy
-state ws = cond (are (codes "RESET" ∷ []) ws) (Some ToReset) (cond (are (codes "IDLE" ∷ []) ws) (Some ToIdle) None)
+unfoldable pub state : List (List ℕ) → Option SeenParsed
+state ws = cond (words_are (codes "RESET" ∷ []) ws) (Some ToReset) (cond (words_are (codes "IDLE" ∷ []) ws) (Some ToIdle) None)
 
 -- [ "IDLE" ] N "TCK" [ "ENDSTATE" "IDLE" ]
-unfoldable pub cycles : List (List ℕ) → Option SaidBy
+unfoldable pub cycles : List (List ℕ) → Option SeenParsed
 cycles [] = None
 cycles (n ∷ ws) =
-    cond (are (codes "TCK" ∷ []) ws || are (codes "TCK" ∷ codes "ENDSTATE" ∷ codes "IDLE" ∷ []) ws) (option_map Runs (number n)) None
+    cond (words_are (codes "TCK" ∷ []) ws || words_are (codes "TCK" ∷ codes "ENDSTATE" ∷ codes "IDLE" ∷ []) ws) (option_map Runs (number n)) None
 
-unfoldable pub run_test : List (List ℕ) → Option SaidBy
+unfoldable pub run_test : List (List ℕ) → Option SeenParsed
 run_test [] = None
-run_test (w ∷ ws) = cond (says (codes "IDLE") w) (cycles ws) (cycles (w ∷ ws))
+run_test (w ∷ ws) = cond (is_word (codes "IDLE") w) (cycles ws) (cycles (w ∷ ws))
 
 -- digits, `.`, `E`, `+` and `-`
 abbrev pub in_real : ℕ → Bool
@@ -133,14 +133,14 @@ in_real b = is_ascii_digit b || (b == 46 || (b == 69 || (b == 101 || (b == 43 ||
 -- [ real "HZ" ]
 unfoldable pub is_frequency : List (List ℕ) → Bool
 is_frequency [] = true
-is_frequency (r ∷ ws) = list_all in_real r && are (codes "HZ" ∷ []) ws
+is_frequency (r ∷ ws) = list_all in_real r && words_are (codes "HZ" ∷ []) ws
 
 -- "OFF" | "ABSENT" | "Z"
 unfoldable pub is_trst : List (List ℕ) → Bool
-is_trst ws = are (codes "OFF" ∷ []) ws || (are (codes "ABSENT" ∷ []) ws || are (codes "Z" ∷ []) ws)
+is_trst ws = words_are (codes "OFF" ∷ []) ws || (words_are (codes "ABSENT" ∷ []) ws || words_are (codes "Z" ∷ []) ws)
 
-abbrev pub if_so : Bool → Option SaidBy
-if_so b = cond b (Some NoEffect) None
+abbrev pub no_effect_if : Bool → Option SeenParsed
+no_effect_if b = cond b (Some NoEffect) None
 
 abbrev pub headers : List (List ℕ)
 headers = codes "HDR" ∷ codes "HIR" ∷ codes "TDR" ∷ codes "TIR" ∷ []
@@ -149,25 +149,25 @@ abbrev pub end_states : List (List ℕ)
 end_states = codes "ENDDR" ∷ codes "ENDIR" ∷ []
 
 -- a command, by its first word
-unfoldable pub said_by : List ℕ → List (List ℕ) → Option SaidBy
-said_by w ws =
-    cond (says (codes "SIR") w) (scan Instruction ws)
-    (cond (says (codes "SDR") w) (scan Data ws)
-    (cond (says_one headers w) (if_so (are (codes "0" ∷ []) ws))
-    (cond (says (codes "STATE") w) (state ws)
-    (cond (says (codes "RUNTEST") w) (run_test ws)
-    (cond (says_one end_states w) (if_so (are (codes "IDLE" ∷ []) ws))
-    (cond (says (codes "FREQUENCY") w) (if_so (is_frequency ws))
-    (cond (says (codes "TRST") w) (if_so (is_trst ws)) None)))))))
+unfoldable pub parsed_by : List ℕ → List (List ℕ) → Option SeenParsed
+parsed_by w ws =
+    cond (is_word (codes "SIR") w) (scan Instruction ws)
+    (cond (is_word (codes "SDR") w) (scan Data ws)
+    (cond (is_one_of headers w) (no_effect_if (words_are (codes "0" ∷ []) ws))
+    (cond (is_word (codes "STATE") w) (state ws)
+    (cond (is_word (codes "RUNTEST") w) (run_test ws)
+    (cond (is_one_of end_states w) (no_effect_if (words_are (codes "IDLE" ∷ []) ws))
+    (cond (is_word (codes "FREQUENCY") w) (no_effect_if (is_frequency ws))
+    (cond (is_word (codes "TRST") w) (no_effect_if (is_trst ws)) None)))))))
 
-unfoldable pub said : List (List ℕ) → Option SaidBy
-said [] = None
-said (w ∷ ws) = said_by w ws
+unfoldable pub command_of_words : List (List ℕ) → Option SeenParsed
+command_of_words [] = None
+command_of_words (w ∷ ws) = parsed_by w ws
 
 -- ---- what is left out
 
-abbrev pub names_one : List (List ℕ) → List (List ℕ) → Bool
-names_one names ws = list_any (says_one names) ws
+abbrev pub any_is_one_of : List (List ℕ) → List (List ℕ) → Bool
+any_is_one_of names ws = list_any (is_one_of names) ws
 
 -- pause states, and runs that are counted by another clock or by time
 abbrev pub left_out_names : List (List ℕ)
@@ -185,18 +185,18 @@ begins_with_length (w ∷ ws) = is_length (number w)
 
 abbrev pub begins_with_on : List (List ℕ) → Bool
 begins_with_on [] = false
-begins_with_on (w ∷ ws) = says (codes "ON") w
+begins_with_on (w ∷ ws) = is_word (codes "ON") w
 
 -- the commands that are left out, by the first word and the text behind it: HDR, HIR, TDR and TIR of a length, PIO,
 -- PIOMAP, TRST ON, paths of states, and what names a pause state or another way to count; states and ways to count are
 -- whole runs of bytes that aren't blank, parentheses and all
 unfoldable pub is_left_out : List ℕ → List ℕ → Bool
 is_left_out w rest =
-    cond (says_one headers w) (begins_with_length (words rest))
-    (cond (says_one (codes "PIO" ∷ codes "PIOMAP" ∷ []) w) true
-    (cond (says (codes "TRST") w) (begins_with_on (words rest))
-    (cond (says (codes "STATE") w) (nat_le 2 (length (runs rest)) || names_one left_out_names (runs rest))
-    (cond (says_one (codes "RUNTEST" ∷ end_states) w) (names_one (codes "RESET" ∷ []) (runs rest) || names_one left_out_names (runs rest)) false))))
+    cond (is_one_of headers w) (begins_with_length (words rest))
+    (cond (is_one_of (codes "PIO" ∷ codes "PIOMAP" ∷ []) w) true
+    (cond (is_word (codes "TRST") w) (begins_with_on (words rest))
+    (cond (is_word (codes "STATE") w) (nat_le 2 (length (runs rest)) || any_is_one_of left_out_names (runs rest))
+    (cond (is_one_of (codes "RUNTEST" ∷ end_states) w) (any_is_one_of (codes "RESET" ∷ []) (runs rest) || any_is_one_of left_out_names (runs rest)) false))))
 
 -- the first word of a command that is left out, as it stands, by the words and the text behind the first of them
 unfoldable pub left_out : List (List ℕ) → List ℕ → Option (List ℕ)

@@ -3,11 +3,11 @@
 use Rattle.std.specs.Prelude.{ℕ, suc, ◌+◌, ◌==◌, nat_le, nat_lt, Bool, true, false, not, ◌&&◌, ◌||◌, cond, List, [], ◌∷◌, ◌++◌, length, Option, Some, None, Result, Ok, Err}
 use Rattle.std.specs.Option.{option_map, is_some}
 use Rattle.svf_writer.specs.SeenCommands.{SeenScan, SeenCommand, SIR, SDR, Reset, Idle, Run}
-use Rattle.svf_reader.specs.declared.said.Register.{Register}
-use Rattle.svf_reader.specs.declared.said.Register.TheVariants.{Instruction, Data}
-use Rattle.svf_reader.specs.declared.kept.Kept.{Kept}
+use Rattle.svf_reader.specs.declared.parsed.Register.{Register}
+use Rattle.svf_reader.specs.declared.parsed.Register.TheVariants.{Instruction, Data}
+use Rattle.svf_reader.specs.declared.so_far.ReadSoFar.{ReadSoFar}
 use Rattle.svf_reader.specs.Texts.{texts, words, plain, behind_word, blanks}
-use Rattle.svf_reader.specs.Commands.{Parts, SaidBy, Scans, ToReset, ToIdle, Runs, NoEffect, said, left_out}
+use Rattle.svf_reader.specs.Commands.{Parts, SeenParsed, Scans, ToReset, ToIdle, Runs, NoEffect, command_of_words, left_out}
 use Rattle.svf_reader.specs.Values.{hex_bits, fitted, is_wide}
 
 -- why a command isn't read
@@ -21,14 +21,14 @@ pub data Cause : Type 0 where
 -- ---- what is kept from command to command: the length of the last scan of each register, whether the play rests in
 -- Test-Logic-Reset, and the clocks so far
 
-abbrev pub at_first : Kept
+abbrev pub at_first : ReadSoFar
 at_first = record { ir = None; dr = None; in_reset = true; clocks = 0 }
 
-abbrev pub last_length : Register → Kept → Option ℕ
+abbrev pub last_length : Register → ReadSoFar → Option ℕ
 last_length Instruction kept = kept.ir
 last_length Data kept = kept.dr
 
-abbrev pub with_length : Register → ℕ → Kept → Kept
+abbrev pub with_length : Register → ℕ → ReadSoFar → ReadSoFar
 with_length Instruction len kept = record kept { ir = Some len }
 with_length Data len kept = record kept { dr = Some len }
 
@@ -38,16 +38,16 @@ scan_clocks Instruction len = len + 6
 scan_clocks Data len = len + 5
 
 -- one clock more from Test-Logic-Reset
-abbrev pub leaving : Kept → ℕ → ℕ
-leaving kept n = cond kept.in_reset (suc n) n
+abbrev pub with_leaving_clock : ReadSoFar → ℕ → ℕ
+with_leaving_clock kept n = cond kept.in_reset (suc n) n
 
 -- a command, if it makes one, and what is kept behind it
 abbrev pub Step : Type 0
-Step = Option SeenCommand × Kept
+Step = Option SeenCommand × ReadSoFar
 
 -- behind so many clocks, if they aren't too many: 1,000,000,000 in all
-abbrev pub clocked : Kept → Bool → ℕ → SeenCommand → Result Step Cause
-clocked kept in_reset n command =
+abbrev pub within_clock_limit : ReadSoFar → Bool → ℕ → SeenCommand → Result Step Cause
+within_clock_limit kept in_reset n command =
     cond (nat_le (kept.clocks + n) 1000000000) (Ok (Some command, record kept { in_reset = in_reset; clocks = kept.clocks + n })) (Err SvfLimit)
 
 -- ---- scans
@@ -81,34 +81,34 @@ other_length (Some n) len = not (n == len)
 abbrev pub tdi_missing : Option ℕ → ℕ → Parts → Bool
 tdi_missing last len p = not (is_some p.tdi) && other_length last len
 
-unfoldable pub scanned : Kept → Register → ℕ → Parts → Result Step Cause
+unfoldable pub scanned : ReadSoFar → Register → ℕ → Parts → Result Step Cause
 scanned kept register len p =
     cond (nat_lt 65536 len) (Err SvfLimit)
     (cond (any_wide len p) (Err HexWide)
     (cond (tdi_missing (last_length register kept) len p) (Err TdiMissing)
-    (clocked (with_length register len kept) false (leaving kept (scan_clocks register len)) (scan_command register (scan_with len p)))))
+    (within_clock_limit (with_length register len kept) false (with_leaving_clock kept (scan_clocks register len)) (scan_command register (scan_with len p)))))
 
 -- ---- one command
 
 -- what a command of the grammar does
-unfoldable pub done : Kept → SaidBy → Result Step Cause
-done kept (Scans register len p) = scanned kept register len p
-done kept ToReset = clocked kept true 5 Reset
-done kept ToIdle = clocked kept false (leaving kept 0) Idle
-done kept (Runs n) = clocked kept false (leaving kept n) (Run n)
-done kept NoEffect = Ok (None, kept)
+unfoldable pub effect_of : ReadSoFar → SeenParsed → Result Step Cause
+effect_of kept (Scans register len p) = scanned kept register len p
+effect_of kept ToReset = within_clock_limit kept true 5 Reset
+effect_of kept ToIdle = within_clock_limit kept false (with_leaving_clock kept 0) Idle
+effect_of kept (Runs n) = within_clock_limit kept false (with_leaving_clock kept n) (Run n)
+effect_of kept NoEffect = Ok (None, kept)
 
-abbrev pub if_said : Kept → Option SaidBy → Result Step Cause
-if_said kept None = Err SvfSyntax
-if_said kept (Some s) = done kept s
+abbrev pub if_parsed : ReadSoFar → Option SeenParsed → Result Step Cause
+if_parsed kept None = Err SvfSyntax
+if_parsed kept (Some s) = effect_of kept s
 
 -- what is left out comes before the grammar, and the grammar before the rest; a command without its `;` isn't in the grammar
-abbrev pub unless_left_out : Kept → Bool → List ℕ → Option (List ℕ) → Result Step Cause
+abbrev pub unless_left_out : ReadSoFar → Bool → List ℕ → Option (List ℕ) → Result Step Cause
 unless_left_out kept ended text (Some word) = Err (LeftOut word)
-unless_left_out kept ended text None = cond ended (if_said kept (said (words text))) (Err SvfSyntax)
+unless_left_out kept ended text None = cond ended (if_parsed kept (command_of_words (words text))) (Err SvfSyntax)
 
-unfoldable pub comes_to : Kept → Bool → List ℕ → Result Step Cause
-comes_to kept ended text = unless_left_out kept ended text (left_out (words text) (behind_word text))
+unfoldable pub read_command : ReadSoFar → Bool → List ℕ → Result Step Cause
+read_command kept ended text = unless_left_out kept ended text (left_out (words text) (behind_word text))
 
 -- ---- a text
 
@@ -131,16 +131,16 @@ at_end [] r start = Ok []
 at_end (w ∷ ws) (Ok step) start = Ok []
 at_end (w ∷ ws) (Err cause) start = Err (record { cause = cause; start = start })
 
-abbrev pub and_then : Result Step Cause → ℕ → (Kept → Result (List SeenCommand) Refusal) → Result (List SeenCommand) Refusal
+abbrev pub and_then : Result Step Cause → ℕ → (ReadSoFar → Result (List SeenCommand) Refusal) → Result (List SeenCommand) Refusal
 and_then (Ok step) start next = in_front_of (listed step.0) (next step.1)
 and_then (Err cause) start next = Err (record { cause = cause; start = start })
 
 -- the commands of some texts, from what is kept and a number of bytes on
-abbrev pub read_from : Kept → ℕ → List (List ℕ) → Result (List SeenCommand) Refusal
+abbrev pub read_from : ReadSoFar → ℕ → List (List ℕ) → Result (List SeenCommand) Refusal
 read_from kept at [] = Ok []
-read_from kept at (t ∷ []) = at_end (words t) (comes_to kept false t) (at + blanks t)
+read_from kept at (t ∷ []) = at_end (words t) (read_command kept false t) (at + blanks t)
 read_from kept at (t ∷ u ∷ us) =
-    and_then (comes_to kept true t) (at + blanks t) (λ next. read_from next (suc (at + length t)) (u ∷ us))
+    and_then (read_command kept true t) (at + blanks t) (λ next. read_from next (suc (at + length t)) (u ∷ us))
 
 -- the commands of an SVF text, or why it is refused
 unfoldable pub svf : List ℕ → Result (List SeenCommand) Refusal

@@ -2,11 +2,11 @@
 use Rattle.std.specs.Prelude.{ℕ, List}
 use Rattle.std.specs.Option.{option_map}
 use Rattle.svf_writer.specs.SeenCommands.{seen_command}
-use Rattle.svf_reader.specs.declared.said.PartTexts.{PartTexts}
-use Rattle.svf_reader.specs.declared.said.Said.{Said}
-use Rattle.svf_reader.specs.declared.said.Said.TheVariants.{Scan, Reset, Idle, Run, Nothing}
+use Rattle.svf_reader.specs.declared.parsed.PartTexts.{PartTexts}
+use Rattle.svf_reader.specs.declared.parsed.Parsed.{Parsed}
+use Rattle.svf_reader.specs.declared.parsed.Parsed.TheVariants.{Scan, Reset, Idle, Run, Nothing}
 use Rattle.svf_reader.specs.declared.meaning.Outcome.{Outcome}
-use Rattle.svf_reader.specs.Commands.{Parts, SaidBy, Scans, ToReset, ToIdle, Runs, NoEffect, hex_digits}
+use Rattle.svf_reader.specs.Commands.{Parts, SeenParsed, Scans, ToReset, ToIdle, Runs, NoEffect, hex_digits}
 use Rattle.svf_reader.specs.Meaning.{Step}
 use Rattle.svf_reader.specs.Reading.{words_of}
 
@@ -18,12 +18,12 @@ abbrev pub seen_parts : PartTexts → Parts
 seen_parts p =
     record { tdi = option_map (λ t. digits_of t.now) p.tdi; tdo = option_map (λ t. digits_of t.now) p.tdo; mask = option_map (λ t. digits_of t.now) p.mask; smask = option_map (λ t. digits_of t.now) p.smask }
 
-abbrev pub seen_said : Said → SaidBy
-seen_said (Scan register len parts) = Scans register len (seen_parts parts)
-seen_said Reset = ToReset
-seen_said Idle = ToIdle
-seen_said (Run cycles) = Runs cycles
-seen_said Nothing = NoEffect
+abbrev pub seen_parsed : Parsed → SeenParsed
+seen_parsed (Scan register len parts) = Scans register len (seen_parts parts)
+seen_parsed Reset = ToReset
+seen_parsed Idle = ToIdle
+seen_parsed (Run cycles) = Runs cycles
+seen_parsed Nothing = NoEffect
 
 abbrev pub seen_step : Outcome → Step
 seen_step o = (option_map seen_command o.command, o.kept)

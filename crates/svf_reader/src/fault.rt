@@ -1,7 +1,7 @@
 // Why a text isn't read.
 ghost use Rattle.std.specs.Prelude.{◌≡◌};
 ghost use Rattle.svf_reader.specs.declared.fault.SvfFault.TheVariants as svf;
-ghost use Rattle.svf_reader.specs.declared.fault.Refused.TheVariants as refused;
+ghost use Rattle.svf_reader.specs.declared.fault.SvfCause.TheVariants as cause;
 
 use ij_bits::OutOfMemory;
 use ij_text::{Name, Place};
@@ -26,12 +26,12 @@ pub enum SvfFault {
 
 /// The cause alone.
 #[derive(Drop)]
-pub(crate) enum Refused {
+pub(crate) enum SvfCause {
     LeftOut(Name),
-    Syntax,
-    Limit,
-    Wide,
-    NoTdi,
+    SvfSyntax,
+    SvfLimit,
+    HexWide,
+    TdiMissing,
     OutOfMemory,
 }
 
@@ -43,26 +43,26 @@ impl From<OutOfMemory> for SvfFault {
     }
 }
 
-impl From<OutOfMemory> for Refused {
-    ghost from_gives = { λ _ e. e ≡ refused.OutOfMemory };
+impl From<OutOfMemory> for SvfCause {
+    ghost from_gives = { λ _ e. e ≡ cause.OutOfMemory };
 
     fn from(_: OutOfMemory) -> Self {
-        Refused::OutOfMemory
+        SvfCause::OutOfMemory
     }
 }
 
-impl From<AllocError> for Refused {
-    ghost from_gives = { λ _ e. e ≡ refused.OutOfMemory };
+impl From<AllocError> for SvfCause {
+    ghost from_gives = { λ _ e. e ≡ cause.OutOfMemory };
 
     fn from(_: AllocError) -> Self {
-        Refused::OutOfMemory
+        SvfCause::OutOfMemory
     }
 }
 
-impl<T: Drop> From<AllocFailed<T>> for Refused {
-    ghost from_gives = { λ _ e. e ≡ refused.OutOfMemory };
+impl<T: Drop> From<AllocFailed<T>> for SvfCause {
+    ghost from_gives = { λ _ e. e ≡ cause.OutOfMemory };
 
     fn from(_: AllocFailed<T>) -> Self {
-        Refused::OutOfMemory
+        SvfCause::OutOfMemory
     }
 }

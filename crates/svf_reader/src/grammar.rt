@@ -1,13 +1,13 @@
 // The commands of the grammar.
 ghost use Rattle.std.specs.Prelude.{◌≡◌, ◌<◌, false, codes, length, option_map, Some, None, IfSome};
 ghost use Rattle.std.specs.List.{list_all};
-ghost use Rattle.svf_reader.specs.Commands.{fill, with_part, behind_hex, one_part, parts, no_parts, scan, state, cycles, run_test, in_real, is_frequency, is_trst, if_so, said_by, said};
+ghost use Rattle.svf_reader.specs.Commands.{put_part_once, with_part, behind_hex, one_part, parts, no_parts, scan, state, cycles, run_test, in_real, is_frequency, is_trst, no_effect_if, parsed_by, command_of_words};
 ghost use Rattle.svf_reader.specs.Reading.{words_of};
-ghost use Rattle.svf_reader.specs.Seen.{digits_of, seen_parts, seen_said};
+ghost use Rattle.svf_reader.specs.Seen.{digits_of, seen_parts, seen_parsed};
 
+use crate::parsed::{Parsed, PartTexts, Register};
 use crate::pieces::next_word;
-use crate::said::{PartTexts, Register, Said};
-use crate::words::{all_hex, are, is_close, is_open, number, says, says_one};
+use crate::words::{all_hex, is_close, is_one_of, is_open, is_word, number, words_are};
 
 /// The text behind one or more hexadecimal digits and the `)`.
 fn behind_hex(text: &[u8]) -> Option<&[u8]>
@@ -29,8 +29,8 @@ fn behind_hex(text: &[u8]) -> Option<&[u8]>
 }
 
 /// These parts, if a part doesn't stand there yet.
-fn fill<'a>(part: Option<&'a [u8]>, filled: PartTexts<'a>) -> Option<PartTexts<'a>>
-    ensures { option_map seen_parts result ≡ fill (option_map (λ t. digits_of t.now) part.entry) (seen_parts filled.entry) }
+fn put_part_once<'a>(part: Option<&'a [u8]>, filled: PartTexts<'a>) -> Option<PartTexts<'a>>
+    ensures { option_map seen_parts result ≡ put_part_once (option_map (λ t. digits_of t.now) part.entry) (seen_parts filled.entry) }
 {
     match part {
         Some(_) => None,
@@ -43,32 +43,32 @@ fn with_part<'a>(name: &[u8], text: &'a [u8], parts: PartTexts<'a>) -> Option<Pa
     ensures { option_map seen_parts result ≡ with_part name.now (digits_of text.now) (seen_parts parts.entry) }
 {
     let digits = Some(text);
-    if says(name, b"TDI") {
-        fill(
+    if is_word(name, b"TDI") {
+        put_part_once(
             parts.tdi,
             PartTexts {
                 tdi: digits,
                 ..parts
             },
         )
-    } else if says(name, b"TDO") {
-        fill(
+    } else if is_word(name, b"TDO") {
+        put_part_once(
             parts.tdo,
             PartTexts {
                 tdo: digits,
                 ..parts
             },
         )
-    } else if says(name, b"MASK") {
-        fill(
+    } else if is_word(name, b"MASK") {
+        put_part_once(
             parts.mask,
             PartTexts {
                 mask: digits,
                 ..parts
             },
         )
-    } else if says(name, b"SMASK") {
-        fill(
+    } else if is_word(name, b"SMASK") {
+        put_part_once(
             parts.smask,
             PartTexts {
                 smask: digits,
@@ -128,8 +128,8 @@ fn parts(text: &[u8]) -> Option<PartTexts<'_>>
 
 /// What is behind `SIR` or `SDR`.
 #[tactic(auto, unfolding(crate::specs::Commands::scan))]
-fn scan(register: Register, text: &[u8]) -> Option<Said<'_>>
-    ensures { option_map seen_said result ≡ scan register (words_of text.now) }
+fn scan(register: Register, text: &[u8]) -> Option<Parsed<'_>>
+    ensures { option_map seen_parsed result ≡ scan register (words_of text.now) }
 {
     let word = next_word(text)?;
     let len = number(word.piece)?;
@@ -137,18 +137,18 @@ fn scan(register: Register, text: &[u8]) -> Option<Said<'_>>
     if len == 0 {
         return None;
     }
-    Some(Said::Scan(register, len, parts))
+    Some(Parsed::Scan(register, len, parts))
 }
 
 /// What is behind `STATE`.
 #[tactic(auto, unfolding(crate::specs::Commands::state))]
-fn state(text: &[u8]) -> Option<Said<'_>>
-    ensures { option_map seen_said result ≡ state (words_of text.now) }
+fn state(text: &[u8]) -> Option<Parsed<'_>>
+    ensures { option_map seen_parsed result ≡ state (words_of text.now) }
 {
-    if are(text, &[b"RESET"]) {
-        Some(Said::Reset)
-    } else if are(text, &[b"IDLE"]) {
-        Some(Said::Idle)
+    if words_are(text, &[b"RESET"]) {
+        Some(Parsed::Reset)
+    } else if words_are(text, &[b"IDLE"]) {
+        Some(Parsed::Idle)
     } else {
         None
     }
@@ -156,24 +156,24 @@ fn state(text: &[u8]) -> Option<Said<'_>>
 
 /// What is behind `RUNTEST` and, if it stands there, `IDLE`.
 #[tactic(auto, unfolding(crate::specs::Commands::cycles))]
-fn cycles(text: &[u8]) -> Option<Said<'_>>
-    ensures { option_map seen_said result ≡ cycles (words_of text.now) }
+fn cycles(text: &[u8]) -> Option<Parsed<'_>>
+    ensures { option_map seen_parsed result ≡ cycles (words_of text.now) }
 {
     let word = next_word(text)?;
-    if !are(word.rest, &[b"TCK"]) && !are(word.rest, &[b"TCK", b"ENDSTATE", b"IDLE"]) {
+    if !words_are(word.rest, &[b"TCK"]) && !words_are(word.rest, &[b"TCK", b"ENDSTATE", b"IDLE"]) {
         return None;
     }
     let cycles = number(word.piece)?;
-    Some(Said::Run(cycles))
+    Some(Parsed::Run(cycles))
 }
 
 /// What is behind `RUNTEST`.
 #[tactic(auto, unfolding(crate::specs::Commands::run_test))]
-fn run_test(text: &[u8]) -> Option<Said<'_>>
-    ensures { option_map seen_said result ≡ run_test (words_of text.now) }
+fn run_test(text: &[u8]) -> Option<Parsed<'_>>
+    ensures { option_map seen_parsed result ≡ run_test (words_of text.now) }
 {
     let word = next_word(text)?;
-    if says(word.piece, b"IDLE") {
+    if is_word(word.piece, b"IDLE") {
         cycles(word.rest)
     } else {
         cycles(text)
@@ -199,7 +199,7 @@ fn is_frequency(text: &[u8]) -> bool
 {
     match next_word(text) {
         None => true,
-        Some(word) => all_real(word.piece) && are(word.rest, &[b"HZ"]),
+        Some(word) => all_real(word.piece) && words_are(word.rest, &[b"HZ"]),
     }
 }
 
@@ -208,46 +208,46 @@ fn is_frequency(text: &[u8]) -> bool
 fn is_trst(text: &[u8]) -> bool
     ensures { result ≡ is_trst (words_of text.now) }
 {
-    are(text, &[b"OFF"]) || are(text, &[b"ABSENT"]) || are(text, &[b"Z"])
+    words_are(text, &[b"OFF"]) || words_are(text, &[b"ABSENT"]) || words_are(text, &[b"Z"])
 }
 
-fn if_so<'a>(so: bool) -> Option<Said<'a>>
-    ensures { option_map seen_said result ≡ if_so so }
+fn no_effect_if<'a>(so: bool) -> Option<Parsed<'a>>
+    ensures { option_map seen_parsed result ≡ no_effect_if so }
 {
-    if so { Some(Said::Nothing) } else { None }
+    if so { Some(Parsed::Nothing) } else { None }
 }
 
 /// What a command with this first word says.
-#[tactic(auto, unfolding(crate::specs::Commands::said_by))]
-fn said_by<'a>(word: &[u8], text: &'a [u8]) -> Option<Said<'a>>
-    ensures { option_map seen_said result ≡ said_by word.now (words_of text.now) }
+#[tactic(auto, unfolding(crate::specs::Commands::parsed_by))]
+fn parsed_by<'a>(word: &[u8], text: &'a [u8]) -> Option<Parsed<'a>>
+    ensures { option_map seen_parsed result ≡ parsed_by word.now (words_of text.now) }
 {
-    if says(word, b"SIR") {
+    if is_word(word, b"SIR") {
         scan(Register::Instruction, text)
-    } else if says(word, b"SDR") {
+    } else if is_word(word, b"SDR") {
         scan(Register::Data, text)
-    } else if says_one(word, &[b"HDR", b"HIR", b"TDR", b"TIR"]) {
-        if_so(are(text, &[b"0"]))
-    } else if says(word, b"STATE") {
+    } else if is_one_of(word, &[b"HDR", b"HIR", b"TDR", b"TIR"]) {
+        no_effect_if(words_are(text, &[b"0"]))
+    } else if is_word(word, b"STATE") {
         state(text)
-    } else if says(word, b"RUNTEST") {
+    } else if is_word(word, b"RUNTEST") {
         run_test(text)
-    } else if says_one(word, &[b"ENDDR", b"ENDIR"]) {
-        if_so(are(text, &[b"IDLE"]))
-    } else if says(word, b"FREQUENCY") {
-        if_so(is_frequency(text))
-    } else if says(word, b"TRST") {
-        if_so(is_trst(text))
+    } else if is_one_of(word, &[b"ENDDR", b"ENDIR"]) {
+        no_effect_if(words_are(text, &[b"IDLE"]))
+    } else if is_word(word, b"FREQUENCY") {
+        no_effect_if(is_frequency(text))
+    } else if is_word(word, b"TRST") {
+        no_effect_if(is_trst(text))
     } else {
         None
     }
 }
 
 /// What a command says, if it is one of the grammar.
-#[tactic(auto, unfolding(crate::specs::Commands::said))]
-pub(crate) fn said(text: &[u8]) -> Option<Said<'_>>
-    ensures { option_map seen_said result ≡ said (words_of text.now) }
+#[tactic(auto, unfolding(crate::specs::Commands::command_of_words))]
+pub(crate) fn command_of_words(text: &[u8]) -> Option<Parsed<'_>>
+    ensures { option_map seen_parsed result ≡ command_of_words (words_of text.now) }
 {
     let word = next_word(text)?;
-    said_by(word.piece, word.rest)
+    parsed_by(word.piece, word.rest)
 }

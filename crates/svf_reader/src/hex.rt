@@ -7,7 +7,7 @@ ghost use Rattle.svf_reader.specs.Values.{hex_bits, has_one, fitted, is_wide};
 ghost use Rattle.svf_reader.specs.Meaning.{hex_value};
 ghost use Rattle.svf_reader.specs.Seen.{digits_of};
 
-use crate::fault::Refused;
+use crate::fault::SvfCause;
 use crate::pieces::next_word;
 use crate::words::is_close;
 use ij_bits::Bits;
@@ -110,13 +110,13 @@ fn put_digits(bits: &mut Bits, len: u32, digits: &[u8]) -> bool
 
 /// The bits of some digits, of which the last has position 0.
 #[tactic(auto, unfolding(crate::specs::Meaning::hex_value))]
-fn digits_bits(alloc: Global, len: u32, digits: &[u8]) -> Result<Bits, Refused>
+fn digits_bits(alloc: Global, len: u32, digits: &[u8]) -> Result<Bits, SvfCause>
     ensures { Gives (λ bits. bits.items) result (hex_value len digits.now) }
 {
     let mut bits = Bits::zeros(alloc, len)?;
     bits.clear();
     if put_digits(&mut bits, len, digits) {
-        return Err(Refused::Wide);
+        return Err(SvfCause::HexWide);
     }
     Ok(bits)
 }
@@ -150,7 +150,7 @@ fn gathered(alloc: Global, text: &[u8]) -> Result<Vec<u8>, AllocError>
 }
 
 /// The bits of a hexadecimal text up to its `)`, of which the last digit has position 0.
-pub(crate) fn text_bits(alloc: Global, len: u32, text: &[u8]) -> Result<Bits, Refused>
+pub(crate) fn text_bits(alloc: Global, len: u32, text: &[u8]) -> Result<Bits, SvfCause>
     ensures { Gives (λ bits. bits.items) result (hex_value len (digits_of text.now)) }
 {
     if let Some(digits) = lone_word(text) {

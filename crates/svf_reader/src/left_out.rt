@@ -1,11 +1,11 @@
 // Commands of SVF that are left out.
 ghost use Rattle.std.specs.Prelude.{◌≡◌, nat_le, length, option_map};
-ghost use Rattle.svf_reader.specs.Commands.{begins_with_length, begins_with_on, is_left_out, left_out, left_out_names, headers, names_one};
+ghost use Rattle.svf_reader.specs.Commands.{begins_with_length, begins_with_on, is_left_out, left_out, left_out_names, headers, any_is_one_of};
 ghost use Rattle.svf_reader.specs.Reading.{words_of, runs_of};
 ghost use Rattle.svf_reader.specs.Texts.{plain, behind_word};
 
 use crate::pieces::{next_run, next_word};
-use crate::words::{names_one, number, says, says_one};
+use crate::words::{any_is_one_of, is_one_of, is_word, number};
 
 /// Whether a length that isn't 0 stands at the front.
 fn begins_with_length(text: &[u8]) -> bool
@@ -22,7 +22,7 @@ fn begins_with_on(text: &[u8]) -> bool
 {
     match next_word(text) {
         None => false,
-        Some(word) => says(word.piece, b"ON"),
+        Some(word) => is_word(word.piece, b"ON"),
     }
 }
 
@@ -38,9 +38,9 @@ fn has_two(text: &[u8]) -> bool
 
 /// Whether a run says a pause state, or another way to count than by TCK.
 fn names_left_out(text: &[u8]) -> bool
-    ensures { result ≡ names_one left_out_names (runs_of text.now) }
+    ensures { result ≡ any_is_one_of left_out_names (runs_of text.now) }
 {
-    names_one(text, &[b"DRPAUSE", b"IRPAUSE", b"SCK", b"SEC", b"MAXIMUM"])
+    any_is_one_of(text, &[b"DRPAUSE", b"IRPAUSE", b"SCK", b"SEC", b"MAXIMUM"])
 }
 
 /// Whether a command is left out, by its first word and the text behind it.
@@ -48,16 +48,16 @@ fn names_left_out(text: &[u8]) -> bool
 fn is_left_out(word: &[u8], text: &[u8]) -> bool
     ensures { result ≡ is_left_out word.now (plain text.now) }
 {
-    if says_one(word, &[b"HDR", b"HIR", b"TDR", b"TIR"]) {
+    if is_one_of(word, &[b"HDR", b"HIR", b"TDR", b"TIR"]) {
         begins_with_length(text)
-    } else if says_one(word, &[b"PIO", b"PIOMAP"]) {
+    } else if is_one_of(word, &[b"PIO", b"PIOMAP"]) {
         true
-    } else if says(word, b"TRST") {
+    } else if is_word(word, b"TRST") {
         begins_with_on(text)
-    } else if says(word, b"STATE") {
+    } else if is_word(word, b"STATE") {
         has_two(text) || names_left_out(text)
-    } else if says_one(word, &[b"RUNTEST", b"ENDDR", b"ENDIR"]) {
-        names_one(text, &[b"RESET"]) || names_left_out(text)
+    } else if is_one_of(word, &[b"RUNTEST", b"ENDDR", b"ENDIR"]) {
+        any_is_one_of(text, &[b"RESET"]) || names_left_out(text)
     } else {
         false
     }
@@ -70,7 +70,7 @@ pub(crate) fn left_out(text: &[u8]) -> Option<&[u8]>
 {
     let word = next_word(text)?;
     // most commands
-    if says_one(word.piece, &[b"SDR", b"SIR"]) {
+    if is_one_of(word.piece, &[b"SDR", b"SIR"]) {
         return None;
     }
     if is_left_out(word.piece, word.rest) {

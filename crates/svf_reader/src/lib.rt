@@ -5,13 +5,13 @@ mod bytes;
 mod fault;
 mod grammar;
 mod hex;
-mod kept;
 mod laws;
 mod left_out;
 mod meaning;
+mod parsed;
 mod pieces;
 mod reading;
-mod said;
+mod so_far;
 #[cfg(test)]
 mod tests;
 mod words;

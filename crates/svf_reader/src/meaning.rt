@@ -3,16 +3,16 @@ ghost use Rattle.std.specs.Prelude.{◌≡◌, ◌+◌, ◌^◌, ◌<◌, option
 ghost use Rattle.svf_writer.specs.SeenCommands.{seen_scan, seen_command};
 ghost use Rattle.svf_reader.specs.Answers.{Gives, part_value, scan_value};
 ghost use Rattle.svf_reader.specs.Commands.{Runs};
-ghost use Rattle.svf_reader.specs.Meaning.{last_length, with_length, other_length, tdi_missing, scan_clocks, leaving, clocked, scan_command, scanned, done, comes_to};
-ghost use Rattle.svf_reader.specs.Seen.{digits_of, seen_parts, seen_said, seen_step};
+ghost use Rattle.svf_reader.specs.Meaning.{last_length, with_length, other_length, tdi_missing, scan_clocks, with_leaving_clock, within_clock_limit, scan_command, scanned, effect_of, read_command};
+ghost use Rattle.svf_reader.specs.Seen.{digits_of, seen_parts, seen_parsed, seen_step};
 ghost use Rattle.svf_reader.specs.Texts.{plain};
 
-use crate::fault::Refused;
-use crate::grammar::said;
+use crate::fault::SvfCause;
+use crate::grammar::command_of_words;
 use crate::hex::text_bits;
-use crate::kept::Kept;
 use crate::left_out::left_out;
-use crate::said::{PartTexts, Register, Said};
+use crate::parsed::{Parsed, PartTexts, Register};
+use crate::so_far::ReadSoFar;
 use ij_bits::{Bits, List};
 use std::alloc::Global;
 use svf_writer::{Command, Scan};
@@ -21,11 +21,11 @@ use svf_writer::{Command, Scan};
 #[derive(Drop)]
 pub(crate) struct Outcome {
     pub command: Option<Command>,
-    pub kept: Kept,
+    pub kept: ReadSoFar,
 }
 
 #[tactic(auto, unfolding(crate::specs::Answers::part_value, crate::specs::Meaning::hex_value))]
-fn part_of(alloc: Global, len: u32, text: Option<&[u8]>) -> Result<Option<Bits>, Refused>
+fn part_of(alloc: Global, len: u32, text: Option<&[u8]>) -> Result<Option<Bits>, SvfCause>
     ensures { Gives (λ o. option_map (λ bits. bits.items) o) result (part_value len (option_map (λ t. digits_of t.now) text.entry)) }
 {
     match text {
@@ -36,7 +36,7 @@ fn part_of(alloc: Global, len: u32, text: Option<&[u8]>) -> Result<Option<Bits>,
 
 /// The scan of a length with these parts.
 #[tactic(auto, unfolding(crate::specs::Answers::scan_value))]
-fn scan_with(alloc: Global, len: u32, parts: PartTexts) -> Result<Scan, Refused>
+fn scan_with(alloc: Global, len: u32, parts: PartTexts) -> Result<Scan, SvfCause>
     ensures { Gives seen_scan result (scan_value len (seen_parts parts.entry)) }
 {
     let tdi = part_of(alloc, len, parts.tdi)?;
@@ -52,7 +52,7 @@ fn scan_with(alloc: Global, len: u32, parts: PartTexts) -> Result<Scan, Refused>
     })
 }
 
-fn last_length(register: Register, kept: Kept) -> Option<u32>
+fn last_length(register: Register, kept: ReadSoFar) -> Option<u32>
     ensures { result ≡ last_length register kept }
 {
     match register {
@@ -61,13 +61,13 @@ fn last_length(register: Register, kept: Kept) -> Option<u32>
     }
 }
 
-fn with_length(register: Register, len: u32, kept: Kept) -> Kept
+fn with_length(register: Register, len: u32, kept: ReadSoFar) -> ReadSoFar
     ensures { result ≡ with_length register len kept }
 {
     let last = Some(len);
     match register {
-        Register::Instruction => Kept { ir: last, ..kept },
-        Register::Data => Kept { dr: last, ..kept },
+        Register::Instruction => ReadSoFar { ir: last, ..kept },
+        Register::Data => ReadSoFar { dr: last, ..kept },
     }
 }
 
@@ -98,9 +98,9 @@ fn scan_clocks(register: Register, len: u32) -> u64
 }
 
 /// One clock more where Test-Logic-Reset is left.
-fn leaving(kept: Kept, n: u64) -> u64
+fn with_leaving_clock(kept: ReadSoFar, n: u64) -> u64
     requires { n < 2 ^ 60 }
-    ensures { result ≡ leaving kept n }
+    ensures { result ≡ with_leaving_clock kept n }
 {
     if kept.in_reset { n + 1 } else { n }
 }
@@ -115,18 +115,23 @@ fn scan_command(register: Register, scan: Scan) -> Command
 }
 
 /// A command behind so many more clocks.
-fn clocked(kept: Kept, in_reset: bool, n: u64, command: Command) -> Result<Outcome, Refused>
+fn within_clock_limit(
+    kept: ReadSoFar,
+    in_reset: bool,
+    n: u64,
+    command: Command,
+) -> Result<Outcome, SvfCause>
     requires { n < 2 ^ 61 }
-    ensures { Gives seen_step result (clocked kept in_reset n (seen_command command)) }
+    ensures { Gives seen_step result (within_clock_limit kept in_reset n (seen_command command)) }
 {
     let clocks = u64::from(kept.clocks) + n;
     if clocks > 1_000_000_000 {
-        return Err(Refused::Limit);
+        return Err(SvfCause::SvfLimit);
     }
     let clocks = clocks as u32;
     Ok(Outcome {
         command: Some(command),
-        kept: Kept {
+        kept: ReadSoFar {
             in_reset,
             clocks,
             ..kept
@@ -138,23 +143,23 @@ fn clocked(kept: Kept, in_reset: bool, n: u64, command: Command) -> Result<Outco
 #[tactic(auto, unfolding(crate::specs::Meaning::scanned))]
 fn scanned(
     alloc: Global,
-    kept: Kept,
+    kept: ReadSoFar,
     register: Register,
     len: u64,
     parts: PartTexts,
-) -> Result<Outcome, Refused>
+) -> Result<Outcome, SvfCause>
     ensures { Gives seen_step result (scanned kept register len (seen_parts parts.entry)) }
 {
     if len > 65536 {
-        return Err(Refused::Limit);
+        return Err(SvfCause::SvfLimit);
     }
     let len = len as u32;
     let scan = scan_with(alloc, len, parts)?;
     if tdi_missing(last_length(register, kept), len, parts) {
-        return Err(Refused::NoTdi);
+        return Err(SvfCause::TdiMissing);
     }
-    let clocks = leaving(kept, scan_clocks(register, len));
-    clocked(
+    let clocks = with_leaving_clock(kept, scan_clocks(register, len));
+    within_clock_limit(
         with_length(register, len, kept),
         false,
         clocks,
@@ -162,32 +167,32 @@ fn scanned(
     )
 }
 
-#[tactic(auto, unfolding(crate::specs::Meaning::done))]
-fn run(kept: Kept, cycles: u64) -> Result<Outcome, Refused>
-    ensures { Gives seen_step result (done kept (Runs cycles)) }
+#[tactic(auto, unfolding(crate::specs::Meaning::effect_of))]
+fn run(kept: ReadSoFar, cycles: u64) -> Result<Outcome, SvfCause>
+    ensures { Gives seen_step result (effect_of kept (Runs cycles)) }
 {
     if cycles > 1_000_000_000 {
-        return Err(Refused::Limit);
+        return Err(SvfCause::SvfLimit);
     }
-    clocked(
+    within_clock_limit(
         kept,
         false,
-        leaving(kept, cycles),
+        with_leaving_clock(kept, cycles),
         Command::Run(cycles as u32),
     )
 }
 
 /// What a command of the grammar does.
-#[tactic(auto, unfolding(crate::specs::Meaning::done))]
-fn done(alloc: Global, kept: Kept, said: Said) -> Result<Outcome, Refused>
-    ensures { Gives seen_step result (done kept (seen_said said.entry)) }
+#[tactic(auto, unfolding(crate::specs::Meaning::effect_of))]
+fn effect_of(alloc: Global, kept: ReadSoFar, parsed: Parsed) -> Result<Outcome, SvfCause>
+    ensures { Gives seen_step result (effect_of kept (seen_parsed parsed.entry)) }
 {
-    match said {
-        Said::Scan(register, len, parts) => scanned(alloc, kept, register, len, parts),
-        Said::Reset => clocked(kept, true, 5, Command::Reset),
-        Said::Idle => clocked(kept, false, leaving(kept, 0), Command::Idle),
-        Said::Run(cycles) => run(kept, cycles),
-        Said::Nothing => Ok(Outcome {
+    match parsed {
+        Parsed::Scan(register, len, parts) => scanned(alloc, kept, register, len, parts),
+        Parsed::Reset => within_clock_limit(kept, true, 5, Command::Reset),
+        Parsed::Idle => within_clock_limit(kept, false, with_leaving_clock(kept, 0), Command::Idle),
+        Parsed::Run(cycles) => run(kept, cycles),
+        Parsed::Nothing => Ok(Outcome {
             command: None,
             kept,
         }),
@@ -195,24 +200,24 @@ fn done(alloc: Global, kept: Kept, said: Said) -> Result<Outcome, Refused>
 }
 
 /// What a command comes to, of which this is the text, and whether its `;` is there.
-#[tactic(auto, unfolding(crate::specs::Meaning::comes_to, crate::specs::Reading::words_of))]
-pub(crate) fn comes_to(
+#[tactic(auto, unfolding(crate::specs::Meaning::read_command, crate::specs::Reading::words_of))]
+pub(crate) fn read_command(
     alloc: Global,
-    kept: Kept,
+    kept: ReadSoFar,
     ended: bool,
     text: &[u8],
-) -> Result<Outcome, Refused>
-    ensures { Gives seen_step result (comes_to kept ended (plain text.now)) }
+) -> Result<Outcome, SvfCause>
+    ensures { Gives seen_step result (read_command kept ended (plain text.now)) }
 {
     if let Some(word) = left_out(text) {
         let word = Vec::from_slice(alloc, word)?;
-        return Err(Refused::LeftOut(List::from(word)));
+        return Err(SvfCause::LeftOut(List::from(word)));
     }
     if !ended {
-        return Err(Refused::Syntax);
+        return Err(SvfCause::SvfSyntax);
     }
-    match said(text) {
-        None => Err(Refused::Syntax),
-        Some(said) => done(alloc, kept, said),
+    match command_of_words(text) {
+        None => Err(SvfCause::SvfSyntax),
+        Some(parsed) => effect_of(alloc, kept, parsed),
     }
 }

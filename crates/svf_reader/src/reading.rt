@@ -9,10 +9,10 @@ ghost use Rattle.svf_reader.specs.Meaning.{Refusal, LeftOut, SvfSyntax, SvfLimit
 ghost use Rattle.svf_reader.specs.Texts.{plain, texts, blanks, place_at};
 
 use crate::bytes::{Class, place_at, run_len};
-use crate::fault::{Refused, SvfFault};
-use crate::kept::Kept;
-use crate::meaning::comes_to;
+use crate::fault::{SvfCause, SvfFault};
+use crate::meaning::read_command;
 use crate::pieces::{Piece, next_word};
+use crate::so_far::ReadSoFar;
 use ij_bits::OutOfMemory;
 use ij_text::Place;
 use std::alloc::Global;
@@ -32,16 +32,16 @@ fn next_text<'a>(text: &'a [u8]) -> Option<Piece<'a>>
 }
 
 /// A refusal at a place.
-fn refused_at(refused: Refused, at: Place) -> SvfFault
+fn refused_at(refused: SvfCause, at: Place) -> SvfFault
     ensures { AtPlace refused at result }
 {
     match refused {
-        Refused::LeftOut(word) => SvfFault::LeftOut { at, word },
-        Refused::Syntax => SvfFault::SvfSyntax { at },
-        Refused::Limit => SvfFault::SvfLimit { at },
-        Refused::Wide => SvfFault::HexWide { at },
-        Refused::NoTdi => SvfFault::TdiMissing { at },
-        Refused::OutOfMemory => SvfFault::OutOfMemory,
+        SvfCause::LeftOut(word) => SvfFault::LeftOut { at, word },
+        SvfCause::SvfSyntax => SvfFault::SvfSyntax { at },
+        SvfCause::SvfLimit => SvfFault::SvfLimit { at },
+        SvfCause::HexWide => SvfFault::HexWide { at },
+        SvfCause::TdiMissing => SvfFault::TdiMissing { at },
+        SvfCause::OutOfMemory => SvfFault::OutOfMemory,
     }
 }
 
@@ -73,7 +73,7 @@ fn read(alloc: Global, src: &[u8]) -> Result<Commands, SvfFault>
     ensures fault { IfErr result (λ fault. Refuses src.now fault) }
 {
     let mut commands = Commands::new(alloc);
-    let mut kept = Kept {
+    let mut kept = ReadSoFar {
         ir: None,
         dr: None,
         in_reset: true,
@@ -81,7 +81,7 @@ fn read(alloc: Global, src: &[u8]) -> Result<Commands, SvfFault>
     };
     let mut rest = src;
     while let Some(next) = next_text(rest) {
-        let outcome = match comes_to(alloc, kept, true, next.piece) {
+        let outcome = match read_command(alloc, kept, true, next.piece) {
             Ok(outcome) => outcome,
             Err(refused) => {
                 let at = command_place(src, rest.len(), next.piece);
@@ -94,7 +94,7 @@ fn read(alloc: Global, src: &[u8]) -> Result<Commands, SvfFault>
     }
     match next_word(rest) {
         None => Ok(commands),
-        Some(_) => match comes_to(alloc, kept, false, rest) {
+        Some(_) => match read_command(alloc, kept, false, rest) {
             Ok(_) => Ok(commands),
             Err(refused) => {
                 let at = command_place(src, rest.len(), rest);

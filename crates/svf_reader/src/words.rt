@@ -2,14 +2,14 @@
 ghost use Rattle.std.specs.Prelude.{◌≡◌, ◌<◌, ◌≤◌, ◌^◌, length, map, IfSome};
 ghost use Rattle.std.specs.List.{list_all};
 ghost use Rattle.std.specs.Char.{is_ascii_digit, is_ascii_hexdigit};
-ghost use Rattle.svf_reader.specs.Commands.{is_open, is_close, says, says_one, are, names_one, number_from, number};
+ghost use Rattle.svf_reader.specs.Commands.{is_open, is_close, is_word, is_one_of, words_are, any_is_one_of, number_from, number};
 ghost use Rattle.svf_reader.specs.Reading.{words_of, runs_of};
 
 use crate::pieces::{next_run, next_word};
 
 /// Whether a word says a name, in either case.
-pub(crate) fn says(word: &[u8], name: &[u8]) -> bool
-    ensures { result ≡ says name.now word.now }
+pub(crate) fn is_word(word: &[u8], name: &[u8]) -> bool
+    ensures { result ≡ is_word name.now word.now }
 {
     word.eq_ignore_ascii_case(name)
 }
@@ -27,11 +27,11 @@ pub(crate) fn is_close(word: &[u8]) -> bool
 }
 
 /// Whether a word says one of some names.
-pub(crate) fn says_one(word: &[u8], names: &[&[u8]]) -> bool
-    ensures { result ≡ says_one (map (λ name. name.now) names.now) word.now }
+pub(crate) fn is_one_of(word: &[u8], names: &[&[u8]]) -> bool
+    ensures { result ≡ is_one_of (map (λ name. name.now) names.now) word.now }
 {
     for name in names {
-        if says(word, name) {
+        if is_word(word, name) {
             return true;
         }
     }
@@ -39,15 +39,15 @@ pub(crate) fn says_one(word: &[u8], names: &[&[u8]]) -> bool
 }
 
 /// Whether a text has exactly these words.
-pub(crate) fn are(text: &[u8], names: &[&[u8]]) -> bool
-    ensures { result ≡ are (map (λ name. name.now) names.now) (words_of text.now) }
+pub(crate) fn words_are(text: &[u8], names: &[&[u8]]) -> bool
+    ensures { result ≡ words_are (map (λ name. name.now) names.now) (words_of text.now) }
 {
     let mut text = text;
     for name in names {
         match next_word(text) {
             None => return false,
             Some(next) => {
-                if !says(next.piece, name) {
+                if !is_word(next.piece, name) {
                     return false;
                 }
                 text = next.rest;
@@ -58,12 +58,12 @@ pub(crate) fn are(text: &[u8], names: &[&[u8]]) -> bool
 }
 
 /// Whether a run of a text is one of some names.
-pub(crate) fn names_one(text: &[u8], names: &[&[u8]]) -> bool
-    ensures { result ≡ names_one (map (λ name. name.now) names.now) (runs_of text.now) }
+pub(crate) fn any_is_one_of(text: &[u8], names: &[&[u8]]) -> bool
+    ensures { result ≡ any_is_one_of (map (λ name. name.now) names.now) (runs_of text.now) }
 {
     let mut text = text;
     while let Some(next) = next_run(text) {
-        if says_one(next.piece, names) {
+        if is_one_of(next.piece, names) {
             return true;
         }
         text = next.rest;

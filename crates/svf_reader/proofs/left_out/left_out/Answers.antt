@@ -5,8 +5,8 @@ use Rattle.svf_reader.specs.Texts.{plain, behind_word}
 use Rattle.svf_reader.proofs.Keeping.{scan_kept}
 use Rattle.svf_reader.proofs.left_out.left_out.Goals as goal
 
-pub returns-then-says_one : goal.returns-then-says_one
-returns-then-says_one c =
+pub returns-then-is_one_of : goal.returns-then-is_one_of
+returns-then-is_one_of c =
     let rest = behind_word (plain c.args.text.now) in
     sym (ap (λ ws. left_out ws rest) c.in_ok-word.ensures.value
-    ∙ scan_kept c.in_ok-word.word.piece.now rest (words_of c.in_ok-word.word.rest.now) (sym c.says_one.ensures ∙ c.if-says_one.true))
+    ∙ scan_kept c.in_ok-word.word.piece.now rest (words_of c.in_ok-word.word.rest.now) (sym c.is_one_of.ensures ∙ c.if-is_one_of.true))

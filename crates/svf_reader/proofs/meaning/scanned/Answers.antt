@@ -2,8 +2,8 @@ use Rattle.std.proofs.Common.{◌≡◌, ◌≤◌, ℕ, true, false, arith, ap,
 use Rattle.std.proofs.lemmas.Bool.Decides.{nat_tests}
 use Rattle.std.proofs.lemmas.Result.{err_from_is_err_and}
 use Rattle.svf_writer.specs.SeenCommands.{SeenCommand, seen_scan, seen_command}
-use Rattle.svf_reader.specs.declared.kept.Kept.{Kept}
-use Rattle.svf_reader.specs.Meaning.{tdi_missing, with_length, leaving, scan_clocks, scan_command, clocked, scanned}
+use Rattle.svf_reader.specs.declared.so_far.ReadSoFar.{ReadSoFar}
+use Rattle.svf_reader.specs.Meaning.{tdi_missing, with_length, with_leaving_clock, scan_clocks, scan_command, within_clock_limit, scanned}
 use Rattle.svf_reader.specs.Answers.{Gives, scan_value}
 use Rattle.svf_reader.specs.Seen.{seen_parts, seen_step}
 use Rattle.svf_reader.proofs.Scans.{fails_on, scanned_err, scanned_ok_at}
@@ -33,9 +33,9 @@ returns c =
     let len = c.args.len in
     let there = ap (λ l. tdi_missing l len p) (sym c.last_length.ensures) ∙ sym c.tdi_missing.ensures ∙ c.if-tdi_missing.false in
     let is = scanned_ok_at kept register len p (seen_scan c.in_ok-scan.scan) false (below len c.if-len-gt65536.false) c.in_ok-scan.ensures there in
-    let n = c.leaving-clocks.ensures ∙ ap (leaving kept) c.scan_clocks.ensures in
-    let read : clocked c.with_length.result false c.leaving-clocks.result (seen_command c.scan_command.result) ≡ clocked (with_length register len kept) false (leaving kept (scan_clocks register len)) (scan_command register (seen_scan c.in_ok-scan.scan)) =
-    ap (λ (k : Kept). clocked k false c.leaving-clocks.result (seen_command c.scan_command.result)) c.with_length.ensures
-    ∙ ap (λ (m : ℕ). clocked (with_length register len kept) false m (seen_command c.scan_command.result)) n
-    ∙ ap (λ (x : SeenCommand). clocked (with_length register len kept) false (leaving kept (scan_clocks register len)) x) c.scan_command.ensures in
-    subst (λ r. Gives seen_step c.clocked.result r) (read ∙ sym is) c.clocked.ensures
+    let n = c.with_leaving_clock-clocks.ensures ∙ ap (with_leaving_clock kept) c.scan_clocks.ensures in
+    let read : within_clock_limit c.with_length.result false c.with_leaving_clock-clocks.result (seen_command c.scan_command.result) ≡ within_clock_limit (with_length register len kept) false (with_leaving_clock kept (scan_clocks register len)) (scan_command register (seen_scan c.in_ok-scan.scan)) =
+    ap (λ (k : ReadSoFar). within_clock_limit k false c.with_leaving_clock-clocks.result (seen_command c.scan_command.result)) c.with_length.ensures
+    ∙ ap (λ (m : ℕ). within_clock_limit (with_length register len kept) false m (seen_command c.scan_command.result)) n
+    ∙ ap (λ (x : SeenCommand). within_clock_limit (with_length register len kept) false (with_leaving_clock kept (scan_clocks register len)) x) c.scan_command.ensures in
+    subst (λ r. Gives seen_step c.within_clock_limit.result r) (read ∙ sym is) c.within_clock_limit.ensures

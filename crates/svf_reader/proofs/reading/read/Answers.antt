@@ -2,7 +2,7 @@ use Rattle.std.proofs.Common.{◌≡◌, ◌+◌, ◌-◌, ◌++◌, [], ℕ, su
 use Rattle.svf_writer.specs.SeenCommands.{SeenCommand}
 use Rattle.svf_writer.specs.Fits.{AreFit, AreFitAfter}
 use Rattle.svf_reader.specs.Texts.{plain, texts, blanks}
-use Rattle.svf_reader.specs.Meaning.{listed, in_front_of, read_from, comes_to}
+use Rattle.svf_reader.specs.Meaning.{listed, in_front_of, read_from, read_command}
 use Rattle.svf_reader.specs.Reading.{words_of}
 use Rattle.svf_reader.specs.Seen.{seen_step}
 use Rattle.svf_reader.proofs.Cuts.{plain_length}
@@ -25,7 +25,7 @@ returns-in-Err-clause-fault c =
     let src = c.args.src.now in
     let at = length src - length c.loop-next.rest.now in
     let t = plain c.in-Some.next.piece.now in
-    refuses src c.in-Err.refused c.command_place-at.result c.refused_at.result (comes_to c.loop-next.kept true t) (at + blanks t) c.in-Err.ensures
+    refuses src c.in-Err.refused c.command_place-at.result c.refused_at.result (read_command c.loop-next.kept true t) (at + blanks t) c.in-Err.ensures
     (λ cause h. refused_here src c.loop-next.commands c.loop-next.kept at (texts (plain c.loop-next.rest.now)) c.loop-next.invariant.so_far t (plain c.in-Some.next.rest.now) cause c.in-Some.ensures.value h)
     c.command_place-at.ensures c.refused_at.ensures
 
@@ -62,13 +62,13 @@ returns-in-None-clause-ok c =
     let rest = c.loop-next.rest.now in
     end_none src c.loop-next.commands c.loop-next.kept (length src - length rest) (texts (plain rest)) c.loop-next.invariant.so_far (plain rest) c.in_default.ensures.value (sym (words_of_is rest) ∙ c.in-None.ensures.value)
 
-pub returns-in-Err-comes_to-clause-fault : goal.returns-in-Err-comes_to-clause-fault
-returns-in-Err-comes_to-clause-fault c =
+pub returns-in-Err-read_command-clause-fault : goal.returns-in-Err-read_command-clause-fault
+returns-in-Err-read_command-clause-fault c =
     let src = c.args.src.now in
     let at = length src - length c.loop-next.rest.now in
     let rest = c.loop-next.rest.now in
     let t = plain rest in
     let piece = c.in-Some-next_word.field-0 in
-    refuses src c.in-Err-comes_to.refused c.command_place-at-in-Err-comes_to.result c.refused_at-in-Err-comes_to.result (comes_to c.loop-next.kept false t) (at + blanks t) c.in-Err-comes_to.ensures
+    refuses src c.in-Err-read_command.refused c.command_place-at-in-Err-read_command.result c.refused_at-in-Err-read_command.result (read_command c.loop-next.kept false t) (at + blanks t) c.in-Err-read_command.ensures
     (λ cause h. end_refused src c.loop-next.commands c.loop-next.kept at (texts t) c.loop-next.invariant.so_far t piece.piece.now (words_of piece.rest.now) cause c.in_default.ensures.value (sym (words_of_is rest) ∙ c.in-Some-next_word.ensures.value) h)
-    c.command_place-at-in-Err-comes_to.ensures c.refused_at-in-Err-comes_to.ensures
+    c.command_place-at-in-Err-read_command.ensures c.refused_at-in-Err-read_command.ensures

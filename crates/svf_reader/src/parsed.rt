@@ -17,7 +17,7 @@ pub(crate) struct PartTexts<'a> {
 }
 
 #[derive(Clone, Copy)]
-pub(crate) enum Said<'a> {
+pub(crate) enum Parsed<'a> {
     Scan(Register, u64, PartTexts<'a>),
     Reset,
     Idle,

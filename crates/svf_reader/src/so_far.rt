@@ -2,7 +2,7 @@
 
 /// What the commands so far leave for the next ones.
 #[derive(Clone, Copy)]
-pub(crate) struct Kept {
+pub(crate) struct ReadSoFar {
     /// The length of the last SIR.
     pub ir: Option<u32>,
     /// The length of the last SDR.
