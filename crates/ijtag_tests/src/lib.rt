@@ -2,7 +2,11 @@
 #![tactic(auto)]
 
 #[cfg(test)]
+mod compiled_procedures;
+#[cfg(test)]
 mod device_files;
+#[cfg(test)]
+mod files_and_streams;
 #[cfg(test)]
 mod host_files;
 #[cfg(test)]
@@ -12,4 +16,10 @@ mod names_and_numbers;
 #[cfg(test)]
 mod pdl_texts;
 #[cfg(test)]
+mod play_reports;
+#[cfg(test)]
 mod svf_texts;
+#[cfg(test)]
+mod tap_walks;
+#[cfg(test)]
+mod written_svf;

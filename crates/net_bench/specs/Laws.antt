@@ -7,7 +7,7 @@ use Rattle.net_graph.specs.Chain.{IsRoute, captures, chain, put_chain}
 use Rattle.net_graph.specs.Resets.{reset_holds}
 use Rattle.svf_writer.specs.SeenCommands.{SDR, SIR, SeenCommand, SeenScan, Reset as StateReset, Run as RunTest}
 use Rattle.tap_machine.specs.declared.TapState.TheVariants.{RunTestIdle, TestLogicReset}
-use Rattle.tap_machine.specs.Play.{AreWhole, nothing_kept, played, rests_after, scans_in}
+use Rattle.tap_machine.specs.Play.{AreWhole, no_scan, played, rests_after, scans_in}
 use Rattle.net_bench.specs.Bench.{Chip, State, power_up, select_of}
 use Rattle.net_bench.specs.Instruction.{Network, reset_instruction}
 use Rattle.net_bench.specs.Playing.{compares_from, play_from, resting, scan_compares}
@@ -54,7 +54,7 @@ ScansShift =
     (chip : Chip (List Event)) (scans : ℕ) (scan : SeenScan) (bits : List Bool) (s : State (List Event))
     → Ready chip s → scan.tdi ≡ Some bits → 0 < length bits → length bits ≡ length (captured chip s)
     → (play_from chip scans (SDR scan ∷ []) s ≡ exchanged chip s bits)
-    × (compares_from chip scans (SDR scan ∷ []) s ≡ scan_compares (suc scans) 0 (played nothing_kept scan).expects (captured chip s))
+    × (compares_from chip scans (SDR scan ∷ []) s ≡ scan_compares (suc scans) 0 (played no_scan scan).expects (captured chip s))
 
 -- An instruction scan of as many bits as the instruction register has: they are the instruction.
 abbrev pub InstructionsLoad : Type 0

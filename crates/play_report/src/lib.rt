@@ -5,8 +5,6 @@ mod compares;
 mod laws;
 mod lines;
 mod play;
-#[cfg(test)]
-mod tests;
 
 pub use laws::{names_are_not_played, read_commands_are_playable};
 pub use play::put_play;

@@ -8,7 +8,7 @@ use Rattle.ij_bits.specs.Different.{AreDifferent}
 use Rattle.net_graph.specs.declared.step.ReadBit.{ReadBit}
 use Rattle.net_graph.specs.declared.step.WriteBit.{WriteBit}
 use Rattle.svf_writer.specs.Fits.{HasLength, IsWrittenScan}
-use Rattle.tap_machine.specs.Play.{played, nothing_kept, is_empty}
+use Rattle.tap_machine.specs.Play.{played, no_scan, is_empty}
 use Rattle.headline.specs.Script.{IsZeroUnmasked}
 use Rattle.headline.specs.OneScan.{write_reg, IsHere, Expects, DoesGroup, ArePlanned}
 use Rattle.register_compiler.specs.Procedure.{Queue, Reading, write_bits, read_bits, group_of}
@@ -74,7 +74,7 @@ module _ (width : ℕ) (some : 1 ≤ width) (few : width ≤ 64) where
   unmasked held write None r i e = refl
   unmasked held write (Some reading) r i e = zero_unmasked width reading.expect i r e
 
-  expects : (held : List Bool) (write : Option (List Bool)) (read : Option Reading) → HasLength width (expect_of read) → Expects width (reads_of read) (played nothing_kept (scan_of width held write (expect_of read))).expects
+  expects : (held : List Bool) (write : Option (List Bool)) (read : Option Reading) → HasLength width (expect_of read) → Expects width (reads_of read) (played no_scan (scan_of width held write (expect_of read))).expects
   expects held write None r = expects_nothing width width
   expects held write (Some reading) r = expects_reads reading.number reading.line width reading.expect r
 

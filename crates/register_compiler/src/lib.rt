@@ -10,8 +10,6 @@ mod device;
 mod law;
 mod scan;
 mod session;
-#[cfg(test)]
-mod tests;
 
 pub use compile::{find_unapplied, put_svf};
 pub use device::make_device;

@@ -5,8 +5,8 @@ use Rattle.svf_writer.specs.SeenCommands.{SIR, SDR, Reset, Idle, Run, SeenComman
 use Rattle.tap_machine.specs.declared.Pins.{Pins}
 use Rattle.tap_machine.specs.declared.Stable.{Stable}
 use Rattle.tap_machine.specs.declared.Stable.TheVariants.{Reset as InReset, Idle as InIdle}
-use Rattle.tap_machine.specs.Left.{first_of}
-use Rattle.tap_machine.specs.Play.{Kept, quiet, pins_with, rests_after}
+use Rattle.tap_machine.specs.Remaining.{first_of}
+use Rattle.tap_machine.specs.Play.{LastScan, no_shift, pins_with, rests_after}
 
 -- without a first pin there is none
 pub no_pins : (ps : List Pins) → None ≡ first_of ps → ps ≡ []
@@ -22,7 +22,7 @@ back_empty [] b e = e
 back_empty (x ∷ a) b e = absurd (cc)
 
 -- commands without pins leave the controller where it is
-pub no_pins_rests : (ir dr : Kept) (from : Stable) (scans : ℕ) (cs : List SeenCommand) → pins_with ir dr from scans cs ≡ [] → from ≡ rests_after from cs
+pub no_pins_rests : (ir dr : LastScan) (from : Stable) (scans : ℕ) (cs : List SeenCommand) → pins_with ir dr from scans cs ≡ [] → from ≡ rests_after from cs
 no_pins_rests ir dr from scans [] e = refl
 no_pins_rests ir dr InReset scans (SIR s ∷ cs) e = absurd (some_pin _ _ e)
 no_pins_rests ir dr InIdle scans (SIR s ∷ cs) e = absurd (some_pin _ _ e)
@@ -32,9 +32,9 @@ no_pins_rests ir dr from scans (Reset ∷ cs) e = absurd (some_pin _ _ e)
 no_pins_rests ir dr InReset scans (Idle ∷ cs) e = absurd (some_pin _ _ e)
 no_pins_rests ir dr InIdle scans (Idle ∷ cs) e = no_pins_rests ir dr InIdle scans cs e
 no_pins_rests ir dr InReset scans (Run n ∷ cs) e = absurd (some_pin _ _ e)
-no_pins_rests ir dr InIdle scans (Run n ∷ cs) e = no_pins_rests ir dr InIdle scans cs (back_empty (replicate n (quiet false)) _ e)
+no_pins_rests ir dr InIdle scans (Run n ∷ cs) e = no_pins_rests ir dr InIdle scans cs (back_empty (replicate n (no_shift false)) _ e)
 
-pub nothing_left : (a : List Pins) (ir dr : Kept) (from : Stable) (scans : ℕ) (cs : List SeenCommand) → a ++ pins_with ir dr from scans cs ≡ [] → from ≡ rests_after from cs
+pub nothing_left : (a : List Pins) (ir dr : LastScan) (from : Stable) (scans : ℕ) (cs : List SeenCommand) → a ++ pins_with ir dr from scans cs ≡ [] → from ≡ rests_after from cs
 nothing_left a ir dr from scans cs e = no_pins_rests ir dr from scans cs (back_empty a _ e)
 
 -- what the first pin and the others are to a caller

@@ -5,8 +5,8 @@ use Rattle.std.proofs.Math.Seq.{drop-cons}
 use Rattle.std.proofs.lemmas.List.{get_or-drop, drop_all, length-drop}
 use Rattle.svf_writer.specs.Fits.{HasLength}
 use Rattle.tap_machine.specs.declared.Pins.{Pins}
-use Rattle.tap_machine.specs.Play.{quiet, shifts, masked, expected, is_empty, Played}
-use Rattle.tap_machine.specs.Left.{pins_from}
+use Rattle.tap_machine.specs.Play.{no_shift, shifts, masked, expected, is_empty, Played}
+use Rattle.tap_machine.specs.Remaining.{pins_from}
 
 nothing_below : (k : ℕ) → k < 0 → ⊥
 nothing_below k h = omega arith
@@ -52,14 +52,14 @@ module _ (scan : ℕ) (p : Played) (k : ℕ) (within : k < length p.tdi) where
   -- the first of the shift clocks, and the others
   pub one_shift : pins_from scan p k ≡ pin (is_empty (drop (suc k) p.tdi)) ∷ pins_from scan p (suc k)
   one_shift =
-      ap (λ ts. shifts scan k ts (drop k p.expects) ++ map quiet (true ∷ false ∷ [])) (drop-cons p.tdi k false within)
-      ∙ ap (λ e. record { tms = is_empty (drop (suc k) p.tdi); tdi = get_or p.tdi k false; expect = e; scan = scan; bit = k } ∷ (shifts scan (suc k) (drop (suc k) p.tdi) (drop 1 (drop k p.expects)) ++ map quiet (true ∷ false ∷ []))) expects_here
-      ∙ ap (λ es. pin (is_empty (drop (suc k) p.tdi)) ∷ (shifts scan (suc k) (drop (suc k) p.tdi) es ++ map quiet (true ∷ false ∷ []))) (drop_twice k p.expects)
+      ap (λ ts. shifts scan k ts (drop k p.expects) ++ map no_shift (true ∷ false ∷ [])) (drop-cons p.tdi k false within)
+      ∙ ap (λ e. record { tms = is_empty (drop (suc k) p.tdi); tdi = get_or p.tdi k false; expect = e; scan = scan; bit = k } ∷ (shifts scan (suc k) (drop (suc k) p.tdi) (drop 1 (drop k p.expects)) ++ map no_shift (true ∷ false ∷ []))) expects_here
+      ∙ ap (λ es. pin (is_empty (drop (suc k) p.tdi)) ∷ (shifts scan (suc k) (drop (suc k) p.tdi) es ++ map no_shift (true ∷ false ∷ []))) (drop_twice k p.expects)
 
-  pub last_shift : suc k ≡ length p.tdi → pins_from scan p k ≡ pin true ∷ map quiet (true ∷ false ∷ [])
+  pub last_shift : suc k ≡ length p.tdi → pins_from scan p k ≡ pin true ∷ map no_shift (true ∷ false ∷ [])
   last_shift e =
       let all : length p.tdi ≤ suc k = omega arith in
-      one_shift ∙ ap (λ ts. pin (is_empty ts) ∷ (shifts scan (suc k) ts (drop (suc k) p.expects) ++ map quiet (true ∷ false ∷ []))) (drop_all (suc k) p.tdi all)
+      one_shift ∙ ap (λ ts. pin (is_empty ts) ∷ (shifts scan (suc k) ts (drop (suc k) p.expects) ++ map no_shift (true ∷ false ∷ []))) (drop_all (suc k) p.tdi all)
 
   pub other_shift : suc k < length p.tdi → pins_from scan p k ≡ pin false ∷ pins_from scan p (suc k)
   other_shift l =

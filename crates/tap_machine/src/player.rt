@@ -2,7 +2,7 @@
 ghost use Rattle.std.specs.Prelude.{◌≡◌, ◌+◌, ◌^◌, ◌<◌, [], ◌∷◌, IsNone, MatchOption};
 ghost use Rattle.tap_machine.specs.Play.{pins, rests_after, scans_in};
 
-use crate::progress::{Phase, Progress, Sources};
+use crate::progress::{HeldBits, Phase, Progress};
 use crate::{Pins, Stable};
 use std::marker::Model;
 use svf_writer::Commands;
@@ -17,11 +17,11 @@ pub struct Player<'a> {
 }
 
 impl<'a> Model for Player<'a> {
-    ghost use Rattle.tap_machine.specs.Left.{Left, left, IsUnderWay};
+    ghost use Rattle.tap_machine.specs.Remaining.{Remaining, remaining, IsUnderWay};
 
-    ghost Value = { Left };
+    ghost Value = { Remaining };
 
-    ghost view = { λ p. left p.progress };
+    ghost view = { λ p. remaining p.progress };
 
     ghost invariant = { λ p. IsUnderWay p.progress };
 }
@@ -33,7 +33,7 @@ impl<'a> Player<'a> {
         ensures pins { result.pins ≡ pins from scans commands.now }
         ensures rests { result.rests ≡ rests_after from commands.now }
     {
-        let nothing = Sources {
+        let nothing = HeldBits {
             len: 0,
             tdi: None,
             mask: None,
@@ -44,7 +44,7 @@ impl<'a> Player<'a> {
             progress: Progress {
                 commands,
                 at: 0,
-                from,
+                rests_in: from,
                 scans,
                 phase: Phase::Quiet {
                     tms: false,
@@ -74,6 +74,6 @@ impl<'a> Player<'a> {
         requires { self.now.pins ≡ [] }
         ensures { result ≡ self.now.rests }
     {
-        self.progress.from
+        self.progress.rests_in
     }
 }

@@ -2,8 +2,8 @@
 ghost use Rattle.std.specs.Prelude.{◌≡◌, ◌<◌, ◌+◌, ◌^◌, ◌++◌, ◌∷◌, [], length, drop, get_or, replicate, true, false, Some, None, unwrap_or, option_map, IsTrue, ◌↔◌};
 ghost use Rattle.svf_writer.specs.Fits.{HasLength, FitsAfter};
 ghost use Rattle.svf_writer.specs.SeenCommands.{SIR, SDR, seen_scan, seen_command};
-ghost use Rattle.tap_machine.specs.Left.{lent, seen_kept, last_length, AreSources, at_hand, phase_pins, pins_at_hand, pins_to_come, pins_left, rests_left, commands_left, to_begin, IsWithin, IsUnderWay, first_of};
-ghost use Rattle.tap_machine.specs.Play.{quiet, kept_now, expected, mask_now};
+ghost use Rattle.tap_machine.specs.Remaining.{lent, seen_held, last_length, AreHeldBits, at_hand, phase_pins, pins_at_hand, later_pins, remaining_pins, rests_at_end, remaining_commands, to_begin, IsWithin, IsUnderWay, first_of};
+ghost use Rattle.tap_machine.specs.Play.{no_shift, after_scan, expected, mask_now};
 
 use crate::{Pins, Stable};
 use ij_bits::Bits;
@@ -12,7 +12,7 @@ use svf_writer::{Command, Commands, Scan};
 /// The length of the last scan of a kind, and the bits of the commands that it took its TDI and MASK from. Without
 /// MASK each bit is compared.
 #[derive(Clone, Copy)]
-pub(crate) struct Sources<'a> {
+pub(crate) struct HeldBits<'a> {
     pub len: u32,
     pub tdi: Option<&'a Bits>,
     pub mask: Option<&'a Bits>,
@@ -46,21 +46,21 @@ pub(crate) enum Phase {
 pub(crate) struct Progress<'a> {
     pub commands: &'a Commands,
     pub at: usize,
-    pub from: Stable,
+    pub rests_in: Stable,
     pub scans: u32,
     pub phase: Phase,
-    pub scan: Sources<'a>,
+    pub scan: HeldBits<'a>,
     pub tdo: Option<&'a Bits>,
-    pub ir: Sources<'a>,
-    pub dr: Sources<'a>,
+    pub ir: HeldBits<'a>,
+    pub dr: HeldBits<'a>,
 }
 
-/// The next scan's sources: TDI and MASK hold where the command has none, MASK up to a new length.
-pub(crate) fn sources_of<'a>(kept: Sources<'a>, scan: &'a Scan) -> Sources<'a>
-    requires kept { AreSources kept }
+/// The bits of the next scan: TDI and MASK hold where the command has none, MASK up to a new length.
+pub(crate) fn held_for<'a>(kept: HeldBits<'a>, scan: &'a Scan) -> HeldBits<'a>
+    requires kept { AreHeldBits kept }
     requires fits { FitsAfter (last_length kept) (seen_scan scan.now) }
-    ensures kept { seen_kept result ≡ kept_now (seen_kept kept.entry) (seen_scan scan.now) }
-    ensures sound { AreSources result }
+    ensures kept { seen_held result ≡ after_scan (seen_held kept.entry) (seen_scan scan.now) }
+    ensures sound { AreHeldBits result }
     ensures last { last_length result ≡ Some scan.now.len }
 {
     let mask = match &scan.mask {
@@ -75,7 +75,7 @@ pub(crate) fn sources_of<'a>(kept: Sources<'a>, scan: &'a Scan) -> Sources<'a>
         Some(tdi) => Some(tdi),
         None => kept.tdi,
     };
-    Sources {
+    HeldBits {
         len: scan.len,
         tdi,
         mask,
@@ -90,8 +90,8 @@ fn lend(bits: &Option<Bits>) -> Option<&Bits>
 }
 
 /// A clock that shifts nothing.
-fn quiet_clock(tms: bool) -> Pins
-    ensures { result ≡ quiet tms }
+fn clock_without_shift(tms: bool) -> Pins
+    ensures { result ≡ no_shift tms }
 {
     Pins {
         tms,
@@ -106,7 +106,7 @@ impl<'a> Progress<'a> {
     /// Whether MASK compares a position of the scan at hand.
     fn is_compared(&self, k: u32) -> bool
         requires within { k < self.now.scan.len }
-        requires sound { AreSources self.now.scan }
+        requires sound { AreHeldBits self.now.scan }
         ensures { result ≡ get_or (unwrap_or (lent self.now.scan.mask) (replicate self.now.scan.len true)) k false }
     {
         match self.scan.mask {
@@ -158,10 +158,10 @@ impl<'a> Progress<'a> {
             Phase::Quiet { tms, left } => if left == 0 {
                 None
             } else {
-                Some(quiet_clock(tms))
+                Some(clock_without_shift(tms))
             },
-            Phase::BeforeIr | Phase::BeforeDr | Phase::Exit => Some(quiet_clock(true)),
-            Phase::Select | Phase::Enter | Phase::Update => Some(quiet_clock(false)),
+            Phase::BeforeIr | Phase::BeforeDr | Phase::Exit => Some(clock_without_shift(true)),
+            Phase::Select | Phase::Enter | Phase::Update => Some(clock_without_shift(false)),
             Phase::Shift(k) => Some(self.shift_clock(k)),
         }
     }
@@ -208,13 +208,13 @@ impl<'a> Progress<'a> {
     /// The next command.
     fn command(&self) -> &'a Command
         requires { self.now.at < length self.now.commands.now }
-        ensures { commands_left self.now ≡ seen_command result.now ∷ drop (self.now.at + 1) self.now.commands.now }
+        ensures { remaining_commands self.now ≡ seen_command result.now ∷ drop (self.now.at + 1) self.now.commands.now }
     {
         self.commands.get(self.at)
     }
 
     /// Makes this the scan at hand.
-    fn begin_scan(&mut self, phase: Phase, scan: Sources<'a>, tdo: &'a Option<Bits>)
+    fn begin_scan(&mut self, phase: Phase, scan: HeldBits<'a>, tdo: &'a Option<Bits>)
         requires more { self.old.at + 1 < 2 ^ 64 }
         requires few { self.old.scans + 1 < 2 ^ 32 }
         ensures tdo { lent self.new.tdo ≡ option_map (λ b. b.items) tdo.now }
@@ -230,51 +230,51 @@ impl<'a> Progress<'a> {
     /// Begins a scan of the instruction register.
     fn begin_sir(&mut self, scan: &'a Scan)
         requires sound { IsUnderWay self.old }
-        requires idle { self.old.from ≡ Stable.Idle }
+        requires idle { self.old.rests_in ≡ Stable.Idle }
         requires more { self.old.at < length self.old.commands.now }
-        requires next { commands_left self.old ≡ SIR (seen_scan scan.now) ∷ drop (self.old.at + 1) self.old.commands.now }
-        ensures pins { pins_left self.new ≡ pins_to_come self.old }
-        ensures rests { rests_left self.new ≡ rests_left self.old }
+        requires next { remaining_commands self.old ≡ SIR (seen_scan scan.now) ∷ drop (self.old.at + 1) self.old.commands.now }
+        ensures pins { remaining_pins self.new ≡ later_pins self.old }
+        ensures rests { rests_at_end self.new ≡ rests_at_end self.old }
         ensures sound { IsUnderWay self.new }
         ensures fewer { to_begin self.new < to_begin self.old }
     {
-        self.ir = sources_of(self.ir, scan);
+        self.ir = held_for(self.ir, scan);
         self.begin_scan(Phase::BeforeIr, self.ir, &scan.tdo);
     }
 
     /// Begins a scan of the data register.
     fn begin_sdr(&mut self, scan: &'a Scan)
         requires sound { IsUnderWay self.old }
-        requires idle { self.old.from ≡ Stable.Idle }
+        requires idle { self.old.rests_in ≡ Stable.Idle }
         requires more { self.old.at < length self.old.commands.now }
-        requires next { commands_left self.old ≡ SDR (seen_scan scan.now) ∷ drop (self.old.at + 1) self.old.commands.now }
-        ensures pins { pins_left self.new ≡ pins_to_come self.old }
-        ensures rests { rests_left self.new ≡ rests_left self.old }
+        requires next { remaining_commands self.old ≡ SDR (seen_scan scan.now) ∷ drop (self.old.at + 1) self.old.commands.now }
+        ensures pins { remaining_pins self.new ≡ later_pins self.old }
+        ensures rests { rests_at_end self.new ≡ rests_at_end self.old }
         ensures sound { IsUnderWay self.new }
         ensures fewer { to_begin self.new < to_begin self.old }
     {
-        self.dr = sources_of(self.dr, scan);
+        self.dr = held_for(self.dr, scan);
         self.begin_scan(Phase::BeforeDr, self.dr, &scan.tdo);
     }
 
     /// Begins so many clocks with one TMS, which leave the controller in a state.
     fn begin_quiet(&mut self, tms: bool, left: u32, from: Stable)
-        ensures { self.new ≡ record self.old { phase = Phase.Quiet tms left; from = from } }
+        ensures { self.new ≡ record self.old { phase = Phase.Quiet tms left; rests_in = from } }
     {
         self.phase = Phase::Quiet { tms, left };
-        self.from = from;
+        self.rests_in = from;
     }
 
     /// Begins the next command, or first leaves Test-Logic-Reset for one that begins in Run-Test/Idle.
     fn begin(&mut self)
         requires sound { IsUnderWay self.old }
         requires more { self.old.at < length self.old.commands.now }
-        ensures pins { pins_left self.new ≡ pins_to_come self.old }
-        ensures rests { rests_left self.new ≡ rests_left self.old }
+        ensures pins { remaining_pins self.new ≡ later_pins self.old }
+        ensures rests { rests_at_end self.new ≡ rests_at_end self.old }
         ensures sound { IsUnderWay self.new }
         ensures fewer { to_begin self.new < to_begin self.old }
     {
-        match (self.command(), self.from) {
+        match (self.command(), self.rests_in) {
             (Command::Reset, _) => {
                 self.begin_quiet(true, 5, Stable::Reset);
                 self.at += 1;
@@ -296,9 +296,9 @@ impl<'a> Progress<'a> {
     /// The pins of the next clock, `None` where all were given.
     pub(crate) fn next(&mut self) -> Option<Pins>
         requires { IsUnderWay self.old }
-        ensures pins { result ≡ first_of (pins_left self.old) }
-        ensures others { pins_left self.new ≡ drop 1 (pins_left self.old) }
-        ensures rests { rests_left self.new ≡ rests_left self.old }
+        ensures pins { result ≡ first_of (remaining_pins self.old) }
+        ensures others { remaining_pins self.new ≡ drop 1 (remaining_pins self.old) }
+        ensures rests { rests_at_end self.new ≡ rests_at_end self.old }
         ensures sound { IsUnderWay self.new }
     {
         loop {

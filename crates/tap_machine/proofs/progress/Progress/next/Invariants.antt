@@ -1,11 +1,11 @@
 use Rattle.std.proofs.Common.{◌≡◌}
-use Rattle.tap_machine.specs.Left.{pins_left, rests_left, to_begin, IsUnderWay}
+use Rattle.tap_machine.specs.Remaining.{remaining_pins, rests_at_end, to_begin, IsUnderWay}
 use Rattle.tap_machine.specs.declared.progress.Progress.{Progress}
 use Rattle.tap_machine.proofs.progress.Progress.next.Given as goal
 
 pub record Continues (before now : Progress) : Type 0 where
-  pub pins : pins_left now ≡ pins_left before
-  pub rests : rests_left now ≡ rests_left before
+  pub pins : remaining_pins now ≡ remaining_pins before
+  pub rests : rests_at_end now ≡ rests_at_end before
   pub sound : IsUnderWay now
 
 abbrev pub invariant-loop-pins : goal.invariant-loop-pins

@@ -1,6 +1,6 @@
 use Rattle.std.proofs.Common.{◌≡◌, ap, sym, ◌∙◌, arith, suc, ◌+◌, drop}
 use Rattle.tap_machine.proofs.Shifts.{last_shift, other_shift}
-use Rattle.tap_machine.specs.Left.{pins_from, at_hand}
+use Rattle.tap_machine.specs.Remaining.{pins_from, at_hand}
 use Rattle.tap_machine.proofs.progress.Progress.shift_after.Goals as goal
 
 pub returns-then-k-last-clause-pins : goal.returns-then-k-last-clause-pins

@@ -1,7 +1,8 @@
 // What no clause says: that a procedure compiles where there is memory. Expected texts are written out by hand.
-use super::*;
+
 use first_form::read_form;
 use ij_io::SureSink;
+use register_compiler::{find_unapplied, put_svf};
 use std::alloc::Global;
 use std::test::Fail;
 

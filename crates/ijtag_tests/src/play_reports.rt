@@ -1,10 +1,10 @@
 // Texts, and the printed reports of their plays.
 ghost use Rattle.std.specs.Prelude.{length};
 
-use crate::put_play;
 use ij_bits::List;
 use ij_io::{StoreFault, SureSink};
 use net_graph::Device;
+use play_report::put_play;
 use std::alloc::Global;
 use std::test::Fail;
 use svf_reader::read_svf;

@@ -1,11 +1,11 @@
 // The walk of a controller through its states, and the clocks of a play.
 ghost use Rattle.std.specs.Prelude.{◌≡◌, length, IfOk};
 
-use crate::{Pins, Player, Stable, Tap, TapState};
 use ij_bits::{Bits, OutOfMemory};
 use std::alloc::Global;
 use std::test::Fail;
 use svf_writer::{Command, Commands, Scan};
+use tap_machine::{Pins, Player, Stable, Tap, TapState};
 
 #[test]
 fn a_controller_walks_to_reset_and_through_a_data_scan(rt: HostRuntime) {
