@@ -5,7 +5,7 @@ use Rattle.std.proofs.lemmas.List.{append-nil}
 use Rattle.svf_writer.specs.SeenCommands.{SDR, SIR, SeenScan, Run as RunTest}
 use Rattle.tap_machine.specs.declared.Stable.TheVariants.{Reset as InReset, Idle as InIdle}
 use Rattle.tap_machine.specs.declared.TapState.TheVariants.{RunTestIdle}
-use Rattle.tap_machine.specs.Play.{Played, nothing_kept, pins, played, quiet, sdr_pins, sir_pins}
+use Rattle.tap_machine.specs.Play.{Played, no_scan, pins, played, no_shift, sdr_pins, sir_pins}
 use Rattle.net_bench.specs.Bench.{Chip, State, is_reset}
 use Rattle.net_bench.specs.Laws.{InstructionsLoad, ResetsReset, RunsWait, ScansShift, loaded}
 use Rattle.net_bench.specs.Playing.{after_pins, compares, resting}
@@ -16,14 +16,14 @@ rests_idle : {L : Type 0} (s : State L) → s.tap ≡ RunTestIdle → resting s 
 rests_idle s i = ap (λ t. elim (is_reset t) [ true ↦ InReset | false ↦ InIdle ]) i
 
 -- a scan whose bits are given
-bits_given : (scan : SeenScan) (bits : List Bool) → scan.tdi ≡ Some bits → played nothing_kept scan ≡ record { tdi = bits; expects = (played nothing_kept scan).expects }
-bits_given scan bits given = ap (λ b. let p : Played = record { tdi = unwrap_or b []; expects = (played nothing_kept scan).expects } in p) given
+bits_given : (scan : SeenScan) (bits : List Bool) → scan.tdi ≡ Some bits → played no_scan scan ≡ record { tdi = bits; expects = (played no_scan scan).expects }
+bits_given scan bits given = ap (λ b. let p : Played = record { tdi = unwrap_or b []; expects = (played no_scan scan).expects } in p) given
 
 pub scan_plays : ScansShift
 scan_plays chip scans scan bits s ready given some fits =
-    let es = (played nothing_kept scan).expects in
+    let es = (played no_scan scan).expects in
     let ps : pins (resting s) scans (SDR scan ∷ []) ≡ sdr_pins (suc scans) (record { tdi = bits; expects = es }) =
-    ap (λ r. pins r scans (SDR scan ∷ [])) (rests_idle s ready.idle) ∙ append-nil (sdr_pins (suc scans) (played nothing_kept scan)) ∙ ap (sdr_pins (suc scans)) (bits_given scan bits given) in (
+    ap (λ r. pins r scans (SDR scan ∷ [])) (rests_idle s ready.idle) ∙ append-nil (sdr_pins (suc scans) (played no_scan scan)) ∙ ap (sdr_pins (suc scans)) (bits_given scan bits given) in (
       ap (λ q. after_pins chip q s) ps ∙ scan_exchanges_bits chip (suc scans) bits es s ready some fits,
       ap (λ q. compares chip q s) ps ∙ scan_finds_bits chip (suc scans) bits es s ready some fits,
     )
@@ -38,15 +38,15 @@ load_bits chip scan (t ∷ ts) es s idle some fits = scan_loads chip scan t ts e
 
 pub load_plays : InstructionsLoad
 load_plays chip scans scan bits s idle given some fits =
-    let es = (played nothing_kept scan).expects in
+    let es = (played no_scan scan).expects in
     ap (λ r. after_pins chip (pins r scans (SIR scan ∷ [])) s) (rests_idle s idle)
-    ∙ ap (λ q. after_pins chip q s) (append-nil (sir_pins (suc scans) (played nothing_kept scan)) ∙ ap (sir_pins (suc scans)) (bits_given scan bits given))
+    ∙ ap (λ q. after_pins chip q s) (append-nil (sir_pins (suc scans) (played no_scan scan)) ∙ ap (sir_pins (suc scans)) (bits_given scan bits given))
     ∙ load_bits chip (suc scans) bits es s idle some fits
 
 pub run_plays : RunsWait
 run_plays chip scans n s idle =
     ap (λ r. after_pins chip (pins r scans (RunTest n ∷ [])) s) (rests_idle s idle)
-    ∙ ap (λ q. after_pins chip q s) (append-nil (replicate n (quiet false)))
+    ∙ ap (λ q. after_pins chip q s) (append-nil (replicate n (no_shift false)))
     ∙ run_runs chip n s idle
 
 pub reset_plays : ResetsReset
