@@ -1,5 +1,6 @@
 // What no clause says: that a procedure compiles where there is memory. Expected texts are written out by hand.
 
+use crate::first_forms::icl_text;
 use first_form::read_form;
 use ij_io::SureSink;
 use register_compiler::{find_unapplied, put_svf};
@@ -7,14 +8,6 @@ use std::alloc::Global;
 use std::test::Fail;
 
 const PREFACE: &[u8] = b"ENDIR IDLE;\nENDDR IDLE;\nSTATE RESET;\nSTATE IDLE;\nSIR 8 TDI (A0);\n";
-
-/// The ICL text of a register of so many bits.
-fn icl_text(alloc: Global, width: u32) -> Result<String, Fail> {
-    let left = width.wrapping_sub(1);
-    Ok(format!(in alloc;
-        "Module Net {{\n  ScanInPort SI; ScanOutPort SO {{ Source R[0]; }}\n  ScanInterface client {{ Port SI; Port SO; }}\n  ScanRegister R[{left}:0] {{ ScanInSource SI; CaptureSource R; ResetValue {width}'b0; }}\n}}\nModule chip {{\n  Instance net Of Net;\n  AccessLink tap Of STD_1149_1_2001 {{\n    BSDLEntity chip; IJTAG {{ ScanInterface {{ net.client; }} }}\n  }}\n}}\n"
-    )?)
-}
 
 /// Whether a procedure of these commands, for a register of so many bits, has this unapplied line and this SVF.
 fn gives(

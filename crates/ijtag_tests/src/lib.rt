@@ -8,6 +8,8 @@ mod device_files;
 #[cfg(test)]
 mod files_and_streams;
 #[cfg(test)]
+mod first_forms;
+#[cfg(test)]
 mod host_files;
 #[cfg(test)]
 mod largest;
