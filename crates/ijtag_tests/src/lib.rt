@@ -2,6 +2,8 @@
 #![tactic(auto)]
 
 #[cfg(test)]
+mod bit_lists;
+#[cfg(test)]
 mod compiled_procedures;
 #[cfg(test)]
 mod device_files;
