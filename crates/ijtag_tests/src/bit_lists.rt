@@ -1,27 +1,101 @@
-// Lists of bits where there is memory.
+// Lists of bits, lists of values and rings: the upper and the lower hexadecimal digit of parts.
+ghost use Rattle.std.specs.Prelude.{◌≡◌, length, IfOk};
 
-use ij_bits::{Bits, List, Ring};
+use ij_bits::{Bits, List, OutOfMemory, Ring};
+use std::alloc::Global;
 use std::test::Fail;
 
-#[test]
-fn bits_keep_their_order_over_the_border_of_a_word(rt: HostRuntime) -> Result<(), Fail> {
-    let alloc = rt.alloc();
-    let mut bits = Bits::zeros(alloc, 62)?;
-    bits.set(61, true);
-    bits.push(false)?;
-    bits.push(true)?;
-    let mut tail = Bits::zeros(alloc, 3)?;
-    tail.set(2, true);
-    bits.append(&tail)?;
+/// The two digits of a part of 5 to 8 bits, and dots where there is none.
+fn digits(alloc: Global, bits: &Bits, from: u32, to: u32) -> Result<[u8; 2], OutOfMemory> {
+    if from <= to && to <= bits.len() {
+        let part = bits.slice(alloc, from, to)?;
+        if part.len() > 4 {
+            return Ok([part.hex_digit(1), part.hex_digit(0)]);
+        }
+    }
+    Ok(*b"..")
+}
 
-    // 0b100_1010: the upper digit has three bits, and its last position counts as 0.
-    let mut part = bits.slice(alloc, 60, 67)?;
-    assert_eq!(rt; [part.hex_digit(1), part.hex_digit(0)], *b"4A");
+/// 72 bits: two numbers, the first of 64 bits.
+fn two_numbers(alloc: Global) -> Result<Bits, OutOfMemory>
+    ensures { IfOk result (λ bits. length bits.items ≡ 72) }
+{
+    let mut bits = Bits::zeros(alloc, 0)?;
+    bits.append_number(0x0123_4567_89AB_CDEF, 64)?;
+    bits.append_number(0x5A, 8)?;
+    Ok(bits)
+}
+
+#[test]
+fn parts_keep_their_order_over_the_border_of_a_word(rt: HostRuntime) -> Result<(), Fail> {
+    let alloc = rt.alloc();
+    let bits = two_numbers(alloc)?;
+    let mut twice = bits.slice(alloc, 0, 72)?;
+    twice.append(&bits)?;
+    let rows: [(u32, u32, &[u8; 2]); 7] = [
+        (0, 8, b"EF"),
+        (4, 12, b"DE"),
+        (60, 68, b"A0"),
+        (64, 72, b"5A"),
+        (62, 67, b"08"),
+        (68, 76, b"F5"),
+        (132, 140, b"A0"),
+    ];
+    for (from, to, wanted) in rows {
+        assert_eq!(rt; digits(alloc, &twice, from, to)?, *wanted);
+    }
+    Ok(())
+}
+
+#[test]
+fn bits_are_written_copied_and_shifted(rt: HostRuntime) -> Result<(), Fail> {
+    let alloc = rt.alloc();
+    let bits = two_numbers(alloc)?;
+    let mut copy = Bits::zeros(alloc, 72)?;
+    copy.fill(true);
+    assert_eq!(rt; digits(alloc, &copy, 64, 72)?, *b"FF");
+    copy.copy_from(&bits);
+    assert_eq!(rt; copy.shift(false), true);
+    copy.set(0, false);
+    copy.push(true)?;
+    assert_eq!(rt; digits(alloc, &copy, 0, 8)?, *b"F6");
+    assert_eq!(rt; digits(alloc, &copy, 65, 73)?, *b"96");
+
+    let mut part = Bits::zeros(alloc, 8)?;
+    part.copy_part(&bits, 60);
     part.reserve(1)?;
     part.push_reserved(true);
-    assert_eq!(rt; [part.hex_digit(1), part.hex_digit(0)], *b"CA");
-    assert_eq!(rt; part.shift(true), false);
-    assert_eq!(rt; [part.hex_digit(1), part.hex_digit(0)], *b"E5");
+    assert_eq!(rt; digits(alloc, &part, 1, 9)?, *b"D0");
+    assert_eq!(rt; part.get(5), true);
+    Ok(())
+}
+
+#[test]
+fn a_ring_gives_its_bits_in_order_while_it_turns(rt: HostRuntime) -> Result<(), Fail> {
+    let alloc = rt.alloc();
+    let bits = two_numbers(alloc)?;
+    let mut ring = Ring::zeros(alloc, 72)?;
+    ring.copy_from(&bits);
+    assert_eq!(rt;
+        [
+            ring.shift(true),
+            ring.shift(true),
+            ring.shift(true),
+            ring.shift(true)
+        ],
+        [true; 4]
+    );
+    let mut part = Bits::zeros(alloc, 8)?;
+    ring.part_into(60, &mut part);
+    assert_eq!(rt; digits(alloc, &part, 0, 8)?, *b"5A");
+    ring.part_into(64, &mut part);
+    assert_eq!(rt; digits(alloc, &part, 0, 8)?, *b"F5");
+
+    let mut filled = Ring::with_room(alloc, 73)?;
+    filled.append_reserved(&bits);
+    filled.push_reserved(true);
+    assert_eq!(rt; filled.shift(false), true);
+    assert_eq!(rt; [filled.get(71), filled.get(72)], [true, false]);
     Ok(())
 }
 
@@ -34,40 +108,5 @@ fn a_list_takes_what_it_has_room_for(rt: HostRuntime) -> Result<(), Fail> {
     list.push_reserved(8);
     list.push_reserved(9);
     assert_eq!(rt; list.as_slice(), [7, 8, 9].as_slice());
-    Ok(())
-}
-
-#[test]
-fn a_ring_gives_its_bits_in_order_while_it_turns(rt: HostRuntime) -> Result<(), Fail> {
-    let alloc = rt.alloc();
-    let mut ring = Ring::with_room(alloc, 3)?;
-    ring.push_reserved(true);
-    ring.push_reserved(false);
-    assert_eq!(rt; ring.shift(true), true);
-    assert_eq!(rt; [ring.get(0), ring.get(1)], [false, true]);
-    ring.push_reserved(false);
-    assert_eq!(rt;
-        [ring.get(0), ring.get(1), ring.get(2)],
-        [false, true, false]
-    );
-    Ok(())
-}
-
-#[test]
-fn numbers_are_added_over_the_border_of_a_word(rt: HostRuntime) -> Result<(), Fail> {
-    let alloc = rt.alloc();
-    let mut bits = Bits::zeros(alloc, 0)?;
-    bits.append_number(0x5, 4)?;
-    bits.append_number(0xFEDC_BA98_7654_3210, 64)?;
-    bits.append_number(0xFF, 2)?;
-    let found = [
-        bits.hex_digit(0),
-        bits.hex_digit(1),
-        bits.hex_digit(15),
-        bits.hex_digit(16),
-        bits.hex_digit(17),
-    ];
-    assert_eq!(rt; bits.len(), 70);
-    assert_eq!(rt; found, *b"50EF3");
     Ok(())
 }

@@ -4,6 +4,8 @@
 #[cfg(test)]
 mod bit_lists;
 #[cfg(test)]
+mod clocked_benches;
+#[cfg(test)]
 mod compiled_procedures;
 #[cfg(test)]
 mod device_files;

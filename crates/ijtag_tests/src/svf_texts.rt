@@ -5,7 +5,7 @@ use ij_text::Place;
 use std::alloc::Global;
 use std::test::Fail;
 use svf_reader::{SvfFault, read_svf};
-use svf_writer::command::{Command, Scan};
+use svf_writer::{Command, Scan};
 
 /// A refusal with its place, and its word in front where it has one.
 fn refusal(alloc: Global, variant: &str, word: &[u8], at: Place) -> Result<String, Fail> {
