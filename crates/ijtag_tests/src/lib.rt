@@ -6,6 +6,12 @@ mod device_files;
 #[cfg(test)]
 mod host_files;
 #[cfg(test)]
+mod icl_designs;
+#[cfg(test)]
+mod icl_printed;
+#[cfg(test)]
+mod icl_tokens;
+#[cfg(test)]
 mod largest;
 #[cfg(test)]
 mod names_and_numbers;
