@@ -11,13 +11,13 @@ ghost use Rattle.icl_elab.specs.SeenFrames.{names_of, seen_passed, seen_request,
 use crate::ElabFault;
 use crate::counts::{Counts, count_instrument, is_instrument};
 use crate::frames::{Passed, Request, pass_items};
-use crate::instances::{copied, known_block};
+use crate::instances::known_block;
 use crate::params::parameters;
 use crate::ranges::Bounds;
 use crate::scope::Scope;
 use icl_syntax::Module;
 use icl_values::ParamTable;
-use ij_text::Which;
+use ij_text::{Which, name_of};
 use std::alloc::Global;
 
 /// A cell: an instance of a module, or the top.
@@ -260,7 +260,7 @@ fn distinct_modules(alloc: Global, modules: &[Module]) -> Result<(), ElabFault>
     let mut seen = Scope::new(alloc);
     for block in modules {
         if seen.has(block.name.as_slice()) {
-            let name = copied(alloc, block.name.as_slice())?;
+            let name = name_of(alloc, block.name.as_slice())?;
             return Err(ElabFault::DoubleName { at: block.at, name });
         }
         seen.note(alloc, block.name.as_slice())?;

@@ -7,8 +7,6 @@ mod laws;
 mod lexing;
 mod pieces;
 mod state;
-#[cfg(test)]
-mod tests;
 mod token;
 
 pub use fault::LexFault;

@@ -3,7 +3,7 @@ use Rattle.std.proofs.Common.{◌≡◌, ℕ, Bool, true, false, cond, List, [],
 use Rattle.std.specs.Prelude.{◌||◌}
 use Rattle.grammar.specs.Symbol.{one, give, none, ◌>>=◌, repeat}
 use Rattle.grammar.specs.Reading.{read_in_turn, read_repeat}
-use Rattle.grammar.proofs.Laws.{Reads, one_reads, give_reads, none_reads, turn_reads, either_reads, wider_reads}
+use Rattle.grammar.proofs.Combinators.{Reads, one_reads, give_reads, none_reads, turn_reads, either_reads, wider_reads}
 use Rattle.icl_lexer.specs.declared.token.TokenKind.{TokenKind}
 use Rattle.icl_lexer.specs.declared.token.TokenKind.TheVariants.{Word, Decimal, Sized, Quoted, Param, Mark}
 use Rattle.icl_syntax.specs.declared.words.Limit.{Limit}

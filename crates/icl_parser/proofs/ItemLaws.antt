@@ -3,7 +3,7 @@ use Rattle.std.proofs.Common.{◌≡◌, ℕ, Bool, true, false, List, [], ◌�
 use Rattle.std.specs.Prelude.{◌||◌, codes}
 use Rattle.grammar.specs.Symbol.{one, give, ◌>>=◌, repeat, many}
 use Rattle.grammar.specs.Reading.{read_in_turn}
-use Rattle.grammar.proofs.Laws.{Reads, one_reads, give_reads, turn_reads, either_reads, wider_reads}
+use Rattle.grammar.proofs.Combinators.{Reads, one_reads, give_reads, turn_reads, either_reads, wider_reads}
 use Rattle.icl_lexer.specs.declared.token.TokenKind.{TokenKind}
 use Rattle.icl_lexer.specs.declared.token.TokenKind.TheVariants.{Word, Decimal, Sized, Quoted, Param, Mark}
 use Rattle.ij_text.specs.declared.Place.{Place}

@@ -4,7 +4,8 @@ use Rattle.std.proofs.lemmas.List.{map-append}
 use Rattle.std.specs.Prelude.{◌||◌}
 use Rattle.grammar.specs.Symbol.{give, ◌>>=◌, repeat}
 use Rattle.grammar.specs.Reading.{read_repeat, read_in_turn}
-use Rattle.grammar.proofs.Laws.{Reads, turn_reads, repeat_reads, wider_reads}
+use Rattle.grammar.proofs.Combinators.{Reads, turn_reads, wider_reads}
+use Rattle.grammar.proofs.Laws.{repeat_reads}
 use Rattle.icl_syntax.specs.Tokens.{SeenToken, is_mark}
 use Rattle.icl_syntax.specs.Values.{SeenModule}
 use Rattle.icl_syntax.specs.Modules.{with_member}

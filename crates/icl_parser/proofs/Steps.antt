@@ -1,7 +1,8 @@
 -- One round of a loop that reads parts.
 use Rattle.std.proofs.Common.{◌≡◌, Bool, true, false, List, [], ◌∷◌, Result, Ok, Err, sym, ap, ◌∙◌}
 use Rattle.grammar.specs.Reading.{Stop as Unfit, read_on, read_repeat}
-use Rattle.grammar.proofs.Laws.{Reads, ok_is, err_is, repeat_step, repeat_end}
+use Rattle.grammar.proofs.Combinators.{Reads, ok_is, err_is}
+use Rattle.grammar.proofs.Laws.{repeat_step, repeat_end}
 use Rattle.icl_syntax.specs.declared.words.Limit.{Limit}
 use Rattle.icl_syntax.specs.Tokens.{SeenToken}
 use Rattle.icl_syntax.specs.Grammar.{Of}

@@ -4,7 +4,8 @@ use Rattle.std.specs.Prelude.{◌||◌}
 use mathlib.Core.Path.{fun_ext}
 use Rattle.grammar.specs.Symbol.{one, give, barred, ◌>>=◌, repeat}
 use Rattle.grammar.specs.Reading.{read_one, read_barred, read_in_turn, read_repeat}
-use Rattle.grammar.proofs.Laws.{Reads, one_reads, barred_reads, give_reads, none_reads, turn_reads, either_reads, repeat_reads, wider_reads}
+use Rattle.grammar.proofs.Combinators.{Reads, one_reads, barred_reads, give_reads, none_reads, turn_reads, either_reads, wider_reads}
+use Rattle.grammar.proofs.Laws.{repeat_reads}
 use Rattle.icl_lexer.specs.declared.token.TokenKind.{TokenKind}
 use Rattle.icl_lexer.specs.declared.token.TokenKind.TheVariants.{Word, Decimal, Sized, Quoted, Param, Mark}
 use Rattle.ij_text.specs.declared.Place.{Place}

@@ -6,7 +6,7 @@ use Rattle.std.proofs.lemmas.List.{length-map, length-drop, drop-map}
 use Rattle.std.specs.Prelude.{◌==◌}
 use Rattle.grammar.specs.Reading.{Stop as Unfit, ended}
 use Rattle.grammar.specs.Refusal.{Refused}
-use Rattle.grammar.proofs.Laws.{ok_is}
+use Rattle.grammar.proofs.Combinators.{ok_is}
 use Rattle.grammar.proofs.Verdicts.{found, only, refused}
 use Rattle.icl_syntax.specs.declared.words.Limit.{Limit}
 use Rattle.icl_syntax.specs.Tokens.{SeenToken}

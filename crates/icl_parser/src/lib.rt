@@ -14,8 +14,6 @@ mod modules;
 mod parsing;
 mod signals;
 mod signs;
-#[cfg(test)]
-mod tests;
 mod words;
 
 pub use fault::ParseFault;

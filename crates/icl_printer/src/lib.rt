@@ -13,8 +13,6 @@ mod parts;
 mod properties;
 mod put;
 mod signals;
-#[cfg(test)]
-mod tests;
 mod token;
 
 pub use design::put_design;

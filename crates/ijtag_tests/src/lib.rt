@@ -16,6 +16,12 @@ mod first_forms;
 #[cfg(test)]
 mod host_files;
 #[cfg(test)]
+mod icl_designs;
+#[cfg(test)]
+mod icl_printed;
+#[cfg(test)]
+mod icl_tokens;
+#[cfg(test)]
 mod largest;
 #[cfg(test)]
 mod names_and_numbers;
