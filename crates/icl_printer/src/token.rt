@@ -6,9 +6,8 @@ ghost use Rattle.icl_printer.specs.Layout.{layout, gap_behind, laid};
 ghost use Rattle.icl_printer.specs.Pieces.{spelled};
 
 use ij_bits::List;
-use ij_io::{Sink, StoreFault, put_pieces};
+use ij_io::{Sink, StoreFault, Word, put_words};
 use ij_text::{Name, Text};
-use svf_writer::decimal::put_decimal;
 
 /// A token to be written.
 #[derive(Clone, Copy)]
@@ -37,32 +36,35 @@ fn gap_behind(mark: u8) -> u8
 }
 
 /// Writes a token and the blank behind it.
+#[tactic(auto, unfolding(ij_io::specs::Words::words_text))]
 fn put_token<K: Sink>(piece: &Piece, k: &mut K) -> Result<(), StoreFault>
     ensures whole { OnOk result (Adds (K.taken k.old) (K.taken k.new) (laid (spelled piece.now))) }
     ensures part { OnErr result (AddsPart (K.taken k.old) (K.taken k.new) (laid (spelled piece.now))) }
     ensures cause { HasCause (K.faults k.old) (K.faults k.new) result StoreFault.Failed }
 {
     match piece {
-        Piece::Word(word) => put_pieces(k, &[word, b" "])?,
-        Piece::Name(name) => put_pieces(k, &[name.as_slice(), b" "])?,
-        Piece::Mark(mark) => k.write(&[*mark, gap_behind(*mark)])?,
-        Piece::Decimal(n) => put_number(*n, k)?,
-        Piece::Sized(text) => put_pieces(k, &[text.as_slice(), b" "])?,
-        Piece::Quoted(text) => put_pieces(k, &[b"\"", text.as_slice(), b"\" "])?,
-        Piece::Param(name) => put_pieces(k, &[b"$", name.as_slice(), b" "])?,
+        Piece::Word(word) => put_words(k, &[Word::Text(word), Word::Text(b" ")]),
+        Piece::Name(name) => put_words(k, &[Word::Text(name.as_slice()), Word::Text(b" ")]),
+        Piece::Mark(mark) => k.write(&[*mark, gap_behind(*mark)]),
+        Piece::Decimal(n) => put_words(k, &[Word::Number(u64::from(*n)), Word::Text(b" ")]),
+        Piece::Sized(text) => put_words(k, &[Word::Text(text.as_slice()), Word::Text(b" ")]),
+        Piece::Quoted(text) => put_words(
+            k,
+            &[
+                Word::Text(b"\""),
+                Word::Text(text.as_slice()),
+                Word::Text(b"\" "),
+            ],
+        ),
+        Piece::Param(name) => put_words(
+            k,
+            &[
+                Word::Text(b"$"),
+                Word::Text(name.as_slice()),
+                Word::Text(b" "),
+            ],
+        ),
     }
-    Ok(())
-}
-
-/// Writes a decimal and a space.
-fn put_number<K: Sink>(n: u32, k: &mut K) -> Result<(), StoreFault>
-    ensures whole { OnOk result (Adds (K.taken k.old) (K.taken k.new) (laid (spelled (Piece.Decimal n)))) }
-    ensures part { OnErr result (AddsPart (K.taken k.old) (K.taken k.new) (laid (spelled (Piece.Decimal n)))) }
-    ensures cause { HasCause (K.faults k.old) (K.faults k.new) result StoreFault.Failed }
-{
-    put_decimal(n, k)?;
-    k.write(b" ")?;
-    Ok(())
 }
 
 /// Writes tokens, each with the blank behind it.
