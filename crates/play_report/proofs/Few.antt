@@ -1,15 +1,12 @@
 -- Commands that are read take few clocks when they are played.
-use Rattle.std.proofs.Common.{◌≡◌, Ok, ℕ, suc, ◌+◌, ◌≤◌, Bool, true, false, List, [], ◌∷◌, ◌++◌, length, Option, Some, None, refl, ap, ◌∙◌, arith, length-append}
-use Rattle.std.specs.Prelude.{map, replicate, unwrap_or}
-use Rattle.std.proofs.lemmas.List.{length-replicate}
-use Rattle.svf_writer.specs.SeenCommands.{SIR, SDR, Reset, Idle, Run, SeenCommand, SeenScan}
-use Rattle.svf_writer.specs.Fits.{HasLength, TakesTdi, FitsAfter, AreFit, AreFitAfter}
-use Rattle.tap_machine.specs.declared.Stable.{Stable}
-use Rattle.tap_machine.specs.declared.Stable.TheVariants.{Reset as InReset, Idle as InIdle}
+use Rattle.std.proofs.Common.{◌≡◌, Ok, ℕ, ◌+◌, ◌≤◌, Bool, true, false, List, [], ◌∷◌, length, arith}
+use Rattle.svf_writer.specs.SeenCommands.{SIR, SDR, Reset, Idle, Run, SeenCommand}
+use Rattle.svf_writer.specs.Fits.{AreFit}
+use Rattle.tap_machine.specs.declared.Stable.TheVariants.{Reset as InReset}
 use Rattle.tap_machine.specs.Play.{pins, scans_in}
 use Rattle.tap_machine.proofs.Clocks.{at_least, pins_are_clocks}
 use Rattle.svf_reader.specs.Meaning.{svf}
-use Rattle.svf_writer.specs.Clocks.{with_leave, clocks_from}
+use Rattle.svf_writer.specs.Clocks.{clocks_from}
 use Rattle.svf_reader.proofs.Few.{read_commands_are_few as few_clocks}
 use Rattle.svf_reader.proofs.Following.{read_commands_fit}
 use Rattle.play_report.specs.Few.{ReadCommandsArePlayable}
