@@ -9,12 +9,13 @@ use Rattle.icl_syntax.specs.Tokens.{SeenToken, is_mark}
 use Rattle.icl_syntax.specs.Values.{SeenModule}
 use Rattle.icl_syntax.specs.Modules.{with_member}
 use Rattle.icl_syntax.specs.Grammar.{Of, mark, appended, parted, ended_by}
-use Rattle.icl_parser.specs.declared.fault.Stop.{Stop}
-use Rattle.icl_parser.specs.Seen.{Fails}
-use Rattle.icl_parser.specs.Reading.{Reading, begins, gives, any, no_close, read_mark, read_put, read_after, read_ended, read_parted, read_member, read_module}
-use Rattle.icl_parser.proofs.Tokens.{nothing, both_false, right_false}
-use Rattle.icl_parser.proofs.Symbols.{then_reads, mark_reads, made_reads}
-use Rattle.icl_parser.proofs.Steps.{Outcome, go_on, round_fails, ends}
+use Rattle.icl_expressions.specs.declared.stop.Stop.{Stop}
+use Rattle.icl_expressions.specs.Seen.{Fails}
+use Rattle.icl_expressions.specs.Reading.{Reading, begins, gives, any, no_close, read_mark, read_put, read_after, read_ended, read_parted}
+use Rattle.icl_parser.specs.Reading.{read_member, read_module}
+use Rattle.icl_expressions.proofs.Tokens.{nothing, both_false, right_false}
+use Rattle.icl_expressions.proofs.Symbols.{then_reads, mark_reads, made_reads}
+use Rattle.icl_expressions.proofs.Steps.{Outcome, go_on, round_fails, ends}
 
 -- ---- parts with a mark between them
 

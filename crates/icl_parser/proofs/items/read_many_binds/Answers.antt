@@ -2,7 +2,7 @@ use Rattle.std.proofs.Common.{List, map, sym, ap, ◌∙◌, arith}
 use Rattle.icl_syntax.specs.Values.{SeenBind}
 use Rattle.icl_syntax.specs.Grammar.{appended}
 use Rattle.icl_syntax.specs.Views.{seen_list, seen_bind}
-use Rattle.icl_parser.specs.Seen.{toks, seen_read}
+use Rattle.icl_expressions.specs.Seen.{toks, seen_read}
 use Rattle.icl_parser.specs.Reading.{read_bind}
 use Rattle.icl_syntax.specs.Modules.{bind}
 use Rattle.icl_parser.proofs.Lists.{parts_go_on}

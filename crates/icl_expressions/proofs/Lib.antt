@@ -1,0 +1,8 @@
+pub mod Tokens
+pub mod Symbols
+pub mod Operators
+pub mod Factors
+pub mod Chains
+pub mod Steps
+pub mod SignalLaws
+pub mod SignalLoops
