@@ -4,5 +4,6 @@ pub mod Operators
 pub mod Factors
 pub mod Chains
 pub mod Steps
+pub mod Lists
 pub mod SignalLaws
 pub mod SignalLoops

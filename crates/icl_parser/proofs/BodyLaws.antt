@@ -19,7 +19,7 @@ use Rattle.icl_parser.specs.Reading.{read_attribute_said, read_sources, read_pro
 use Rattle.icl_expressions.proofs.Tokens.{nothing, marks, both_false, marks_apart, mark_apart, no_mark_closes}
 use Rattle.icl_expressions.proofs.Symbols.{then_reads, mark_reads, made_reads, sign_marks}
 use Rattle.icl_expressions.proofs.SignalLaws.{value_reads, expr_behind_reads, maybe_reads, name_reads, path_marks, sig_reads, sigs_marks, sigs_reads}
-use Rattle.icl_parser.proofs.Lists.{parts_then_reads, ended_reads}
+use Rattle.icl_expressions.proofs.Lists.{parts_then_reads, ended_reads}
 
 -- ---- properties
 

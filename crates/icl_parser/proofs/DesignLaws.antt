@@ -23,7 +23,7 @@ use Rattle.icl_expressions.proofs.Symbols.{then_reads, mark_reads, made_reads, s
 use Rattle.icl_expressions.proofs.SignalLaws.{value_reads, name_reads}
 use Rattle.icl_parser.proofs.BodyLaws.{attribute_said_reads}
 use Rattle.icl_parser.proofs.ItemLaws.{word_reads, braced_reads, port_reads, register_reads, alias_reads, parameter_reads, attribute_reads, mux_reads, child_reads}
-use Rattle.icl_parser.proofs.Lists.{parts_then_reads, ended_reads}
+use Rattle.icl_expressions.proofs.Lists.{parts_then_reads, ended_reads}
 
 name_closes : (t : SeenToken) → is_name t ≡ true → no_close t ≡ true
 name_closes t h = no_mark_closes t (by_kind t.kind h)

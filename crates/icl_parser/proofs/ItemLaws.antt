@@ -23,7 +23,7 @@ use Rattle.icl_expressions.proofs.Tokens.{nothing, marks, both_false, left_false
 use Rattle.icl_expressions.proofs.Symbols.{then_reads, mark_reads, made_reads, sign_marks}
 use Rattle.icl_expressions.proofs.SignalLaws.{value_reads, expr_behind_reads, maybe_reads, maybe_range_reads, name_reads, path_marks, sig_reads, sigs_marks, sigs_reads}
 use Rattle.icl_parser.proofs.BodyLaws.{attribute_said_reads, body_marks, body_reads}
-use Rattle.icl_parser.proofs.Lists.{parted_reads, parts_reads, parts_then_reads, ended_reads}
+use Rattle.icl_expressions.proofs.Lists.{parted_reads, parts_reads, parts_then_reads, ended_reads}
 
 pub word_reads : (w : List ℕ) → Reads (word w) any nothing false (read_word w)
 word_reads w = wider_reads (one_reads Limit (word_at w)) any nothing (λ t h. refl) (λ t h. refl)

@@ -1,4 +1,4 @@
-pub mod Lists
+pub mod More
 pub mod BodyLaws
 pub mod ItemLaws
 pub mod DesignLaws

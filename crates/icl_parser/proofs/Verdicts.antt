@@ -24,7 +24,7 @@ use Rattle.icl_parser.specs.Reading.{read_module, read_design, whole_design}
 use Rattle.icl_parser.specs.Refusals.{IsFaultOf, IsRefused, OnRefusal, end_of}
 use Rattle.icl_expressions.proofs.Tokens.{nothing}
 use Rattle.icl_expressions.proofs.Steps.{go_on, round_fails, ends}
-use Rattle.icl_parser.proofs.Lists.{more_modules}
+use Rattle.icl_parser.proofs.More.{more_modules}
 use Rattle.icl_parser.proofs.DesignLaws.{module_reads, design_reads}
 
 -- ---- the loop of modules

@@ -7,7 +7,7 @@ use Rattle.icl_parser.specs.Reading.{read_values}
 use Rattle.icl_expressions.proofs.Tokens.{marks_apart}
 use Rattle.icl_expressions.proofs.Symbols.{sign_marks}
 use Rattle.icl_expressions.proofs.SignalLaws.{value_reads}
-use Rattle.icl_parser.proofs.Lists.{begun, listed, parted_go_on}
+use Rattle.icl_expressions.proofs.Lists.{begun, listed, parted_go_on}
 use Rattle.icl_parser.proofs.ItemLoops.{values_start, values_fail}
 use Rattle.icl_parser.proofs.items.read_values.Goals as goal
 

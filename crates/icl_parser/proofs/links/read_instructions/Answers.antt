@@ -5,7 +5,7 @@ use Rattle.icl_syntax.specs.Views.{seen_list, seen_instr}
 use Rattle.icl_expressions.specs.Seen.{toks, seen_read}
 use Rattle.icl_parser.specs.Reading.{read_instruction}
 use Rattle.icl_syntax.specs.Modules.{instruction}
-use Rattle.icl_parser.proofs.Lists.{parts_go_on}
+use Rattle.icl_expressions.proofs.Lists.{parts_go_on}
 use Rattle.icl_parser.proofs.DesignLaws.{instruction_reads}
 use Rattle.icl_parser.proofs.ItemLoops.{instructions_start}
 use Rattle.icl_parser.proofs.links.read_instructions.Goals as goal

@@ -6,13 +6,10 @@ use Rattle.grammar.specs.Symbol.{give, ◌>>=◌, repeat}
 use Rattle.grammar.specs.Reading.{read_repeat, read_in_turn}
 use Rattle.grammar.proofs.Laws.{Reads, turn_reads, repeat_reads, wider_reads}
 use Rattle.icl_syntax.specs.Tokens.{SeenToken, is_mark}
-use Rattle.icl_syntax.specs.Values.{SeenModule}
-use Rattle.icl_syntax.specs.Modules.{with_member}
 use Rattle.icl_syntax.specs.Grammar.{Of, mark, appended, parted, ended_by}
 use Rattle.icl_expressions.specs.declared.stop.Stop.{Stop}
 use Rattle.icl_expressions.specs.Seen.{Fails}
 use Rattle.icl_expressions.specs.Reading.{Reading, begins, gives, any, no_close, read_mark, read_put, read_after, read_ended, read_parted}
-use Rattle.icl_parser.specs.Reading.{read_member, read_module}
 use Rattle.icl_expressions.proofs.Tokens.{nothing, both_false, right_false}
 use Rattle.icl_expressions.proofs.Symbols.{then_reads, mark_reads, made_reads}
 use Rattle.icl_expressions.proofs.Steps.{Outcome, go_on, round_fails, ends}
@@ -88,12 +85,6 @@ ended_reads {A} c {S} {first} {more} {r} law apart =
 -- what is read behind some parts
 abbrev pub more : {A : Type 0} → Reading A → List A → List SeenToken → Outcome (List A)
 more {A} r xs ts = read_repeat no_close (λ (ys : List A). r) appended xs ts
-
-abbrev pub more_members : List (List ℕ) → List SeenToken → Outcome (List (List ℕ))
-more_members ns ts = read_repeat no_close (λ (ys : List (List ℕ)). read_member) with_member ns ts
-
-abbrev pub more_modules : List SeenModule → List SeenToken → Outcome (List SeenModule)
-more_modules bs ts = read_repeat any (λ (ys : List SeenModule). read_module) appended bs ts
 
 -- the first part, and where the others begin
 pub begun_more : {A : Type 0} (r : Reading A) (a : A) (xs : List A) (ts us : List SeenToken) (whole : Outcome (List A)) → xs ≡ a ∷ [] → us ≡ ts → more r (a ∷ []) ts ≡ whole → more r xs us ≡ whole
