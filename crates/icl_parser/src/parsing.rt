@@ -5,12 +5,13 @@ ghost use Rattle.icl_lexer.specs.Laws.{AreInText};
 ghost use Rattle.icl_syntax.specs.Tokens.{seen_tokens};
 ghost use Rattle.icl_syntax.specs.Modules.{design};
 ghost use Rattle.icl_syntax.specs.Views.{seen_design};
-ghost use Rattle.icl_parser.specs.Seen.{toks, tok};
+ghost use Rattle.icl_expressions.specs.Seen.{toks, tok};
 ghost use Rattle.icl_parser.specs.Refusals.{Blocks, IsFaultAt, IsFaultOf, OnRefusal, end_of};
 
 use crate::ends::end_of;
-use crate::fault::{ParseFault, Stop};
-use crate::lexeme::{Lexeme, copied};
+use crate::fault::ParseFault;
+use icl_expressions::stop::Stop;
+use icl_expressions::lexeme::{Lexeme, copied};
 use crate::modules::read_design;
 use crate::words::is_left_out;
 use icl_lexer::{Token, tokens_are_in_the_text};
