@@ -6,19 +6,19 @@ ghost use Rattle.icl_syntax.specs.Views.{seen_expr};
 ghost use Rattle.icl_expressions.specs.Seen.{toks, seen_read, seen_counting, seen_sign, Gives};
 ghost use Rattle.icl_expressions.specs.Reading.{read_put, read_operand, read_factor, read_term, read_sum, read_parentheses, read_expr, joined};
 
-use crate::stop::Stop;
 use crate::leaves::read_leaf;
 use crate::lexeme::{Lexeme, Read, begins_mark, read_mark};
 use crate::signs::{
     SignAt, begins_product_sign, begins_sum_sign, read_product_sign, read_sum_sign,
 };
+use crate::stop::Stop;
 use icl_syntax::{Expr, Limit};
 use std::alloc::Global;
 
 /// An expression; how many operators its outermost expression has up to here; and whether it is a sized number, behind
 /// which no operator may stand.
 #[derive(Drop)]
-pub struct Counting {
+pub(crate) struct Counting {
     pub expr: Expr,
     pub used: u32,
     pub lone: bool,
@@ -190,7 +190,7 @@ fn joined<'a>(
 
 /// An expression: at most 64 levels of parentheses and 256 operators.
 #[tactic(auto, unfolding(crate::specs::Reading::read_expr))]
-pub fn read_expr<'a>(alloc: Global, tokens: &'a [Lexeme<'a>]) -> Result<Read<'a, Expr>, Stop>
+pub(crate) fn read_expr<'a>(alloc: Global, tokens: &'a [Lexeme<'a>]) -> Result<Read<'a, Expr>, Stop>
     ensures shorter { IfOk result (λ r. length r.rest.now < length tokens.now) }
     ensures gives { Gives (seen_read seen_expr) result (read_expr (toks tokens.now)) }
 {

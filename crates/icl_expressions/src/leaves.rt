@@ -9,11 +9,12 @@ ghost use Rattle.icl_expressions.specs.Seen.{tok, toks, seen_read, seen_counting
 ghost use Rattle.icl_expressions.specs.Reading.{read_leaf, read_decimal};
 
 use crate::expressions::Counting;
+use crate::lexeme::{Lexeme, Read};
 use crate::stop::Stop;
-use crate::lexeme::{Lexeme, Read, copied};
 use icl_lexer::TokenKind;
 use icl_syntax::Expr;
 use ij_bits::OutOfMemory;
+use ij_text::name_of;
 use std::alloc::Global;
 
 /// The value of a decimal with one more byte.
@@ -30,7 +31,7 @@ fn with_digit(n: u64, b: u8) -> u64
 }
 
 /// The value of a decimal, of at most 4,294,967,295.
-pub fn decimal(text: &[u8]) -> Option<u32>
+pub(crate) fn decimal(text: &[u8]) -> Option<u32>
     ensures { result ≡ decimal_of text.now }
 {
     let mut n = 0;
@@ -64,13 +65,13 @@ fn between_ends(text: &[u8]) -> &[u8]
 }
 
 /// The number that a token is.
-pub fn number_value(alloc: Global, t: &Lexeme) -> Result<Option<Expr>, OutOfMemory>
+pub(crate) fn number_value(alloc: Global, t: &Lexeme) -> Result<Option<Expr>, OutOfMemory>
     ensures { IfOk result (λ o. option_map seen_expr o ≡ number_of t.now.kind t.now.at t.now.text.now) }
 {
     match t.kind {
         TokenKind::Decimal => Ok(decimal(t.text).map(Expr::Decimal)),
-        TokenKind::Sized => Ok(Some(Expr::Sized(copied(alloc, t.text)?))),
-        TokenKind::Param => Ok(Some(Expr::Param(t.at, copied(alloc, behind_first(t.text))?))),
+        TokenKind::Sized => Ok(Some(Expr::Sized(name_of(alloc, t.text)?))),
+        TokenKind::Param => Ok(Some(Expr::Param(t.at, name_of(alloc, behind_first(t.text))?))),
         TokenKind::Word | TokenKind::Quoted | TokenKind::Mark => Ok(None),
     }
 }
@@ -88,7 +89,7 @@ fn sized_value(
         return Ok(None);
     }
     Ok(Some(Counting {
-        expr: Expr::Sized(copied(alloc, text)?),
+        expr: Expr::Sized(name_of(alloc, text)?),
         used,
         lone: true,
     }))
@@ -120,11 +121,11 @@ fn leaf_value(
             None => Ok(None),
         },
         TokenKind::Param => {
-            let name = copied(alloc, behind_first(t.text))?;
+            let name = name_of(alloc, behind_first(t.text))?;
             Ok(counted(Expr::Param(t.at, name), used))
         }
         TokenKind::Quoted => {
-            let text = copied(alloc, between_ends(t.text))?;
+            let text = name_of(alloc, between_ends(t.text))?;
             Ok(counted(Expr::Quoted(text), used))
         }
         TokenKind::Sized => sized_value(alloc, t.text, alone, used),
@@ -133,7 +134,7 @@ fn leaf_value(
 }
 
 /// An expression of one token.
-pub fn read_leaf<'a>(
+pub(crate) fn read_leaf<'a>(
     alloc: Global,
     tokens: &'a [Lexeme<'a>],
     alone: bool,

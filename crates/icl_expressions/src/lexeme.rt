@@ -9,25 +9,31 @@ ghost use Rattle.icl_expressions.specs.Reading.{begins, no_close, read_mark, rea
 use crate::stop::Stop;
 use icl_lexer::TokenKind;
 use ij_bits::{List, OutOfMemory};
-use ij_text::{Name, Place, Text};
+use ij_text::{Name, Place, name_of};
 use std::alloc::Global;
 
 /// A token with its text.
 #[derive(Clone, Copy, Debug, Drop)]
 pub struct Lexeme<'a> {
+    /// What the token is.
     pub kind: TokenKind,
+    /// The place of its first byte.
     pub at: Place,
+    /// Its bytes in the source.
     pub text: &'a [u8],
 }
 
 /// A value, and the tokens behind it.
 #[derive(Drop)]
 pub struct Read<'a, X> {
+    /// What was read.
     pub value: X,
+    /// The tokens behind it.
     pub rest: &'a [Lexeme<'a>],
 }
 
 impl<'a> Lexeme<'a> {
+    /// Whether the token is this mark.
     pub fn is_mark(&self, mark: u8) -> bool
         ensures { result ≡ is_mark mark (tok self.now) }
     {
@@ -37,6 +43,7 @@ impl<'a> Lexeme<'a> {
         }
     }
 
+    /// Whether the token is this word.
     pub fn is_word(&self, word: &[u8]) -> bool
         ensures { result ≡ is_word word.now (tok self.now) }
     {
@@ -46,6 +53,7 @@ impl<'a> Lexeme<'a> {
         }
     }
 
+    /// Whether the token is a word, a keyword included.
     pub fn is_name(&self) -> bool
         ensures { result ≡ if_word self.now.kind Rattle.std.specs.Prelude.true false }
     {
@@ -54,13 +62,6 @@ impl<'a> Lexeme<'a> {
             _ => false,
         }
     }
-}
-
-/// A copy of some bytes.
-pub fn copied(alloc: Global, bytes: &[u8]) -> Result<Text, OutOfMemory>
-    ensures { IfOk result (λ text. text.items ≡ bytes.now) }
-{
-    Ok(List::from(Vec::from_slice(alloc, bytes)?))
 }
 
 /// A list, with a value at its end, and the tokens behind the value.
@@ -90,7 +91,7 @@ pub fn begins_mark(tokens: &[Lexeme], mark: u8) -> bool
 }
 
 /// Whether a word is the next token.
-pub fn begins_name(tokens: &[Lexeme]) -> bool
+pub(crate) fn begins_name(tokens: &[Lexeme]) -> bool
     ensures { result ≡ begins (λ t. if_word t.kind Rattle.std.specs.Prelude.true false) (toks tokens.now) }
 {
     match tokens {
@@ -138,7 +139,7 @@ pub fn read_name<'a>(alloc: Global, tokens: &'a [Lexeme<'a>]) -> Result<Read<'a,
 {
     match tokens {
         [t, rest @ ..] if t.is_name() => Ok(Read {
-            value: copied(alloc, t.text)?,
+            value: name_of(alloc, t.text)?,
             rest,
         }),
         _ => Err(Stop::At(tokens.len(), None)),

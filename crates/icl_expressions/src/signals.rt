@@ -8,12 +8,12 @@ ghost use Rattle.icl_expressions.specs.SeenParts.{seen_located};
 ghost use Rattle.icl_expressions.specs.Reading.{read_put, read_after, read_expr, read_value, read_expr_behind, read_maybe, read_range, read_number, read_name, read_path_behind, read_named_behind, read_named_sig, read_plain_sig, read_inverted, read_sig, read_sigs};
 
 use crate::expressions::read_expr;
-use crate::stop::Stop;
 use crate::leaves::number_value;
-use crate::lexeme::{Lexeme, Read, begins_mark, begins_name, copied, pushed, read_mark, read_name};
+use crate::lexeme::{Lexeme, Read, begins_mark, begins_name, pushed, read_mark, read_name};
+use crate::stop::Stop;
 use icl_syntax::{Expr, Range, Sig, SigWhat};
 use ij_bits::List;
-use ij_text::{Name, Place};
+use ij_text::{Name, Place, name_of};
 use std::alloc::Global;
 
 // ---- values
@@ -32,10 +32,7 @@ fn with_next_expr<'a>(
 }
 
 /// Expressions with `,` between them.
-pub fn read_value<'a>(
-    alloc: Global,
-    tokens: &'a [Lexeme<'a>],
-) -> Result<Read<'a, List<Expr>>, Stop>
+pub fn read_value<'a>(alloc: Global, tokens: &'a [Lexeme<'a>]) -> Result<Read<'a, List<Expr>>, Stop>
     ensures shorter { IfOk result (λ r. length r.rest.now < length tokens.now) }
     ensures gives { Gives (seen_read (seen_list seen_expr)) result (read_value (toks tokens.now)) }
 {
@@ -130,7 +127,7 @@ pub fn maybe_range<'a>(
 
 /// What a signal is, and the place of its first token.
 #[derive(Drop)]
-pub struct Located {
+pub(crate) struct Located {
     pub at: Place,
     pub what: SigWhat,
 }
@@ -199,7 +196,7 @@ fn named_behind<'a>(
     ensures shorter { IfOk result (λ r. length r.rest.now ≤ length tokens.now) }
     ensures gives { Gives (seen_read seen_located) result (read_named_behind (record { at = first.now.at; name = first.now.text.now }) (toks tokens.now)) }
 {
-    let path = read_path(alloc, copied(alloc, first.text)?, tokens)?;
+    let path = read_path(alloc, name_of(alloc, first.text)?, tokens)?;
     let range = maybe_range(alloc, path.rest)?;
     Ok(Read {
         value: Located {
@@ -286,10 +283,7 @@ fn with_next_sig<'a>(alloc: Global, sigs: Read<'a, List<Sig>>) -> Result<Read<'a
 }
 
 /// Signals with `,` between them.
-pub fn read_sigs<'a>(
-    alloc: Global,
-    tokens: &'a [Lexeme<'a>],
-) -> Result<Read<'a, List<Sig>>, Stop>
+pub fn read_sigs<'a>(alloc: Global, tokens: &'a [Lexeme<'a>]) -> Result<Read<'a, List<Sig>>, Stop>
     ensures shorter { IfOk result (λ r. length r.rest.now < length tokens.now) }
     ensures gives { Gives (seen_read (seen_list seen_sig)) result (read_sigs (toks tokens.now)) }
 {

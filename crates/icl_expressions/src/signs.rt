@@ -5,14 +5,14 @@ ghost use Rattle.icl_syntax.specs.Grammar.{sum_sign, product_sign};
 ghost use Rattle.icl_expressions.specs.Seen.{tok, toks, seen_read, seen_sign, Gives};
 ghost use Rattle.icl_expressions.specs.Reading.{begins, is_sign, operator_of, read_operator};
 
-use crate::stop::Stop;
 use crate::lexeme::{Lexeme, Read};
+use crate::stop::Stop;
 use icl_syntax::{Limit, Sign};
 use ij_text::Place;
 
 /// An operator at its place.
 #[derive(Clone, Copy, Debug, Drop)]
-pub struct SignAt {
+pub(crate) struct SignAt {
     pub sign: Sign,
     pub at: Place,
 }
@@ -61,7 +61,7 @@ fn product_sign(t: &Lexeme) -> Option<SignAt>
 }
 
 /// Whether `+` or `-` is the next token.
-pub fn begins_sum_sign(tokens: &[Lexeme]) -> bool
+pub(crate) fn begins_sum_sign(tokens: &[Lexeme]) -> bool
     ensures { result ≡ begins (is_sign sum_sign) (toks tokens.now) }
 {
     match tokens {
@@ -71,7 +71,7 @@ pub fn begins_sum_sign(tokens: &[Lexeme]) -> bool
 }
 
 /// Whether `*`, `/` or `%` is the next token.
-pub fn begins_product_sign(tokens: &[Lexeme]) -> bool
+pub(crate) fn begins_product_sign(tokens: &[Lexeme]) -> bool
     ensures { result ≡ begins (is_sign product_sign) (toks tokens.now) }
 {
     match tokens {
@@ -103,7 +103,7 @@ fn operator<'a>(
 
 /// `+` or `-`.
 #[tactic(auto, unfolding(crate::specs::Reading::read_operator))]
-pub fn read_sum_sign<'a>(
+pub(crate) fn read_sum_sign<'a>(
     tokens: &'a [Lexeme<'a>],
     used: u32,
     lone: bool,
@@ -120,7 +120,7 @@ pub fn read_sum_sign<'a>(
 
 /// `*`, `/` or `%`.
 #[tactic(auto, unfolding(crate::specs::Reading::read_operator))]
-pub fn read_product_sign<'a>(
+pub(crate) fn read_product_sign<'a>(
     tokens: &'a [Lexeme<'a>],
     used: u32,
     lone: bool,

@@ -20,7 +20,6 @@ use Rattle.icl_syntax.specs.Tokens.{SeenToken, if_word, is_mark, mark_at, word_a
 use Rattle.icl_syntax.specs.Values.{SeenExpr, SeenRange, APath, SeenSig, SeenProp, ASource, ALaunchEdge, ALoadValue, ARefEnum, APolarity, AScanInSource, ACaptureSource, AResetValue, ATogether, SeenRow, SeenBind, ABoundPort, ABoundParameter, ABoundAttribute, SeenEnumWord, SeenLinkInstr, SeenWhat, APort, ARegister, AMux, AChild, AnAlias, SomeWords, AParameter, AnInterface, ALink, AnAttribute, SeenItem, SeenModule}
 use Rattle.icl_syntax.specs.Grammar.{Counted, leaf_at, Signed, sum_sign, product_sign, Operand, with_operand, too_deep, appended, Located, number_at, Named, named_at, free_prop_at, AttributeSaid, decimal_token, with_property, lacks}
 use Rattle.icl_syntax.specs.Modules.{owner_of, BindBegin, bind_begin_at, member_word_at, with_member, Selected, link_kind_at, ItemBegin, item_begin_at}
-
 use Rattle.icl_expressions.specs.Reading.{Reading, no_close, any, gives, read_mark, read_word, read_name, read_ended, read_maybe, read_parted, read_many, read_braced, read_value, read_expr_behind, read_range, read_sig, read_sigs, read_decimal}
 
 -- ---- properties and bodies

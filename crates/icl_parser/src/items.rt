@@ -10,14 +10,11 @@ ghost use Rattle.icl_expressions.specs.Reading.{read_put, read_after, read_value
 ghost use Rattle.icl_parser.specs.Reading.{read_port_range, read_port, read_register, read_alias, read_parameter, read_attribute, read_values, read_row, read_rows, read_mux, read_bound_port, read_bound_parameter, read_bound_attribute, read_bind_behind, read_bind_begin, read_bind, read_many_binds, read_braced_binds, read_binds, read_child};
 
 use crate::bodies::{read_attribute_said, read_body};
-use icl_expressions::stop::Stop;
-use icl_expressions::lexeme::{
-    Lexeme, Read, before_close, begins_mark, pushed, read_mark, read_name, read_word,
-};
-use icl_expressions::signals::{
-    maybe_expr_behind, maybe_range, read_expr_behind, read_sig, read_sigs, read_value,
-};
 use crate::words::bind_word;
+use icl_expressions::{
+    Lexeme, Read, Stop, before_close, begins_mark, maybe_expr_behind, maybe_range, pushed,
+    read_expr_behind, read_mark, read_name, read_sig, read_sigs, read_value, read_word,
+};
 use icl_syntax::{Bind, BindWord, Expr, MuxRow, Owner, PortKind, Range, What};
 use ij_bits::List;
 use ij_text::Place;

@@ -10,13 +10,13 @@ ghost use Rattle.icl_parser.specs.Refusals.{Blocks, IsFaultAt, IsFaultOf, OnRefu
 
 use crate::ends::end_of;
 use crate::fault::ParseFault;
-use icl_expressions::stop::Stop;
-use icl_expressions::lexeme::{Lexeme, copied};
 use crate::modules::read_design;
 use crate::words::is_left_out;
+use icl_expressions::{Lexeme, Stop};
 use icl_lexer::{Token, tokens_are_in_the_text};
 use icl_syntax::{Design, Limit};
 use ij_bits::{List, OutOfMemory};
+use ij_text::name_of;
 use std::alloc::Global;
 
 /// The tokens with their texts.
@@ -48,7 +48,7 @@ fn fault_at(alloc: Global, t: &Lexeme, why: Option<Limit>) -> Result<ParseFault,
         return Ok(ParseFault::ExprLimit { at });
     }
     if t.is_name() && is_left_out(t.text) {
-        let word = copied(alloc, t.text)?;
+        let word = name_of(alloc, t.text)?;
         return Ok(ParseFault::LeftOut { at, word });
     }
     Ok(ParseFault::Syntax { at })

@@ -7,7 +7,7 @@ ghost use Rattle.icl_syntax.specs.Grammar.{prop_word_at};
 ghost use Rattle.icl_syntax.specs.Modules.{item_word_at, bind_word_at, member_word_at, link_kind_at};
 ghost use Rattle.icl_expressions.specs.Seen.{tok};
 
-use icl_expressions::lexeme::Lexeme;
+use icl_expressions::Lexeme;
 use icl_syntax::{BindWord, ItemWord, LinkKind, MemberWord, PortKind, PropWord};
 
 /// Whether a text is a word.
