@@ -1,25 +1,12 @@
 -- What each function of the parser reads: the readers of the productions, put together as the productions are.
-use Rattle.std.specs.Prelude.{ℕ, zero, suc, ◌+◌, ◌-◌, Bool, true, false, not, List, [], ◌∷◌, length, Option, Some, None, Result, Ok, Err, is_some, codes}
-use Rattle.grammar.specs.Reading.{Stop as Unfit, Reader, ended, read_barred, read_one, read_in_turn, read_either, read_repeat}
+use Rattle.std.specs.Prelude.{ℕ, zero, suc, ◌+◌, ◌-◌, Bool, true, false, not, List, [], ◌∷◌, length, Option, Some, None, Result, Ok, Err, is_some}
+use Rattle.grammar.specs.Reading.{Stop as Unfit, Reader, read_barred, read_one, read_in_turn, read_either, read_repeat}
 use Rattle.ij_text.specs.declared.Place.{Place}
-use Rattle.icl_syntax.specs.declared.tree.LinkKind.{LinkKind}
-use Rattle.icl_syntax.specs.declared.tree.PortKind.{PortKind}
 use Rattle.icl_syntax.specs.declared.words.Limit.{Limit}
 use Rattle.icl_syntax.specs.declared.words.Limit.TheVariants.{OfExpression}
-use Rattle.icl_syntax.specs.declared.words.ItemWord.{ItemWord}
-use Rattle.icl_syntax.specs.declared.words.ItemWord.TheVariants.{OfPort, OfRegister, OfMux, OfChild, OfAlias, OfEnum, OfParameter, OfAttribute, OfInterface, OfLink}
-use Rattle.icl_syntax.specs.declared.words.BindWord.{BindWord}
-use Rattle.icl_syntax.specs.declared.words.BindWord.TheVariants.{BindsPort, BindsParameter, BindsAttribute}
-use Rattle.icl_syntax.specs.declared.words.MemberWord.{MemberWord}
-use Rattle.icl_syntax.specs.declared.words.MemberWord.TheVariants.{MemberPort, MemberAttribute}
-use Rattle.icl_syntax.specs.declared.words.Owner.{Owner}
-use Rattle.icl_syntax.specs.declared.words.Owner.TheVariants.{ScanIn, ScanOut, DataIn, DataOut, Control, Register, Alias}
-use Rattle.icl_syntax.specs.declared.words.PropWord.{PropWord}
-use Rattle.icl_syntax.specs.declared.words.PropWord.TheVariants.{Source, LaunchEdge, DefaultLoadValue, RefEnum, ActivePolarity, ScanInSource, CaptureSource, ResetValue, AccessTogether, Attribute}
 use Rattle.icl_syntax.specs.Tokens.{SeenToken, if_word, is_mark, mark_at, word_at, name_at}
-use Rattle.icl_syntax.specs.Values.{SeenExpr, SeenRange, APath, SeenSig, SeenProp, ASource, ALaunchEdge, ALoadValue, ARefEnum, APolarity, AScanInSource, ACaptureSource, AResetValue, ATogether, SeenRow, SeenBind, ABoundPort, ABoundParameter, ABoundAttribute, SeenEnumWord, SeenLinkInstr, SeenWhat, APort, ARegister, AMux, AChild, AnAlias, SomeWords, AParameter, AnInterface, ALink, AnAttribute, SeenItem, SeenModule}
-use Rattle.icl_syntax.specs.Grammar.{Counted, leaf_at, Signed, sum_sign, product_sign, Operand, with_operand, too_deep, appended, Located, number_at, Named, named_at, free_prop_at, AttributeSaid, decimal_token, with_property, lacks}
-use Rattle.icl_syntax.specs.Modules.{owner_of, BindBegin, bind_begin_at, member_word_at, with_member, Selected, link_kind_at, ItemBegin, item_begin_at}
+use Rattle.icl_syntax.specs.Values.{SeenExpr, SeenRange, APath, SeenSig}
+use Rattle.icl_syntax.specs.Grammar.{Counted, leaf_at, Signed, sum_sign, product_sign, Operand, with_operand, too_deep, appended, Located, number_at, Named, named_at, decimal_token}
 
 abbrev pub Reading : Type 0 → Type 0
 Reading A = Reader SeenToken Limit A

@@ -64,7 +64,7 @@ impl<'a> Lexeme<'a> {
     }
 }
 
-/// A list, with a value at its end, and the tokens behind the value.
+/// A list, with a value at its end, and the tokens behind the value. Most lists have one value, and room for no more.
 pub fn pushed<'a, X: Drop>(
     list: List<X>,
     read: Read<'a, X>,
@@ -72,10 +72,13 @@ pub fn pushed<'a, X: Drop>(
     ensures items { IfOk result (λ r. r.value.items ≡ list.items ++ read.entry.value ∷ []) }
     ensures rest { IfOk result (λ r. r.rest.now ≡ read.entry.rest.now) }
 {
-    let mut list = list;
-    list.push(read.value)?;
+    let mut values = list.into_vec();
+    if values.is_empty() {
+        values.reserve_exact(1)?;
+    }
+    values.push(read.value)?;
     Ok(Read {
-        value: list,
+        value: List::from(values),
         rest: read.rest,
     })
 }

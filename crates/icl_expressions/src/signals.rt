@@ -174,12 +174,11 @@ fn read_path<'a>(
     ensures shorter { IfOk result (λ r. length r.rest.now ≤ length tokens.now) }
     ensures gives { Gives (seen_read (seen_list bytes_of)) result (read_path_behind first.items (toks tokens.now)) }
 {
-    let mut names = List::new(alloc);
-    names.push(first)?;
-    let mut path = Read {
-        value: names,
+    let first = Read {
+        value: first,
         rest: tokens,
     };
+    let mut path = pushed(List::new(alloc), first)?;
     while begins_mark(path.rest, b'.') {
         path = with_next_name(alloc, path)?;
     }

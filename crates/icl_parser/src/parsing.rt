@@ -28,7 +28,7 @@ fn lexemes<'a>(
     requires { AreInText src.now 0 tokens.now }
     ensures { IfOk result (λ v. toks v.items ≡ seen_tokens src.now tokens.now) }
 {
-    let mut lexemes = Vec::new(alloc);
+    let mut lexemes = Vec::with_capacity(alloc, tokens.len())?;
     for token in tokens {
         lexemes.push(Lexeme {
             kind: token.kind,
