@@ -14,11 +14,12 @@ use Rattle.icl_syntax.specs.declared.words.PropWord.TheVariants.{Source, LaunchE
 use Rattle.icl_syntax.specs.Tokens.{SeenToken, if_word, if_mark, is_mark}
 use Rattle.icl_syntax.specs.Values.{SeenProp, ASource, ALaunchEdge, ALoadValue, ARefEnum, APolarity, AScanInSource, ACaptureSource, AResetValue, ATogether}
 use Rattle.icl_syntax.specs.Grammar.{Of, mark, maybe, expr_behind, ended_by, sources, free_word, free_prop_at, attribute_said, decimal_token, prop_behind, property, with_property, lacks, body_end, body}
-use Rattle.icl_parser.specs.Reading.{Reading, gives, any, is_name, no_close, read_mark, read_maybe, read_ended, read_expr_behind, read_attribute_said, read_sources, read_prop_behind, read_free_prop, read_property, read_properties, read_unless, read_body_end, read_braced_body, read_body}
-use Rattle.icl_parser.proofs.Tokens.{nothing, marks, both_false, marks_apart, mark_apart, no_mark_closes}
-use Rattle.icl_parser.proofs.Symbols.{then_reads, mark_reads, made_reads, sign_marks}
-use Rattle.icl_parser.proofs.SignalLaws.{value_reads, expr_behind_reads, maybe_reads, name_reads, path_marks, sig_reads, sigs_marks, sigs_reads}
-use Rattle.icl_parser.proofs.Lists.{parts_then_reads, ended_reads}
+use Rattle.icl_expressions.specs.Reading.{Reading, gives, any, is_name, no_close, read_mark, read_maybe, read_ended, read_expr_behind}
+use Rattle.icl_parser.specs.Reading.{read_attribute_said, read_sources, read_prop_behind, read_free_prop, read_property, read_properties, read_unless, read_body_end, read_braced_body, read_body}
+use Rattle.icl_expressions.proofs.Tokens.{nothing, marks, both_false, marks_apart, mark_apart, no_mark_closes}
+use Rattle.icl_expressions.proofs.Symbols.{then_reads, mark_reads, made_reads, sign_marks}
+use Rattle.icl_expressions.proofs.SignalLaws.{value_reads, expr_behind_reads, maybe_reads, name_reads, path_marks, sig_reads, sigs_marks, sigs_reads}
+use Rattle.icl_expressions.proofs.Lists.{parts_then_reads, ended_reads}
 
 -- ---- properties
 

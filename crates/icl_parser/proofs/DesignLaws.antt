@@ -17,13 +17,14 @@ use Rattle.icl_syntax.specs.Tokens.{SeenToken, if_word, if_mark, is_mark}
 use Rattle.icl_syntax.specs.Values.{SeenLinkInstr, SomeWords, AnInterface, ALink, SeenModule}
 use Rattle.icl_syntax.specs.Grammar.{mark, name, value, ended_by, appended}
 use Rattle.icl_syntax.specs.Modules.{braced, enum_word, words, member_word_at, member_behind, member, with_member, interface, selected, selecting, instruction, link_kind_at, entity, link, item_begun, item_begin_at, meaning_behind, item, module_of, design}
-use Rattle.icl_parser.specs.Reading.{gives, any, is_name, no_close, read_mark, read_ended, read_enum_word, read_many_words, read_words, read_member_word, read_member_behind, read_member, read_members, read_interface, read_selected, read_selecting, read_instruction, read_instructions, read_entity, read_link_kind, read_link, read_item_begin, read_meaning_behind, read_item, read_items, read_module, read_design}
-use Rattle.icl_parser.proofs.Tokens.{nothing, marks_apart, no_mark_closes}
-use Rattle.icl_parser.proofs.Symbols.{then_reads, mark_reads, made_reads, sign_marks}
-use Rattle.icl_parser.proofs.SignalLaws.{value_reads, name_reads}
+use Rattle.icl_expressions.specs.Reading.{gives, any, is_name, no_close, read_mark, read_ended}
+use Rattle.icl_parser.specs.Reading.{read_enum_word, read_many_words, read_words, read_member_word, read_member_behind, read_member, read_members, read_interface, read_selected, read_selecting, read_instruction, read_instructions, read_entity, read_link_kind, read_link, read_item_begin, read_meaning_behind, read_item, read_items, read_module, read_design}
+use Rattle.icl_expressions.proofs.Tokens.{nothing, marks_apart, no_mark_closes}
+use Rattle.icl_expressions.proofs.Symbols.{then_reads, mark_reads, made_reads, sign_marks}
+use Rattle.icl_expressions.proofs.SignalLaws.{value_reads, name_reads}
 use Rattle.icl_parser.proofs.BodyLaws.{attribute_said_reads}
 use Rattle.icl_parser.proofs.ItemLaws.{word_reads, braced_reads, port_reads, register_reads, alias_reads, parameter_reads, attribute_reads, mux_reads, child_reads}
-use Rattle.icl_parser.proofs.Lists.{parts_then_reads, ended_reads}
+use Rattle.icl_expressions.proofs.Lists.{parts_then_reads, ended_reads}
 
 name_closes : (t : SeenToken) → is_name t ≡ true → no_close t ≡ true
 name_closes t h = no_mark_closes t (by_kind t.kind h)

@@ -17,12 +17,13 @@ use Rattle.icl_syntax.specs.Tokens.{SeenToken, if_word, if_mark, is_mark, word_a
 use Rattle.icl_syntax.specs.Values.{SeenRow, ABoundPort, ABoundParameter, ABoundAttribute, APort, ARegister, AMux, AChild, AnAlias, AParameter, AnAttribute}
 use Rattle.icl_syntax.specs.Grammar.{Of, mark, word, name, value, maybe, expr_behind, ended_by, appended, parted, range, sig, sigs, body}
 use Rattle.icl_syntax.specs.Modules.{owner_of, port_range, port, register, alias, parameter, attribute, row, rows, mux, begun_by, bind_begin_at, bound_port, bound_parameter, bound_attribute, bind_behind, bind, braced, binds, child}
-use Rattle.icl_parser.specs.Reading.{Reading, gives, any, is_name, no_close, read_mark, read_word, read_maybe, read_ended, read_many, read_braced, read_expr_behind, read_range, read_port_range, read_port, read_register, read_alias, read_parameter, read_attribute, read_values, read_row, read_rows, read_mux, read_bind_begin, read_bound_port, read_bound_parameter, read_bound_attribute, read_bind_behind, read_bind, read_many_binds, read_braced_binds, read_binds, read_child}
-use Rattle.icl_parser.proofs.Tokens.{nothing, marks, both_false, left_false, marks_apart, mark_apart, no_mark_closes}
-use Rattle.icl_parser.proofs.Symbols.{then_reads, mark_reads, made_reads, sign_marks}
-use Rattle.icl_parser.proofs.SignalLaws.{value_reads, expr_behind_reads, maybe_reads, maybe_range_reads, name_reads, path_marks, sig_reads, sigs_marks, sigs_reads}
+use Rattle.icl_expressions.specs.Reading.{Reading, gives, any, is_name, no_close, read_mark, read_word, read_maybe, read_ended, read_many, read_braced, read_expr_behind, read_range}
+use Rattle.icl_parser.specs.Reading.{read_port_range, read_port, read_register, read_alias, read_parameter, read_attribute, read_values, read_row, read_rows, read_mux, read_bind_begin, read_bound_port, read_bound_parameter, read_bound_attribute, read_bind_behind, read_bind, read_many_binds, read_braced_binds, read_binds, read_child}
+use Rattle.icl_expressions.proofs.Tokens.{nothing, marks, both_false, left_false, marks_apart, mark_apart, no_mark_closes}
+use Rattle.icl_expressions.proofs.Symbols.{then_reads, mark_reads, made_reads, sign_marks}
+use Rattle.icl_expressions.proofs.SignalLaws.{value_reads, expr_behind_reads, maybe_reads, maybe_range_reads, name_reads, path_marks, sig_reads, sigs_marks, sigs_reads}
 use Rattle.icl_parser.proofs.BodyLaws.{attribute_said_reads, body_marks, body_reads}
-use Rattle.icl_parser.proofs.Lists.{parted_reads, parts_reads, parts_then_reads, ended_reads}
+use Rattle.icl_expressions.proofs.Lists.{parted_reads, parts_reads, parts_then_reads, ended_reads}
 
 pub word_reads : (w : List ℕ) → Reads (word w) any nothing false (read_word w)
 word_reads w = wider_reads (one_reads Limit (word_at w)) any nothing (λ t h. refl) (λ t h. refl)

@@ -2,11 +2,13 @@
 use Rattle.std.proofs.Common.{◌≡◌, ℕ, List, [], ◌∷◌, Ok, refl}
 use Rattle.icl_syntax.specs.Tokens.{SeenToken}
 use Rattle.icl_syntax.specs.Values.{SeenExpr, SeenRow, SeenBind, SeenEnumWord, SeenLinkInstr, SeenItem, SeenModule}
-use Rattle.icl_parser.specs.declared.fault.Stop.{Stop}
-use Rattle.icl_parser.specs.Seen.{Fails}
-use Rattle.icl_parser.specs.Reading.{read_value, read_values, read_row, read_rows, read_bind, read_many_binds, read_enum_word, read_many_words, read_members, read_instruction, read_instructions, read_item, read_items, read_design}
-use Rattle.icl_parser.proofs.Steps.{fails_on}
-use Rattle.icl_parser.proofs.Lists.{more_parted, more, more_members, more_modules}
+use Rattle.icl_expressions.specs.declared.stop.Stop.{Stop}
+use Rattle.icl_expressions.specs.Seen.{Fails}
+use Rattle.icl_expressions.specs.Reading.{read_value}
+use Rattle.icl_parser.specs.Reading.{read_values, read_row, read_rows, read_bind, read_many_binds, read_enum_word, read_many_words, read_members, read_instruction, read_instructions, read_item, read_items, read_design}
+use Rattle.icl_expressions.proofs.Steps.{fails_on}
+use Rattle.icl_expressions.proofs.Lists.{more_parted, more}
+use Rattle.icl_parser.proofs.More.{more_members, more_modules}
 
 pub values_start : (ts : List SeenToken) (x : List SeenExpr × List SeenToken) → read_value ts ≡ Ok x → more_parted 124 read_value (x.0 ∷ []) x.1 ≡ read_values ts
 unfolding read_values

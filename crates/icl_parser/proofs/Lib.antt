@@ -1,12 +1,4 @@
-pub mod Operators
-pub mod Tokens
-pub mod Steps
-pub mod Factors
-pub mod Symbols
-pub mod Chains
-pub mod Lists
-pub mod SignalLaws
-pub mod SignalLoops
+pub mod More
 pub mod BodyLaws
 pub mod ItemLaws
 pub mod DesignLaws

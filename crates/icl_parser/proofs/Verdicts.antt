@@ -15,15 +15,16 @@ use Rattle.icl_syntax.specs.Grammar.{appended}
 use Rattle.icl_syntax.specs.Modules.{module_of, design}
 use Rattle.icl_parser.specs.declared.fault.ParseFault.{ParseFault}
 use Rattle.icl_parser.specs.declared.fault.ParseFault.TheVariants.{OutOfMemory, LeftOut, ExprLimit, Syntax}
-use Rattle.icl_parser.specs.declared.fault.Stop.{Stop}
-use Rattle.icl_parser.specs.declared.fault.Stop.TheVariants.{Memory, At}
-use Rattle.icl_parser.specs.declared.lexeme.Lexeme.{Lexeme}
-use Rattle.icl_parser.specs.Seen.{Fails, tok, toks}
-use Rattle.icl_parser.specs.Reading.{begins, any, read_put, read_module, read_design, whole_design}
+use Rattle.icl_expressions.specs.declared.stop.Stop.{Stop}
+use Rattle.icl_expressions.specs.declared.stop.Stop.TheVariants.{Memory, At}
+use Rattle.icl_expressions.specs.declared.lexeme.Lexeme.{Lexeme}
+use Rattle.icl_expressions.specs.Seen.{Fails, tok, toks}
+use Rattle.icl_expressions.specs.Reading.{begins, any, read_put}
+use Rattle.icl_parser.specs.Reading.{read_module, read_design, whole_design}
 use Rattle.icl_parser.specs.Refusals.{IsFaultOf, IsRefused, OnRefusal, end_of}
-use Rattle.icl_parser.proofs.Tokens.{nothing}
-use Rattle.icl_parser.proofs.Steps.{go_on, round_fails, ends}
-use Rattle.icl_parser.proofs.Lists.{more_modules}
+use Rattle.icl_expressions.proofs.Tokens.{nothing}
+use Rattle.icl_expressions.proofs.Steps.{go_on, round_fails, ends}
+use Rattle.icl_parser.proofs.More.{more_modules}
 use Rattle.icl_parser.proofs.DesignLaws.{module_reads, design_reads}
 
 -- ---- the loop of modules

@@ -1,4 +1,3 @@
-pub mod Seen
 pub mod SeenParts
 pub mod Reading
 pub mod Refusals

@@ -1,16 +1,12 @@
--- What the functions that read signals, bodies and items give, without where it lies in memory.
+-- What the functions that read bodies and items give, without where it lies in memory.
 use Rattle.std.specs.Option.{option_map}
-use Rattle.icl_syntax.specs.Grammar.{Located, AttributeSaid}
+use Rattle.icl_syntax.specs.Grammar.{AttributeSaid}
 use Rattle.icl_syntax.specs.Modules.{BindBegin, ItemBegin, Selected}
-use Rattle.icl_syntax.specs.Views.{seen_expr, seen_sig_what}
+use Rattle.icl_syntax.specs.Views.{seen_expr}
 use Rattle.icl_parser.specs.declared.bodies.Said.{Said}
 use Rattle.icl_parser.specs.declared.items.BindBegin.{BindBegin as BindStart}
 use Rattle.icl_parser.specs.declared.links.Selected.{Selected as SelectedNames}
 use Rattle.icl_parser.specs.declared.modules.ItemBegin.{ItemBegin as ItemStart}
-use Rattle.icl_parser.specs.declared.signals.Located.{Located as LocatedSig}
-
-abbrev pub seen_located : LocatedSig → Located
-seen_located s = record { at = s.at; what = seen_sig_what s.what }
 
 abbrev pub seen_said : Said → AttributeSaid
 seen_said a = record { name = a.name.items; value = option_map seen_expr a.value }

@@ -3,15 +3,16 @@ ghost use Rattle.std.specs.Prelude.{◌≡◌, ◌<◌, ◌≤◌, [], Some, IfO
 ghost use Rattle.std.specs.Option.{option_map};
 ghost use Rattle.icl_syntax.specs.Views.{seen_expr, seen_list, seen_prop, seen_sig};
 ghost use Rattle.icl_syntax.specs.Grammar.{is_prop, stands, takes, lacks, with_property, free_prop_at};
-ghost use Rattle.icl_parser.specs.Seen.{toks, tok, seen_read, same, Gives};
+ghost use Rattle.icl_expressions.specs.Seen.{toks, tok, seen_read, same, Gives};
 ghost use Rattle.icl_parser.specs.SeenParts.{seen_said};
-ghost use Rattle.icl_parser.specs.Reading.{read_put, read_free_prop, read_attribute_said, read_one_sig, read_sources, read_prop_behind, read_property, read_properties, read_body_end, read_braced_body, read_body};
+ghost use Rattle.icl_expressions.specs.Reading.{read_put};
+ghost use Rattle.icl_parser.specs.Reading.{read_free_prop, read_attribute_said, read_one_sig, read_sources, read_prop_behind, read_property, read_properties, read_body_end, read_braced_body, read_body};
 
-use crate::fault::Stop;
-use crate::leaves::read_decimal;
-use crate::lexeme::{Lexeme, Read, before_close, begins_mark, pushed, read_mark, read_name};
-use crate::signals::{maybe_expr_behind, read_sig, read_sigs, read_value};
 use crate::words::prop_word;
+use icl_expressions::{
+    Lexeme, Read, Stop, before_close, begins_mark, maybe_expr_behind, pushed, read_decimal,
+    read_mark, read_name, read_sig, read_sigs, read_value,
+};
 use icl_syntax::{Expr, Owner, Prop, PropWord, Sig};
 use ij_bits::{List, OutOfMemory};
 use ij_text::Name;

@@ -4,19 +4,17 @@ ghost use Rattle.std.specs.Option.{option_map};
 ghost use Rattle.icl_syntax.specs.Views.{seen_list, seen_expr, seen_range, seen_row, seen_bind, seen_what};
 ghost use Rattle.icl_syntax.specs.Grammar.{appended};
 ghost use Rattle.icl_syntax.specs.Modules.{owner_of};
-ghost use Rattle.icl_parser.specs.Seen.{toks, seen_read, Gives};
+ghost use Rattle.icl_expressions.specs.Seen.{toks, seen_read, Gives};
 ghost use Rattle.icl_parser.specs.SeenParts.{seen_bind_begin};
-ghost use Rattle.icl_parser.specs.Reading.{read_put, read_after, read_port_range, read_port, read_register, read_alias, read_parameter, read_attribute, read_value, read_values, read_row, read_rows, read_mux, read_bound_port, read_bound_parameter, read_bound_attribute, read_bind_behind, read_bind_begin, read_bind, read_many_binds, read_braced_binds, read_binds, read_child};
+ghost use Rattle.icl_expressions.specs.Reading.{read_put, read_after, read_value};
+ghost use Rattle.icl_parser.specs.Reading.{read_port_range, read_port, read_register, read_alias, read_parameter, read_attribute, read_values, read_row, read_rows, read_mux, read_bound_port, read_bound_parameter, read_bound_attribute, read_bind_behind, read_bind_begin, read_bind, read_many_binds, read_braced_binds, read_binds, read_child};
 
 use crate::bodies::{read_attribute_said, read_body};
-use crate::fault::Stop;
-use crate::lexeme::{
-    Lexeme, Read, before_close, begins_mark, pushed, read_mark, read_name, read_word,
-};
-use crate::signals::{
-    maybe_expr_behind, maybe_range, read_expr_behind, read_sig, read_sigs, read_value,
-};
 use crate::words::bind_word;
+use icl_expressions::{
+    Lexeme, Read, Stop, before_close, begins_mark, maybe_expr_behind, maybe_range, pushed,
+    read_expr_behind, read_mark, read_name, read_sig, read_sigs, read_value, read_word,
+};
 use icl_syntax::{Bind, BindWord, Expr, MuxRow, Owner, PortKind, Range, What};
 use ij_bits::List;
 use ij_text::Place;

@@ -3,17 +3,12 @@
 
 mod bodies;
 mod ends;
-mod expressions;
 mod fault;
 mod items;
 mod laws;
-mod leaves;
-mod lexeme;
 mod links;
 mod modules;
 mod parsing;
-mod signals;
-mod signs;
 mod words;
 
 pub use fault::ParseFault;

@@ -4,15 +4,16 @@ ghost use Rattle.std.specs.Option.{option_map};
 ghost use Rattle.icl_syntax.specs.Views.{bytes_of, seen_list, seen_instr, seen_enum_word, seen_what};
 ghost use Rattle.icl_syntax.specs.Grammar.{appended};
 ghost use Rattle.icl_syntax.specs.Modules.{with_member};
-ghost use Rattle.icl_parser.specs.Seen.{toks, seen_read, same, Gives};
+ghost use Rattle.icl_expressions.specs.Seen.{toks, seen_read, same, Gives};
 ghost use Rattle.icl_parser.specs.SeenParts.{seen_selected};
-ghost use Rattle.icl_parser.specs.Reading.{read_put, read_enum_word, read_many_words, read_words, read_member_word, read_member_behind, read_member, read_members, read_interface, read_selected, read_selecting, read_instruction, read_instructions, read_entity, read_link_kind, read_link};
+ghost use Rattle.icl_expressions.specs.Reading.{read_put};
+ghost use Rattle.icl_parser.specs.Reading.{read_enum_word, read_many_words, read_words, read_member_word, read_member_behind, read_member, read_members, read_interface, read_selected, read_selecting, read_instruction, read_instructions, read_entity, read_link_kind, read_link};
 
 use crate::bodies::read_attribute_said;
-use crate::fault::Stop;
-use crate::lexeme::{Lexeme, Read, before_close, pushed, read_mark, read_name, read_word};
-use crate::signals::read_value;
 use crate::words::{link_kind, member_word};
+use icl_expressions::{
+    Lexeme, Read, Stop, before_close, pushed, read_mark, read_name, read_value, read_word,
+};
 use icl_syntax::{EnumWord, LinkInstr, LinkKind, MemberWord, What};
 use ij_bits::{List, OutOfMemory};
 use ij_text::Name;

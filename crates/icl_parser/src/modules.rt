@@ -2,17 +2,17 @@
 ghost use Rattle.std.specs.Prelude.{◌≡◌, ◌<◌, ◌≤◌, IfOk, length};
 ghost use Rattle.icl_syntax.specs.Views.{seen_list, seen_item, seen_module, seen_what};
 ghost use Rattle.icl_syntax.specs.Grammar.{appended};
-ghost use Rattle.icl_parser.specs.Seen.{toks, seen_read, Gives};
+ghost use Rattle.icl_expressions.specs.Seen.{toks, seen_read, Gives};
 ghost use Rattle.icl_parser.specs.SeenParts.{seen_item_begin};
-ghost use Rattle.icl_parser.specs.Reading.{read_put, read_item_begin, read_meaning_behind, read_item, read_items, read_module, whole_design};
+ghost use Rattle.icl_expressions.specs.Reading.{read_put};
+ghost use Rattle.icl_parser.specs.Reading.{read_item_begin, read_meaning_behind, read_item, read_items, read_module, whole_design};
 
-use crate::fault::Stop;
 use crate::items::{
     read_alias, read_attribute, read_child, read_mux, read_parameter, read_port, read_register,
 };
-use crate::lexeme::{Lexeme, Read, before_close, pushed, read_mark, read_name, read_word};
 use crate::links::{read_interface, read_link, read_words};
 use crate::words::item_word;
+use icl_expressions::{Lexeme, Read, Stop, before_close, pushed, read_mark, read_name, read_word};
 use icl_syntax::{Item, ItemWord, Module, What};
 use ij_bits::List;
 use ij_text::Place;

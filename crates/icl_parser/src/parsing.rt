@@ -5,17 +5,18 @@ ghost use Rattle.icl_lexer.specs.Laws.{AreInText};
 ghost use Rattle.icl_syntax.specs.Tokens.{seen_tokens};
 ghost use Rattle.icl_syntax.specs.Modules.{design};
 ghost use Rattle.icl_syntax.specs.Views.{seen_design};
-ghost use Rattle.icl_parser.specs.Seen.{toks, tok};
+ghost use Rattle.icl_expressions.specs.Seen.{toks, tok};
 ghost use Rattle.icl_parser.specs.Refusals.{Blocks, IsFaultAt, IsFaultOf, OnRefusal, end_of};
 
 use crate::ends::end_of;
-use crate::fault::{ParseFault, Stop};
-use crate::lexeme::{Lexeme, copied};
+use crate::fault::ParseFault;
 use crate::modules::read_design;
 use crate::words::is_left_out;
+use icl_expressions::{Lexeme, Stop};
 use icl_lexer::{Token, tokens_are_in_the_text};
 use icl_syntax::{Design, Limit};
 use ij_bits::{List, OutOfMemory};
+use ij_text::name_of;
 use std::alloc::Global;
 
 /// The tokens with their texts.
@@ -27,7 +28,7 @@ fn lexemes<'a>(
     requires { AreInText src.now 0 tokens.now }
     ensures { IfOk result (λ v. toks v.items ≡ seen_tokens src.now tokens.now) }
 {
-    let mut lexemes = Vec::new(alloc);
+    let mut lexemes = Vec::with_capacity(alloc, tokens.len())?;
     for token in tokens {
         lexemes.push(Lexeme {
             kind: token.kind,
@@ -47,7 +48,7 @@ fn fault_at(alloc: Global, t: &Lexeme, why: Option<Limit>) -> Result<ParseFault,
         return Ok(ParseFault::ExprLimit { at });
     }
     if t.is_name() && is_left_out(t.text) {
-        let word = copied(alloc, t.text)?;
+        let word = name_of(alloc, t.text)?;
         return Ok(ParseFault::LeftOut { at, word });
     }
     Ok(ParseFault::Syntax { at })

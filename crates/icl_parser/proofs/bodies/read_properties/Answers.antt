@@ -1,9 +1,9 @@
 use Rattle.std.proofs.Common.{map, sym, ap, ◌∙◌, arith}
 use Rattle.icl_syntax.specs.Grammar.{property, with_property}
 use Rattle.icl_syntax.specs.Views.{seen_list, seen_prop}
-use Rattle.icl_parser.specs.Seen.{toks, seen_read}
+use Rattle.icl_expressions.specs.Seen.{toks, seen_read}
 use Rattle.icl_parser.specs.Reading.{read_property}
-use Rattle.icl_parser.proofs.Lists.{parts_go_on}
+use Rattle.icl_expressions.proofs.Lists.{parts_go_on}
 use Rattle.icl_parser.proofs.BodyLaws.{property_reads, properties_start}
 use Rattle.icl_parser.proofs.bodies.read_properties.Goals as goal
 

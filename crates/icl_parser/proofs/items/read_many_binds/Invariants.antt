@@ -1,8 +1,8 @@
 use Rattle.std.proofs.Common.{◌≡◌, ◌≤◌, length}
 use Rattle.icl_syntax.specs.Views.{seen_list, seen_bind}
-use Rattle.icl_parser.specs.Seen.{toks}
+use Rattle.icl_expressions.specs.Seen.{toks}
 use Rattle.icl_parser.specs.Reading.{read_bind, read_many_binds}
-use Rattle.icl_parser.proofs.Lists.{more}
+use Rattle.icl_expressions.proofs.Lists.{more}
 use Rattle.icl_parser.proofs.items.read_many_binds.Given as goal
 
 abbrev pub invariant-loop-alloc : goal.invariant-loop-alloc

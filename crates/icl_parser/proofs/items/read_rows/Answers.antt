@@ -4,9 +4,9 @@ use Rattle.icl_syntax.specs.Values.{SeenRow}
 use Rattle.icl_syntax.specs.Grammar.{appended}
 use Rattle.icl_syntax.specs.Modules.{row}
 use Rattle.icl_syntax.specs.Views.{seen_list, seen_row}
-use Rattle.icl_parser.specs.Seen.{toks, seen_read}
+use Rattle.icl_expressions.specs.Seen.{toks, seen_read}
 use Rattle.icl_parser.specs.Reading.{read_row, read_rows}
-use Rattle.icl_parser.proofs.Lists.{begun_more, listed, parts_go_on}
+use Rattle.icl_expressions.proofs.Lists.{begun_more, listed, parts_go_on}
 use Rattle.icl_parser.proofs.ItemLaws.{row_reads}
 use Rattle.icl_parser.proofs.ItemLoops.{rows_start, rows_fail}
 use Rattle.icl_parser.proofs.items.read_rows.Goals as goal

@@ -1,8 +1,8 @@
 use Rattle.std.proofs.Common.{◌≡◌, ◌<◌, length}
 use Rattle.icl_syntax.specs.Views.{seen_list, seen_row}
-use Rattle.icl_parser.specs.Seen.{toks}
+use Rattle.icl_expressions.specs.Seen.{toks}
 use Rattle.icl_parser.specs.Reading.{read_row, read_rows}
-use Rattle.icl_parser.proofs.Lists.{more}
+use Rattle.icl_expressions.proofs.Lists.{more}
 use Rattle.icl_parser.proofs.items.read_rows.Given as goal
 
 abbrev pub invariant-loop-alloc : goal.invariant-loop-alloc

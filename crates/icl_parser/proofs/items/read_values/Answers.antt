@@ -1,12 +1,13 @@
 use Rattle.std.proofs.Common.{◌∷◌, refl, sym, ap, ◌∙◌, arith}
 use Rattle.std.proofs.lemmas.Result.{err_from_is_err_and}
 use Rattle.icl_syntax.specs.Views.{seen_list, seen_expr}
-use Rattle.icl_parser.specs.Seen.{toks, seen_read}
-use Rattle.icl_parser.specs.Reading.{read_value, read_values}
-use Rattle.icl_parser.proofs.Tokens.{marks_apart}
-use Rattle.icl_parser.proofs.Symbols.{sign_marks}
-use Rattle.icl_parser.proofs.SignalLaws.{value_reads}
-use Rattle.icl_parser.proofs.Lists.{begun, listed, parted_go_on}
+use Rattle.icl_expressions.specs.Seen.{toks, seen_read}
+use Rattle.icl_expressions.specs.Reading.{read_value}
+use Rattle.icl_parser.specs.Reading.{read_values}
+use Rattle.icl_expressions.proofs.Tokens.{marks_apart}
+use Rattle.icl_expressions.proofs.Symbols.{sign_marks}
+use Rattle.icl_expressions.proofs.SignalLaws.{value_reads}
+use Rattle.icl_expressions.proofs.Lists.{begun, listed, parted_go_on}
 use Rattle.icl_parser.proofs.ItemLoops.{values_start, values_fail}
 use Rattle.icl_parser.proofs.items.read_values.Goals as goal
 

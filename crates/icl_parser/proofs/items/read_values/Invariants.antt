@@ -1,8 +1,9 @@
 use Rattle.std.proofs.Common.{◌≡◌, ◌<◌, length}
 use Rattle.icl_syntax.specs.Views.{seen_list, seen_expr}
-use Rattle.icl_parser.specs.Seen.{toks}
-use Rattle.icl_parser.specs.Reading.{read_value, read_values}
-use Rattle.icl_parser.proofs.Lists.{more_parted}
+use Rattle.icl_expressions.specs.Seen.{toks}
+use Rattle.icl_expressions.specs.Reading.{read_value}
+use Rattle.icl_parser.specs.Reading.{read_values}
+use Rattle.icl_expressions.proofs.Lists.{more_parted}
 use Rattle.icl_parser.proofs.items.read_values.Given as goal
 
 abbrev pub invariant-loop-alloc : goal.invariant-loop-alloc

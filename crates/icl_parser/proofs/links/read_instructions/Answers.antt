@@ -2,10 +2,10 @@ use Rattle.std.proofs.Common.{List, map, sym, ap, ◌∙◌, arith}
 use Rattle.icl_syntax.specs.Values.{SeenLinkInstr}
 use Rattle.icl_syntax.specs.Grammar.{appended}
 use Rattle.icl_syntax.specs.Views.{seen_list, seen_instr}
-use Rattle.icl_parser.specs.Seen.{toks, seen_read}
+use Rattle.icl_expressions.specs.Seen.{toks, seen_read}
 use Rattle.icl_parser.specs.Reading.{read_instruction}
 use Rattle.icl_syntax.specs.Modules.{instruction}
-use Rattle.icl_parser.proofs.Lists.{parts_go_on}
+use Rattle.icl_expressions.proofs.Lists.{parts_go_on}
 use Rattle.icl_parser.proofs.DesignLaws.{instruction_reads}
 use Rattle.icl_parser.proofs.ItemLoops.{instructions_start}
 use Rattle.icl_parser.proofs.links.read_instructions.Goals as goal

@@ -1,8 +1,8 @@
 use Rattle.std.proofs.Common.{◌≡◌, ◌≤◌, length}
 use Rattle.icl_syntax.specs.Views.{seen_list, seen_instr}
-use Rattle.icl_parser.specs.Seen.{toks}
+use Rattle.icl_expressions.specs.Seen.{toks}
 use Rattle.icl_parser.specs.Reading.{read_instruction, read_instructions}
-use Rattle.icl_parser.proofs.Lists.{more}
+use Rattle.icl_expressions.proofs.Lists.{more}
 use Rattle.icl_parser.proofs.links.read_instructions.Given as goal
 
 abbrev pub invariant-loop-alloc : goal.invariant-loop-alloc

@@ -2,10 +2,10 @@ use Rattle.std.proofs.Common.{List, map, sym, ap, ◌∙◌, arith}
 use Rattle.icl_syntax.specs.Values.{SeenEnumWord}
 use Rattle.icl_syntax.specs.Grammar.{appended}
 use Rattle.icl_syntax.specs.Views.{seen_list, seen_enum_word}
-use Rattle.icl_parser.specs.Seen.{toks, seen_read}
+use Rattle.icl_expressions.specs.Seen.{toks, seen_read}
 use Rattle.icl_parser.specs.Reading.{read_enum_word}
 use Rattle.icl_syntax.specs.Modules.{enum_word}
-use Rattle.icl_parser.proofs.Lists.{parts_go_on}
+use Rattle.icl_expressions.proofs.Lists.{parts_go_on}
 use Rattle.icl_parser.proofs.DesignLaws.{enum_word_reads}
 use Rattle.icl_parser.proofs.ItemLoops.{words_start}
 use Rattle.icl_parser.proofs.links.read_many_words.Goals as goal

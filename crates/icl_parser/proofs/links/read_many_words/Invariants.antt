@@ -1,8 +1,8 @@
 use Rattle.std.proofs.Common.{◌≡◌, ◌≤◌, length}
 use Rattle.icl_syntax.specs.Views.{seen_list, seen_enum_word}
-use Rattle.icl_parser.specs.Seen.{toks}
+use Rattle.icl_expressions.specs.Seen.{toks}
 use Rattle.icl_parser.specs.Reading.{read_enum_word, read_many_words}
-use Rattle.icl_parser.proofs.Lists.{more}
+use Rattle.icl_expressions.proofs.Lists.{more}
 use Rattle.icl_parser.proofs.links.read_many_words.Given as goal
 
 abbrev pub invariant-loop-alloc : goal.invariant-loop-alloc

@@ -1,10 +1,10 @@
 use Rattle.std.proofs.Common.{ℕ, List, map, sym, ap, ◌∙◌, arith}
 use Rattle.icl_syntax.specs.Modules.{with_member}
 use Rattle.icl_syntax.specs.Views.{seen_list, bytes_of}
-use Rattle.icl_parser.specs.Seen.{toks, seen_read}
+use Rattle.icl_expressions.specs.Seen.{toks, seen_read}
 use Rattle.icl_parser.specs.Reading.{read_member}
 use Rattle.icl_syntax.specs.Modules.{member}
-use Rattle.icl_parser.proofs.Lists.{parts_go_on}
+use Rattle.icl_expressions.proofs.Lists.{parts_go_on}
 use Rattle.icl_parser.proofs.DesignLaws.{member_reads}
 use Rattle.icl_parser.proofs.ItemLoops.{members_start}
 use Rattle.icl_parser.proofs.links.read_members.Goals as goal

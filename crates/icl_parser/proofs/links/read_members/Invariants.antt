@@ -1,8 +1,8 @@
 use Rattle.std.proofs.Common.{◌≡◌, ◌≤◌, length}
 use Rattle.icl_syntax.specs.Views.{seen_list, bytes_of}
-use Rattle.icl_parser.specs.Seen.{toks}
+use Rattle.icl_expressions.specs.Seen.{toks}
 use Rattle.icl_parser.specs.Reading.{read_members}
-use Rattle.icl_parser.proofs.Lists.{more_members}
+use Rattle.icl_parser.proofs.More.{more_members}
 use Rattle.icl_parser.proofs.links.read_members.Given as goal
 
 abbrev pub invariant-loop-alloc : goal.invariant-loop-alloc

@@ -1,8 +1,8 @@
 use Rattle.std.proofs.Common.{◌≡◌, length}
 use Rattle.icl_syntax.specs.Views.{seen_list, seen_module}
-use Rattle.icl_parser.specs.Seen.{toks}
+use Rattle.icl_expressions.specs.Seen.{toks}
 use Rattle.icl_parser.specs.Reading.{read_design}
-use Rattle.icl_parser.proofs.Lists.{more_modules}
+use Rattle.icl_parser.proofs.More.{more_modules}
 use Rattle.icl_parser.proofs.modules.read_design.Given as goal
 
 abbrev pub invariant-loop-alloc : goal.invariant-loop-alloc

@@ -2,10 +2,10 @@ use Rattle.std.proofs.Common.{List, map, sym, ap, ◌∙◌, arith}
 use Rattle.icl_syntax.specs.Values.{SeenItem}
 use Rattle.icl_syntax.specs.Grammar.{appended}
 use Rattle.icl_syntax.specs.Views.{seen_list, seen_item}
-use Rattle.icl_parser.specs.Seen.{toks, seen_read}
+use Rattle.icl_expressions.specs.Seen.{toks, seen_read}
 use Rattle.icl_parser.specs.Reading.{read_item}
 use Rattle.icl_syntax.specs.Modules.{item}
-use Rattle.icl_parser.proofs.Lists.{parts_go_on}
+use Rattle.icl_expressions.proofs.Lists.{parts_go_on}
 use Rattle.icl_parser.proofs.DesignLaws.{item_reads}
 use Rattle.icl_parser.proofs.ItemLoops.{items_start}
 use Rattle.icl_parser.proofs.modules.read_items.Goals as goal

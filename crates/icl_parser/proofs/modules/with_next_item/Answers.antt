@@ -1,8 +1,8 @@
 use Rattle.std.proofs.Common.{ap}
 use Rattle.icl_syntax.specs.Views.{seen_item}
-use Rattle.icl_parser.specs.Seen.{toks}
+use Rattle.icl_expressions.specs.Seen.{toks}
 use Rattle.icl_parser.specs.Reading.{read_item}
-use Rattle.icl_parser.proofs.Lists.{put_pushed}
+use Rattle.icl_expressions.proofs.Lists.{put_pushed}
 use Rattle.icl_parser.proofs.modules.with_next_item.Goals as goal
 
 pub returns-clause-gives : goal.returns-clause-gives

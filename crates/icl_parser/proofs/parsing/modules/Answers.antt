@@ -1,7 +1,7 @@
 use Rattle.std.proofs.Common.{subst, arith}
 use Rattle.std.proofs.lemmas.List.{length-map}
 use Rattle.icl_syntax.specs.Views.{seen_design}
-use Rattle.icl_parser.specs.Seen.{Fails, tok, toks}
+use Rattle.icl_expressions.specs.Seen.{Fails, tok, toks}
 use Rattle.icl_parser.specs.Reading.{whole_design}
 use Rattle.icl_parser.proofs.Verdicts.{design_found, design_only, design_not, left_within, refused_at, on_refusal, rest_toks}
 use Rattle.icl_parser.proofs.parsing.modules.Goals as goal

@@ -1,0 +1,42 @@
+-- What the functions of the parser take and give, without where it lies in memory.
+use Rattle.std.specs.Prelude.{◌≡◌, List, map, Result, Ok, Err}
+use Rattle.grammar.specs.Reading.{Stop as Unfit}
+use Rattle.icl_syntax.specs.declared.words.Limit.{Limit}
+use Rattle.icl_syntax.specs.Tokens.{SeenToken}
+use Rattle.icl_syntax.specs.Grammar.{Counted, Signed}
+use Rattle.icl_syntax.specs.Views.{seen_expr}
+use Rattle.icl_expressions.specs.declared.stop.Stop.{Stop}
+use Rattle.icl_expressions.specs.declared.stop.Stop.TheVariants.{Memory, At}
+use Rattle.icl_expressions.specs.declared.lexeme.Lexeme.{Lexeme}
+use Rattle.icl_expressions.specs.declared.lexeme.Read.{Read}
+use Rattle.icl_expressions.specs.declared.expressions.Counting.{Counting}
+use Rattle.icl_expressions.specs.declared.signs.SignAt.{SignAt}
+
+abbrev pub tok : Lexeme → SeenToken
+tok l = record { kind = l.kind; at = l.at; text = l.text.now }
+
+abbrev pub toks : List Lexeme → List SeenToken
+toks ls = map tok ls
+
+-- a value and the tokens behind it
+abbrev pub seen_read : {X Y : Type 0} → (X → Y) → Read X → Y × List SeenToken
+seen_read view r = (view r.value, toks r.rest.now)
+
+abbrev pub same : {X : Type 0} → X → X
+same x = x
+
+abbrev pub seen_counting : Counting → Counted
+seen_counting c = record { formula = seen_expr c.expr; used = c.used; lone = c.lone }
+
+abbrev pub seen_sign : SignAt → Signed
+seen_sign s = record { sign = s.sign; at = s.at }
+
+-- reading stopped so, unless memory ran out
+abbrev pub Fails : {Y : Type 0} → Stop → Result Y (Unfit Limit) → Type 0
+Fails Memory read = Unit {0}
+Fails (At n why) read = read ≡ Err (n, why)
+
+-- what a function returned, seen by a view, is what reading gives, unless memory ran out
+abbrev pub Gives : {X Y : Type 0} → (X → Y) → Result X Stop → Result Y (Unfit Limit) → Type 0
+Gives view (Ok x) read = read ≡ Ok (view x)
+Gives view (Err e) read = Fails e read

@@ -1,0 +1,202 @@
+// Expressions.
+ghost use Rattle.std.specs.Prelude.{◌≡◌, ◌≤◌, ◌<◌, ◌+◌, true, false, IfOk, length};
+ghost use Rattle.grammar.specs.Reading.{read_barred};
+ghost use Rattle.icl_syntax.specs.Grammar.{too_deep, sum_sign, product_sign, with_operand};
+ghost use Rattle.icl_syntax.specs.Views.{seen_expr};
+ghost use Rattle.icl_expressions.specs.Seen.{toks, seen_read, seen_counting, seen_sign, Gives};
+ghost use Rattle.icl_expressions.specs.Reading.{read_put, read_operand, read_factor, read_term, read_sum, read_parentheses, read_expr, joined};
+
+use crate::leaves::read_leaf;
+use crate::lexeme::{Lexeme, Read, begins_mark, read_mark};
+use crate::signs::{
+    SignAt, begins_product_sign, begins_sum_sign, read_product_sign, read_sum_sign,
+};
+use crate::stop::Stop;
+use icl_syntax::{Expr, Limit};
+use std::alloc::Global;
+
+/// An expression; how many operators its outermost expression has up to here; and whether it is a sized number, behind
+/// which no operator may stand.
+#[derive(Drop)]
+pub(crate) struct Counting {
+    pub expr: Expr,
+    pub used: u32,
+    pub lone: bool,
+}
+
+/// No further level of parentheses.
+fn too_deep<'a>(tokens: &'a [Lexeme<'a>]) -> Result<Read<'a, Counting>, Stop>
+    ensures bounded { IfOk result (λ r. r.value.used ≤ 256) }
+    ensures shorter { IfOk result (λ r. length r.rest.now < length tokens.now) }
+    ensures gives { Gives (seen_read seen_counting) result (read_barred too_deep (toks tokens.now)) }
+{
+    match tokens {
+        [t, ..] if t.is_mark(b'(') => Err(Stop::At(tokens.len(), Some(Limit::OfExpression))),
+        _ => Err(Stop::At(tokens.len(), None)),
+    }
+}
+
+/// A token, or an expression in at most `depth` levels of parentheses.
+#[cycle(expressions)]
+#[tactic(auto, using(crate::proofs::Factors::factor_steps))]
+fn factor<'a>(
+    alloc: Global,
+    tokens: &'a [Lexeme<'a>],
+    depth: u32,
+    alone: bool,
+    used: u32,
+) -> Result<Read<'a, Counting>, Stop>
+    requires { used ≤ 256 }
+    ensures bounded { IfOk result (λ r. r.value.used ≤ 256) }
+    ensures shorter { IfOk result (λ r. length r.rest.now < length tokens.now) }
+    ensures gives { Gives (seen_read seen_counting) result (read_factor depth alone used (toks tokens.now)) }
+{
+    if !begins_mark(tokens, b'(') {
+        read_leaf(alloc, tokens, alone, used)
+    } else if depth == 0 {
+        too_deep(tokens)
+    } else {
+        in_parentheses(alloc, tokens, depth - 1, used)
+    }
+}
+
+#[cycle(expressions)]
+#[tactic(auto, unfolding(crate::specs::Reading::read_parentheses))]
+fn in_parentheses<'a>(
+    alloc: Global,
+    tokens: &'a [Lexeme<'a>],
+    depth: u32,
+    used: u32,
+) -> Result<Read<'a, Counting>, Stop>
+    requires { used ≤ 256 }
+    ensures bounded { IfOk result (λ r. r.value.used ≤ 256) }
+    ensures shorter { IfOk result (λ r. length r.rest.now < length tokens.now) }
+    ensures gives { Gives (seen_read seen_counting) result (read_parentheses (read_sum depth) used (toks tokens.now)) }
+{
+    let open = read_mark(tokens, b'(')?;
+    let inner = sum(alloc, open.rest, depth, used)?;
+    let close = read_mark(inner.rest, b')')?;
+    Ok(Read {
+        value: Counting {
+            expr: inner.value.expr,
+            used: inner.value.used,
+            lone: false,
+        },
+        rest: close.rest,
+    })
+}
+
+/// Factors with `*`, `/` and `%` between them.
+#[cycle(expressions)]
+fn product<'a>(
+    alloc: Global,
+    tokens: &'a [Lexeme<'a>],
+    depth: u32,
+    alone: bool,
+    used: u32,
+) -> Result<Read<'a, Counting>, Stop>
+    requires { used ≤ 256 }
+    ensures bounded { IfOk result (λ r. r.value.used ≤ 256) }
+    ensures shorter { IfOk result (λ r. length r.rest.now < length tokens.now) }
+    ensures gives { Gives (seen_read seen_counting) result (read_term depth alone used (toks tokens.now)) }
+{
+    let mut left = factor(alloc, tokens, depth, alone, used)?;
+    while begins_product_sign(left.rest) {
+        left = with_factor(alloc, left, depth)?;
+    }
+    Ok(left)
+}
+
+/// What stands on the left, with the next operator and factor.
+#[cycle(expressions)]
+#[tactic(auto, unfolding(crate::specs::Reading::read_operand))]
+fn with_factor<'a>(
+    alloc: Global,
+    left: Read<'a, Counting>,
+    depth: u32,
+) -> Result<Read<'a, Counting>, Stop>
+    requires { left.value.used ≤ 256 }
+    ensures bounded { IfOk result (λ r. r.value.used ≤ 256) }
+    ensures shorter { IfOk result (λ r. length r.rest.now < length left.entry.rest.now) }
+    ensures gives { Gives (seen_read seen_counting) result (read_put (read_operand (read_factor depth false) product_sign (seen_counting left.entry.value)) with_operand (seen_counting left.entry.value) (toks left.entry.rest.now)) }
+{
+    let sign = read_product_sign(left.rest, left.value.used, left.value.lone)?;
+    let right = factor(alloc, sign.rest, depth, false, left.value.used + 1)?;
+    joined(alloc, left.value, sign.value, right)
+}
+
+/// Products with `+` and `-` between them.
+#[cycle(expressions)]
+fn sum<'a>(
+    alloc: Global,
+    tokens: &'a [Lexeme<'a>],
+    depth: u32,
+    used: u32,
+) -> Result<Read<'a, Counting>, Stop>
+    requires { used ≤ 256 }
+    ensures bounded { IfOk result (λ r. r.value.used ≤ 256) }
+    ensures shorter { IfOk result (λ r. length r.rest.now < length tokens.now) }
+    ensures gives { Gives (seen_read seen_counting) result (read_sum depth used (toks tokens.now)) }
+{
+    let mut left = product(alloc, tokens, depth, true, used)?;
+    while begins_sum_sign(left.rest) {
+        left = with_product(alloc, left, depth)?;
+    }
+    Ok(left)
+}
+
+/// What stands on the left, with the next operator and product.
+#[cycle(expressions)]
+#[tactic(auto, unfolding(crate::specs::Reading::read_operand))]
+fn with_product<'a>(
+    alloc: Global,
+    left: Read<'a, Counting>,
+    depth: u32,
+) -> Result<Read<'a, Counting>, Stop>
+    requires { left.value.used ≤ 256 }
+    ensures bounded { IfOk result (λ r. r.value.used ≤ 256) }
+    ensures shorter { IfOk result (λ r. length r.rest.now < length left.entry.rest.now) }
+    ensures gives { Gives (seen_read seen_counting) result (read_put (read_operand (read_term depth false) sum_sign (seen_counting left.entry.value)) with_operand (seen_counting left.entry.value) (toks left.entry.rest.now)) }
+{
+    let sign = read_sum_sign(left.rest, left.value.used, left.value.lone)?;
+    let right = product(alloc, sign.rest, depth, false, left.value.used + 1)?;
+    joined(alloc, left.value, sign.value, right)
+}
+
+/// An operator with its two operands.
+fn joined<'a>(
+    alloc: Global,
+    left: Counting,
+    sign: SignAt,
+    right: Read<'a, Counting>,
+) -> Result<Read<'a, Counting>, Stop>
+    ensures counted { IfOk result (λ r. r.value.used ≡ right.entry.value.used) }
+    ensures rest { IfOk result (λ r. length r.rest.now ≡ length right.entry.rest.now) }
+    ensures gives { Gives (seen_read seen_counting) result (joined (seen_counting left) (seen_sign sign) (seen_counting right.entry.value) (toks right.entry.rest.now)) }
+{
+    let rest = right.rest;
+    let right = right.value;
+    let a = Box::new(alloc, left.expr)?;
+    let b = Box::new(alloc, right.expr)?;
+    Ok(Read {
+        value: Counting {
+            expr: Expr::Op(sign.at, sign.sign, a, b),
+            used: right.used,
+            lone: false,
+        },
+        rest,
+    })
+}
+
+/// An expression: at most 64 levels of parentheses and 256 operators.
+#[tactic(auto, unfolding(crate::specs::Reading::read_expr))]
+pub(crate) fn read_expr<'a>(alloc: Global, tokens: &'a [Lexeme<'a>]) -> Result<Read<'a, Expr>, Stop>
+    ensures shorter { IfOk result (λ r. length r.rest.now < length tokens.now) }
+    ensures gives { Gives (seen_read seen_expr) result (read_expr (toks tokens.now)) }
+{
+    let read = sum(alloc, tokens, 64, 0)?;
+    Ok(Read {
+        value: read.value.expr,
+        rest: read.rest,
+    })
+}

@@ -1,0 +1,178 @@
+// The tokens that are expressions by themselves.
+ghost use Rattle.std.specs.Prelude.{◌≡◌, ◌-◌, ◌<◌, ◌≤◌, ◌+◌, ◌*◌, ◌==◌, cond, ℕ, length, drop, slice_range, IfOk, Option, true, Some, None};
+ghost use Rattle.std.specs.Option.{option_map};
+ghost use Rattle.icl_syntax.specs.Tokens.{decimal_of, decimal_at};
+ghost use Rattle.icl_syntax.specs.Values.{ASized};
+ghost use Rattle.icl_syntax.specs.Grammar.{Counted, number_of, leaf_at, with_count};
+ghost use Rattle.icl_syntax.specs.Views.{seen_expr};
+ghost use Rattle.icl_expressions.specs.Seen.{tok, toks, seen_read, seen_counting, same, Gives};
+ghost use Rattle.icl_expressions.specs.Reading.{read_leaf, read_decimal};
+
+use crate::expressions::Counting;
+use crate::lexeme::{Lexeme, Read};
+use crate::stop::Stop;
+use icl_lexer::TokenKind;
+use icl_syntax::Expr;
+use ij_bits::OutOfMemory;
+use ij_text::name_of;
+use std::alloc::Global;
+
+/// The value of a decimal with one more byte.
+fn with_digit(n: u64, b: u8) -> u64
+    requires { n ≤ 4294967295 }
+    ensures value { result ≡ cond (b == 95) n (10 * n + (b - 48)) }
+    ensures bounded { result ≤ 42949673205 }
+{
+    if b == b'_' {
+        n
+    } else {
+        10 * n + u64::from(b.saturating_sub(b'0'))
+    }
+}
+
+/// The value of a decimal, of at most 4,294,967,295.
+pub(crate) fn decimal(text: &[u8]) -> Option<u32>
+    ensures { result ≡ decimal_of text.now }
+{
+    let mut n = 0;
+    for b in text {
+        n = with_digit(n, *b);
+        if n > 4_294_967_295 {
+            return None;
+        }
+    }
+    Some(n as u32)
+}
+
+/// All bytes but the first one.
+fn behind_first(text: &[u8]) -> &[u8]
+    ensures { result.now ≡ drop 1 text.now }
+{
+    match text {
+        [_, rest @ ..] => rest,
+        [] => text,
+    }
+}
+
+/// All bytes but the first one and the last one.
+fn between_ends(text: &[u8]) -> &[u8]
+    ensures { result.now ≡ slice_range text.now 1 (length text.now - 1) }
+{
+    match text {
+        [_, inner @ .., _] => inner,
+        _ => &text[..0],
+    }
+}
+
+/// The number that a token is.
+pub(crate) fn number_value(alloc: Global, t: &Lexeme) -> Result<Option<Expr>, OutOfMemory>
+    ensures { IfOk result (λ o. option_map seen_expr o ≡ number_of t.now.kind t.now.at t.now.text.now) }
+{
+    match t.kind {
+        TokenKind::Decimal => Ok(decimal(t.text).map(Expr::Decimal)),
+        TokenKind::Sized => Ok(Some(Expr::Sized(name_of(alloc, t.text)?))),
+        TokenKind::Param => Ok(Some(Expr::Param(t.at, name_of(alloc, behind_first(t.text))?))),
+        TokenKind::Word | TokenKind::Quoted | TokenKind::Mark => Ok(None),
+    }
+}
+
+/// A sized number, where it may stand.
+fn sized_value(
+    alloc: Global,
+    text: &[u8],
+    alone: bool,
+    used: u32,
+) -> Result<Option<Counting>, OutOfMemory>
+    ensures { IfOk result (λ o. option_map seen_counting o ≡ cond alone (Some (record { formula = ASized text.now; used = used; lone = true })) None) }
+{
+    if !alone {
+        return Ok(None);
+    }
+    Ok(Some(Counting {
+        expr: Expr::Sized(name_of(alloc, text)?),
+        used,
+        lone: true,
+    }))
+}
+
+/// An expression that no sized number is.
+fn counted(expr: Expr, used: u32) -> Option<Counting>
+    ensures { option_map seen_counting result ≡ with_count used (Some (seen_expr expr)) }
+{
+    Some(Counting {
+        expr,
+        used,
+        lone: false,
+    })
+}
+
+/// The expression that a token is: a sized number only where it stands alone.
+fn leaf_value(
+    alloc: Global,
+    t: &Lexeme,
+    alone: bool,
+    used: u32,
+) -> Result<Option<Counting>, OutOfMemory>
+    ensures { IfOk result (λ o. option_map seen_counting o ≡ leaf_at alone used (tok t.now)) }
+{
+    match t.kind {
+        TokenKind::Decimal => match decimal(t.text) {
+            Some(n) => Ok(counted(Expr::Decimal(n), used)),
+            None => Ok(None),
+        },
+        TokenKind::Param => {
+            let name = name_of(alloc, behind_first(t.text))?;
+            Ok(counted(Expr::Param(t.at, name), used))
+        }
+        TokenKind::Quoted => {
+            let text = name_of(alloc, between_ends(t.text))?;
+            Ok(counted(Expr::Quoted(text), used))
+        }
+        TokenKind::Sized => sized_value(alloc, t.text, alone, used),
+        TokenKind::Word | TokenKind::Mark => Ok(None),
+    }
+}
+
+/// An expression of one token.
+pub(crate) fn read_leaf<'a>(
+    alloc: Global,
+    tokens: &'a [Lexeme<'a>],
+    alone: bool,
+    used: u32,
+) -> Result<Read<'a, Counting>, Stop>
+    ensures counted { IfOk result (λ r. r.value.used ≡ used) }
+    ensures shorter { IfOk result (λ r. length r.rest.now < length tokens.now) }
+    ensures gives { Gives (seen_read seen_counting) result (read_leaf alone used (toks tokens.now)) }
+{
+    match tokens {
+        [t, rest @ ..] => match leaf_value(alloc, t, alone, used)? {
+            Some(value) => Ok(Read { value, rest }),
+            None => Err(Stop::At(tokens.len(), None)),
+        },
+        [] => Err(Stop::At(0, None)),
+    }
+}
+
+/// A decimal.
+pub fn read_decimal<'a>(tokens: &'a [Lexeme<'a>]) -> Result<Read<'a, u32>, Stop>
+    ensures shorter { IfOk result (λ r. length r.rest.now < length tokens.now) }
+    ensures gives { Gives (seen_read same) result (read_decimal (toks tokens.now)) }
+{
+    match tokens {
+        [t, rest @ ..] => match decimal_value(t) {
+            Some(value) => Ok(Read { value, rest }),
+            None => Err(Stop::At(tokens.len(), None)),
+        },
+        [] => Err(Stop::At(0, None)),
+    }
+}
+
+/// The value of a token that is a decimal.
+fn decimal_value(t: &Lexeme) -> Option<u32>
+    ensures { result ≡ decimal_at t.now.kind t.now.text.now }
+{
+    match t.kind {
+        TokenKind::Decimal => decimal(t.text),
+        _ => None,
+    }
+}

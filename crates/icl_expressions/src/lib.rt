@@ -1,0 +1,18 @@
+//! Reads expressions and signals of ICL (IEEE 1687-2014): the parts of which items are made.
+#![tactic(auto)]
+
+mod expressions;
+mod leaves;
+mod lexeme;
+mod signals;
+mod signs;
+mod stop;
+
+pub use leaves::read_decimal;
+pub use lexeme::{
+    Lexeme, Read, before_close, begins_mark, pushed, read_mark, read_name, read_word,
+};
+pub use signals::{
+    maybe_expr_behind, maybe_range, read_expr_behind, read_sig, read_sigs, read_value,
+};
+pub use stop::Stop;

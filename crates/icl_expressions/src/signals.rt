@@ -1,0 +1,295 @@
+// Values, ranges and signals.
+ghost use Rattle.std.specs.Prelude.{◌≡◌, ◌<◌, ◌≤◌, [], IfOk, length};
+ghost use Rattle.std.specs.Option.{option_map};
+ghost use Rattle.icl_syntax.specs.Views.{bytes_of, seen_expr, seen_list, seen_range, seen_sig};
+ghost use Rattle.icl_syntax.specs.Grammar.{appended};
+ghost use Rattle.icl_expressions.specs.Seen.{toks, tok, seen_read, Gives};
+ghost use Rattle.icl_expressions.specs.SeenParts.{seen_located};
+ghost use Rattle.icl_expressions.specs.Reading.{read_put, read_after, read_expr, read_value, read_expr_behind, read_maybe, read_range, read_number, read_name, read_path_behind, read_named_behind, read_named_sig, read_plain_sig, read_inverted, read_sig, read_sigs};
+
+use crate::expressions::read_expr;
+use crate::leaves::number_value;
+use crate::lexeme::{Lexeme, Read, begins_mark, begins_name, pushed, read_mark, read_name};
+use crate::stop::Stop;
+use icl_syntax::{Expr, Range, Sig, SigWhat};
+use ij_bits::List;
+use ij_text::{Name, Place, name_of};
+use std::alloc::Global;
+
+// ---- values
+
+/// Expressions with the next one, behind a `,`.
+fn with_next_expr<'a>(
+    alloc: Global,
+    value: Read<'a, List<Expr>>,
+) -> Result<Read<'a, List<Expr>>, Stop>
+    ensures shorter { IfOk result (λ r. length r.rest.now < length value.entry.rest.now) }
+    ensures gives { Gives (seen_read (seen_list seen_expr)) result (read_put (read_after 44 read_expr) appended (seen_list seen_expr value.entry.value) (toks value.entry.rest.now)) }
+{
+    let mark = read_mark(value.rest, b',')?;
+    let next = read_expr(alloc, mark.rest)?;
+    Ok(pushed(value.value, next)?)
+}
+
+/// Expressions with `,` between them.
+pub fn read_value<'a>(alloc: Global, tokens: &'a [Lexeme<'a>]) -> Result<Read<'a, List<Expr>>, Stop>
+    ensures shorter { IfOk result (λ r. length r.rest.now < length tokens.now) }
+    ensures gives { Gives (seen_read (seen_list seen_expr)) result (read_value (toks tokens.now)) }
+{
+    let first = read_expr(alloc, tokens)?;
+    let mut value = pushed(List::new(alloc), first)?;
+    while begins_mark(value.rest, b',') {
+        value = with_next_expr(alloc, value)?;
+    }
+    Ok(value)
+}
+
+// ---- ranges
+
+/// An expression behind a mark.
+#[tactic(auto, unfolding(crate::specs::Reading::read_expr_behind))]
+pub fn read_expr_behind<'a>(
+    alloc: Global,
+    tokens: &'a [Lexeme<'a>],
+    mark: u8,
+) -> Result<Read<'a, Expr>, Stop>
+    ensures shorter { IfOk result (λ r. length r.rest.now < length tokens.now) }
+    ensures gives { Gives (seen_read seen_expr) result (read_expr_behind mark (toks tokens.now)) }
+{
+    let mark = read_mark(tokens, mark)?;
+    read_expr(alloc, mark.rest)
+}
+
+/// The same, where the mark is the next token.
+pub fn maybe_expr_behind<'a>(
+    alloc: Global,
+    tokens: &'a [Lexeme<'a>],
+    mark: u8,
+) -> Result<Read<'a, Option<Expr>>, Stop>
+    ensures shorter { IfOk result (λ r. length r.rest.now ≤ length tokens.now) }
+    ensures gives { Gives (seen_read (option_map seen_expr)) result (read_maybe mark (read_expr_behind mark) (toks tokens.now)) }
+{
+    if !begins_mark(tokens, mark) {
+        return Ok(Read {
+            value: None,
+            rest: tokens,
+        });
+    }
+    let expr = read_expr_behind(alloc, tokens, mark)?;
+    Ok(Read {
+        value: Some(expr.value),
+        rest: expr.rest,
+    })
+}
+
+/// `[left]` or `[left:right]`.
+#[tactic(auto, unfolding(crate::specs::Reading::read_range))]
+fn read_range<'a>(alloc: Global, tokens: &'a [Lexeme<'a>]) -> Result<Read<'a, Range>, Stop>
+    ensures shorter { IfOk result (λ r. length r.rest.now < length tokens.now) }
+    ensures gives { Gives (seen_read seen_range) result (read_range (toks tokens.now)) }
+{
+    let open = read_mark(tokens, b'[')?;
+    let left = read_expr(alloc, open.rest)?;
+    let right = maybe_expr_behind(alloc, left.rest, b':')?;
+    let close = read_mark(right.rest, b']')?;
+    Ok(Read {
+        value: Range {
+            at: open.value,
+            left: left.value,
+            right: right.value,
+        },
+        rest: close.rest,
+    })
+}
+
+/// A range, if a `[` is the next token.
+pub fn maybe_range<'a>(
+    alloc: Global,
+    tokens: &'a [Lexeme<'a>],
+) -> Result<Read<'a, Option<Range>>, Stop>
+    ensures shorter { IfOk result (λ r. length r.rest.now ≤ length tokens.now) }
+    ensures gives { Gives (seen_read (option_map seen_range)) result (read_maybe 91 read_range (toks tokens.now)) }
+{
+    if !begins_mark(tokens, b'[') {
+        return Ok(Read {
+            value: None,
+            rest: tokens,
+        });
+    }
+    let range = read_range(alloc, tokens)?;
+    Ok(Read {
+        value: Some(range.value),
+        rest: range.rest,
+    })
+}
+
+// ---- signals
+
+/// What a signal is, and the place of its first token.
+#[derive(Drop)]
+pub(crate) struct Located {
+    pub at: Place,
+    pub what: SigWhat,
+}
+
+/// A number.
+fn read_number<'a>(alloc: Global, tokens: &'a [Lexeme<'a>]) -> Result<Read<'a, Located>, Stop>
+    ensures shorter { IfOk result (λ r. length r.rest.now < length tokens.now) }
+    ensures gives { Gives (seen_read seen_located) result (read_number (toks tokens.now)) }
+{
+    match tokens {
+        [t, rest @ ..] => match number_value(alloc, t)? {
+            Some(expr) => Ok(Read {
+                value: Located {
+                    at: t.at,
+                    what: SigWhat::Value(expr),
+                },
+                rest,
+            }),
+            None => Err(Stop::At(tokens.len(), None)),
+        },
+        [] => Err(Stop::At(0, None)),
+    }
+}
+
+/// A name behind a `.`, which is put at the end of a list.
+fn with_next_name<'a>(
+    alloc: Global,
+    path: Read<'a, List<Name>>,
+) -> Result<Read<'a, List<Name>>, Stop>
+    ensures shorter { IfOk result (λ r. length r.rest.now < length path.entry.rest.now) }
+    ensures gives { Gives (seen_read (seen_list bytes_of)) result (read_put (read_after 46 read_name) appended (seen_list bytes_of path.entry.value) (toks path.entry.rest.now)) }
+{
+    let dot = read_mark(path.rest, b'.')?;
+    let name = read_name(alloc, dot.rest)?;
+    Ok(pushed(path.value, name)?)
+}
+
+/// The names behind a first one, with `.` in front of each.
+fn read_path<'a>(
+    alloc: Global,
+    first: Name,
+    tokens: &'a [Lexeme<'a>],
+) -> Result<Read<'a, List<Name>>, Stop>
+    ensures shorter { IfOk result (λ r. length r.rest.now ≤ length tokens.now) }
+    ensures gives { Gives (seen_read (seen_list bytes_of)) result (read_path_behind first.items (toks tokens.now)) }
+{
+    let first = Read {
+        value: first,
+        rest: tokens,
+    };
+    let mut path = pushed(List::new(alloc), first)?;
+    while begins_mark(path.rest, b'.') {
+        path = with_next_name(alloc, path)?;
+    }
+    Ok(path)
+}
+
+/// Names with `.` between them, and maybe a range, behind the first token.
+#[tactic(auto, unfolding(crate::specs::Reading::read_named_behind))]
+fn named_behind<'a>(
+    alloc: Global,
+    first: &Lexeme<'a>,
+    tokens: &'a [Lexeme<'a>],
+) -> Result<Read<'a, Located>, Stop>
+    ensures shorter { IfOk result (λ r. length r.rest.now ≤ length tokens.now) }
+    ensures gives { Gives (seen_read seen_located) result (read_named_behind (record { at = first.now.at; name = first.now.text.now }) (toks tokens.now)) }
+{
+    let path = read_path(alloc, name_of(alloc, first.text)?, tokens)?;
+    let range = maybe_range(alloc, path.rest)?;
+    Ok(Read {
+        value: Located {
+            at: first.at,
+            what: SigWhat::Named {
+                path: path.value,
+                range: range.value,
+            },
+        },
+        rest: range.rest,
+    })
+}
+
+/// Names with `.` between them, and maybe a range.
+#[tactic(auto, unfolding(crate::specs::Reading::read_named_sig))]
+fn read_named_sig<'a>(alloc: Global, tokens: &'a [Lexeme<'a>]) -> Result<Read<'a, Located>, Stop>
+    ensures shorter { IfOk result (λ r. length r.rest.now < length tokens.now) }
+    ensures gives { Gives (seen_read seen_located) result (read_named_sig (toks tokens.now)) }
+{
+    match tokens {
+        [first, rest @ ..] if first.is_name() => named_behind(alloc, first, rest),
+        _ => Err(Stop::At(tokens.len(), None)),
+    }
+}
+
+/// A signal without `~`.
+fn read_plain_sig<'a>(alloc: Global, tokens: &'a [Lexeme<'a>]) -> Result<Read<'a, Located>, Stop>
+    ensures shorter { IfOk result (λ r. length r.rest.now < length tokens.now) }
+    ensures gives { Gives (seen_read seen_located) result (read_plain_sig (toks tokens.now)) }
+{
+    if begins_name(tokens) {
+        read_named_sig(alloc, tokens)
+    } else {
+        read_number(alloc, tokens)
+    }
+}
+
+/// A signal behind a `~`.
+#[tactic(auto, unfolding(crate::specs::Reading::read_inverted))]
+fn read_inverted<'a>(alloc: Global, tokens: &'a [Lexeme<'a>]) -> Result<Read<'a, Sig>, Stop>
+    ensures shorter { IfOk result (λ r. length r.rest.now < length tokens.now) }
+    ensures gives { Gives (seen_read seen_sig) result (read_inverted (toks tokens.now)) }
+{
+    let tilde = read_mark(tokens, b'~')?;
+    let sig = read_plain_sig(alloc, tilde.rest)?;
+    Ok(Read {
+        value: Sig {
+            at: tilde.value,
+            inverted: true,
+            what: sig.value.what,
+        },
+        rest: sig.rest,
+    })
+}
+
+/// A signal.
+#[tactic(auto, unfolding(crate::specs::Reading::read_sig, crate::specs::Reading::read_straight))]
+pub fn read_sig<'a>(alloc: Global, tokens: &'a [Lexeme<'a>]) -> Result<Read<'a, Sig>, Stop>
+    ensures shorter { IfOk result (λ r. length r.rest.now < length tokens.now) }
+    ensures gives { Gives (seen_read seen_sig) result (read_sig (toks tokens.now)) }
+{
+    if begins_mark(tokens, b'~') {
+        return read_inverted(alloc, tokens);
+    }
+    let sig = read_plain_sig(alloc, tokens)?;
+    Ok(Read {
+        value: Sig {
+            at: sig.value.at,
+            inverted: false,
+            what: sig.value.what,
+        },
+        rest: sig.rest,
+    })
+}
+
+/// Signals with the next one, behind a `,`.
+fn with_next_sig<'a>(alloc: Global, sigs: Read<'a, List<Sig>>) -> Result<Read<'a, List<Sig>>, Stop>
+    ensures shorter { IfOk result (λ r. length r.rest.now < length sigs.entry.rest.now) }
+    ensures gives { Gives (seen_read (seen_list seen_sig)) result (read_put (read_after 44 read_sig) appended (seen_list seen_sig sigs.entry.value) (toks sigs.entry.rest.now)) }
+{
+    let mark = read_mark(sigs.rest, b',')?;
+    let next = read_sig(alloc, mark.rest)?;
+    Ok(pushed(sigs.value, next)?)
+}
+
+/// Signals with `,` between them.
+pub fn read_sigs<'a>(alloc: Global, tokens: &'a [Lexeme<'a>]) -> Result<Read<'a, List<Sig>>, Stop>
+    ensures shorter { IfOk result (λ r. length r.rest.now < length tokens.now) }
+    ensures gives { Gives (seen_read (seen_list seen_sig)) result (read_sigs (toks tokens.now)) }
+{
+    let first = read_sig(alloc, tokens)?;
+    let mut sigs = pushed(List::new(alloc), first)?;
+    while begins_mark(sigs.rest, b',') {
+        sigs = with_next_sig(alloc, sigs)?;
+    }
+    Ok(sigs)
+}

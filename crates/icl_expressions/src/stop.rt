@@ -1,0 +1,40 @@
+// Why reading stopped.
+ghost use Rattle.std.specs.Prelude.{◌≡◌};
+ghost use Rattle.icl_expressions.specs.declared.stop.Stop.TheVariants as stop;
+
+use icl_syntax::Limit;
+use ij_bits::OutOfMemory;
+use std::alloc::{AllocError, AllocFailed};
+
+/// Why reading stopped.
+#[derive(Debug, Drop)]
+pub enum Stop {
+    /// There is no memory.
+    Memory,
+    /// So many tokens are left from the first one that doesn't fit, which a limit may bar.
+    At(usize, Option<Limit>),
+}
+
+impl From<OutOfMemory> for Stop {
+    ghost from_gives = { λ _ e. e ≡ stop.Memory };
+
+    fn from(_e: OutOfMemory) -> Stop {
+        Stop::Memory
+    }
+}
+
+impl From<AllocError> for Stop {
+    ghost from_gives = { λ _ e. e ≡ stop.Memory };
+
+    fn from(_e: AllocError) -> Stop {
+        Stop::Memory
+    }
+}
+
+impl<T: Drop> From<AllocFailed<T>> for Stop {
+    ghost from_gives = { λ _ e. e ≡ stop.Memory };
+
+    fn from(_e: AllocFailed<T>) -> Stop {
+        Stop::Memory
+    }
+}
