@@ -13,8 +13,6 @@ mod run;
 mod sources;
 mod status;
 mod stop;
-#[cfg(test)]
-mod tests;
 mod top;
 mod words;
 mod write;

@@ -30,6 +30,8 @@ mod pdl_texts;
 #[cfg(test)]
 mod play_reports;
 #[cfg(test)]
+mod program_runs;
+#[cfg(test)]
 mod svf_texts;
 #[cfg(test)]
 mod tap_walks;

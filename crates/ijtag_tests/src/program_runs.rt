@@ -1,6 +1,7 @@
 // Runs of the program over memory and over real files.
-use crate::{Status, ijtag, ijtag_in_memory};
+use crate::first_forms::icl_text;
 use ij_io::{HostShelf, HostSink, MemShelf, MemSink, SureShelf, SureSink};
+use ijtag_core::{Status, ijtag, ijtag_in_memory};
 use std::alloc::{AllocError, Global};
 use std::test::Fail;
 use std::{env, fs, process};
@@ -141,7 +142,6 @@ fn no_words_and_a_missing_file(rt: HostRuntime) -> Result<(), Fail> {
     Ok(())
 }
 
-// A fault of the error stream changes no status.
 #[test]
 fn other_names_and_a_long_file_are_refused(rt: HostRuntime) -> Result<(), Fail> {
     let alloc = rt.alloc();
@@ -164,12 +164,24 @@ fn other_names_and_a_long_file_are_refused(rt: HostRuntime) -> Result<(), Fail> 
         let status = ijtag(alloc, &words, &mut shelf, &mut out, &mut err);
         assert_eq!(rt; status, Status::Refused);
         assert_eq!(rt; err.bytes(), said);
-        let mut failing = MemSink::new(alloc);
-        failing.fail_at(&[1])?;
-        let status = ijtag(alloc, &words, &mut shelf, &mut out, &mut failing);
-        assert_eq!(rt; status, Status::Refused);
-        assert_eq!(rt; failing.bytes(), b"".as_slice());
         assert!(rt; shelf.file("a.svf").is_none());
+    }
+    Ok(())
+}
+
+#[test]
+fn a_fault_of_the_error_stream_changes_no_status(rt: HostRuntime) -> Result<(), Fail> {
+    let alloc = rt.alloc();
+    let words = compile_words(alloc)?;
+    for (icl, status) in [(b"".as_slice(), Status::Refused), (ICL, Status::Good)] {
+        let mut shelf = shelf_with(alloc, PDL)?;
+        shelf.put_file("a.icl", icl)?;
+        let mut out = MemSink::new(alloc);
+        let mut err = MemSink::new(alloc);
+        err.fail_at(&[1])?;
+        let ended = ijtag(alloc, &words, &mut shelf, &mut out, &mut err);
+        assert_eq!(rt; ended, status);
+        assert_eq!(rt; err.bytes(), b"".as_slice());
     }
     Ok(())
 }
@@ -221,6 +233,34 @@ fn plays_print_their_reports(rt: HostRuntime) -> Result<(), Fail> {
         assert_eq!(rt; out.bytes(), printed);
         assert_eq!(rt; err.bytes(), b"".as_slice());
         assert_eq!(rt; shelf.file("a.svf"), Some(svf));
+    }
+    Ok(())
+}
+
+/// A play loads four files, each once: the fifth call of the shelf never comes.
+#[test]
+fn each_load_of_a_play_fails_once(rt: HostRuntime) -> Result<(), Fail> {
+    let alloc = rt.alloc();
+    let words = play_words(alloc)?;
+    let said: [&[u8]; 4] = [
+        b"read fault a.svf\n",
+        b"read fault a.icl\n",
+        b"read fault a.dev\n",
+        b"read fault a.tab\n",
+    ];
+    for call in 1..6u32 {
+        let mut shelf = shelf_to_play(alloc, SVF, TABLES)?;
+        shelf.fail_at(&[call])?;
+        let mut out = MemSink::new(alloc);
+        let mut err = MemSink::new(alloc);
+        let status = ijtag(alloc, &words, &mut shelf, &mut out, &mut err);
+        if call < 5 {
+            assert_eq!(rt; status, Status::ReadFault);
+            assert_eq!(rt; out.bytes(), b"".as_slice());
+            assert_eq!(rt; err.bytes(), said[call as usize - 1]);
+        } else {
+            assert_eq!(rt; status, Status::Good);
+        }
     }
     Ok(())
 }
@@ -278,20 +318,12 @@ fn refused_plays_tell_why(rt: HostRuntime) -> Result<(), Fail> {
     Ok(())
 }
 
-/// The ICL text of a register of so many bits.
-fn icl_of(alloc: Global, width: u32) -> Result<String, AllocError> {
-    let left = width.wrapping_sub(1);
-    format!(in alloc;
-        "Module Net {{\n  ScanInPort SI; ScanOutPort SO {{ Source R[0]; }}\n  ScanInterface client {{ Port SI; Port SO; }}\n  ScanRegister R[{left}:0] {{ ScanInSource SI; CaptureSource R; ResetValue {width}'b0; }}\n}}\nModule chip {{\n  Instance net Of Net;\n  AccessLink tap Of STD_1149_1_2001 {{\n    BSDLEntity chip; IJTAG {{ ScanInterface {{ net.client; }} }}\n  }}\n}}\n"
-    )
-}
-
 #[test]
 fn registers_of_all_widths_are_compiled_and_played(rt: HostRuntime) -> Result<(), Fail> {
     let alloc = rt.alloc();
     for width in 0..66u32 {
         let mut shelf = shelf_to_play(alloc, b"", TABLES)?;
-        shelf.put_file("a.icl", icl_of(alloc, width)?.as_bytes())?;
+        shelf.put_file("a.icl", icl_text(alloc, width)?.as_bytes())?;
         shelf.put_file("a.pdl", b"iProcsForModule chip\niProc p {} {\n}\n")?;
         let mut out = MemSink::new(alloc);
         let mut err = MemSink::new(alloc);
