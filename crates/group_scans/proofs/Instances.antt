@@ -89,7 +89,7 @@ opens =
       selects = All-cons (λ (w : WriteBit). IsTrue (is_select rounds_net w.bit)) (set 2 0 true) [] refl (All-nil _);
       on_path = (0 ∷ 2 ∷ [], refl, All-cons (Contains (0 ∷ 2 ∷ [])) 2 [] (1, omega arith, refl) (All-nil (Contains (0 ∷ 2 ∷ []))));
       once = ((λ c. omega (arith, c.1)), tt);
-      silent = refl;
+      reads_nothing = refl;
     }
 
 second_is_planned : IsPlannedGroup rounds_net form written_first second
