@@ -1,0 +1,199 @@
+-- The first pass of elaboration (IEEE 1687-2014, ICL: Instance, Parameter): which cells there are, in preorder, with their
+-- parameters and the ranges of what they declare; or the first fault. A cell is finished before its first child is entered.
+use Rattle.std.specs.Prelude.{ℕ, zero, suc, ◌+◌, nat_lt, nat_le, Bool, not, ◌&&◌, cond, List, [], ◌∷◌, ◌++◌, filter, zip, count_by, length, Option, Some, None, is_some, Ok, Err}
+use Rattle.std.specs.List.{list_any}
+use Rattle.std.specs.Str.{bytes_eq}
+use Rattle.ij_text.specs.declared.Place.{Place}
+use Rattle.ij_text.specs.declared.Which.TheVariants.{Hierarchy, Cells, ScanBits, Muxes, Instruments, Ports, PortBits}
+use Rattle.icl_syntax.specs.Values.{SeenExpr, SeenBind, ABoundPort, ABoundParameter, ABoundAttribute, SeenWhat, ARegister, AMux, AChild, AParameter, SeenItem, SeenModule}
+use Rattle.icl_values.specs.Faults.{Answer, ◌>>=◌, refuse_if, over, NoModule, NoName, DoubleName, InstanceLoop, Limit}
+use Rattle.icl_values.specs.Values.{Worth, Params, worth_of, with_worth}
+use Rattle.icl_values.specs.Expressions.{evaluate}
+use Rattle.icl_frames.specs.declared.counts.Counts.{Counts}
+use Rattle.icl_frames.specs.Parts.{is_part, is_taken, inner_names, range_in, block_named, is_open, is_instrument, is_data_port, port_that, is_data_in, is_data_out}
+use Rattle.icl_frames.specs.declared.ranges.Bounds.{Bounds}
+use Rattle.icl_frames.specs.Ranges.{width, declared}
+
+-- a cell: an instance of a module, with its parameters, and the bounds of each of its parts
+pub record Frame : Type 0 where
+  pub name : List ℕ
+  pub parent : Option ℕ
+  pub block : SeenModule
+  pub params : Params
+  pub bounds : List Bounds
+
+-- an instance that is wanted: its name, its module, and the parameters that are bound at it
+pub record Request : Type 0 where
+  pub name : List ℕ
+  pub block : SeenModule
+  pub given : Params
+
+-- ---- parameters
+
+-- a parameter that its instance binds has that value, and every other one its own
+abbrev pub worth_in : Params → Params → Place → List ℕ → SeenExpr → Option Worth → Answer Worth
+worth_in given ps at name e None = evaluate ps at e
+worth_in given ps at name e (Some worth) = Ok worth
+
+abbrev pub bound_worth : Params → Bool → List ℕ → Option Worth
+bound_worth given local name = cond local None (worth_of given name)
+
+abbrev pub with_parameter : Params → Params → SeenItem → SeenWhat → Answer Params
+with_parameter given ps item (AParameter local e) = worth_in given ps item.at item.name e (bound_worth given local item.name) >>= λ worth. Ok (with_worth ps item.name worth)
+with_parameter given ps item what = Ok ps
+
+-- a module's parameters are evaluated in the order of the text, each after those above it
+abbrev pub parameters : Params → SeenModule → Answer Params
+parameters given block = over (λ ps item. with_parameter given ps item item.what) [] block.items
+
+-- ---- names
+
+abbrev pub with_name : Place → List (List ℕ) → List ℕ → Answer (List (List ℕ))
+with_name at names name = refuse_if (list_any (bytes_eq name) names) (DoubleName at name) >>= λ u. Ok (names ++ name ∷ [])
+
+-- the names differ among themselves
+abbrev pub distinct : Place → List (List ℕ) → Answer (Unit {0})
+distinct at names = over (with_name at) [] names >>= λ all. Ok tt
+
+-- the item's own name, then those in it
+abbrev pub new_names : List SeenItem → SeenItem → Answer (Unit {0})
+new_names before item = refuse_if (is_taken before item) (DoubleName item.at item.name) >>= λ u. distinct item.at (inner_names item.what)
+
+-- ---- instances
+
+abbrev pub with_binding : Params → SeenModule → Params → SeenBind → Answer Params
+with_binding ps block given (ABoundParameter at name e) = do
+  open' ← refuse_if (not (is_open block name)) (NoName at name)
+  once ← refuse_if (is_some (worth_of given name)) (DoubleName at name)
+  worth ← evaluate ps at e
+  Ok (with_worth given name worth)
+with_binding ps block given (ABoundPort at name range sigs) = Ok given
+with_binding ps block given (ABoundAttribute name value) = Ok given
+
+abbrev pub known_block : List ℕ → Option SeenModule → Answer SeenModule
+known_block name None = Err (NoModule name)
+known_block name (Some block) = Ok block
+
+-- the instance that an item wants, in a cell that stands in these modules; parameters are evaluated in the parent
+abbrev pub request : List SeenModule → List (List ℕ) → Params → SeenItem → SeenWhat → Answer (List Request)
+request blocks above ps item (AChild module' binds) = do
+  block ← known_block module' (block_named blocks module')
+  loop ← refuse_if (list_any (bytes_eq module') above) (InstanceLoop item.at)
+  given ← over (with_binding ps block) [] binds
+  Ok (record { name = item.name; block = block; given = given } ∷ [])
+request blocks above ps item what = Ok []
+
+-- ---- counts
+
+abbrev pub count_part : Counts → Bounds → SeenWhat → Answer Counts
+count_part c b (ARegister range props) = refuse_if (nat_lt 4096 (c.bits + width b)) (Limit ScanBits 4096) >>= λ u. Ok (record c { bits = c.bits + width b })
+count_part c b (AMux select rows) = refuse_if (nat_le 1024 c.muxes) (Limit Muxes 1024) >>= λ u. Ok (record c { muxes = c.muxes + 1 })
+count_part c b what = Ok c
+
+-- ---- the items of a cell
+
+-- what is known after some items: these items, the bounds of the parts among them, the instances that they want
+pub record Passed : Type 0 where
+  pub items : List SeenItem
+  pub bounds : List Bounds
+  pub requests : List Request
+  pub counts : Counts
+
+abbrev pub bounds_of : SeenWhat → Bounds → List Bounds
+bounds_of what b = cond (is_part what) (b ∷ []) []
+
+-- what one item adds: its bounds, the instance that it wants, and the counts with it
+pub record Added : Type 0 where
+  pub bounds : Bounds
+  pub wanted : List Request
+  pub counts : Counts
+
+-- an item behind others, in a cell that stands in these modules
+unfoldable pub look_at : List SeenModule → List (List ℕ) → Params → List SeenItem → Counts → SeenItem → Answer Added
+look_at blocks above ps before c item = do
+  names ← new_names before item
+  b ← declared ps (range_in item.what)
+  wanted ← request blocks above ps item item.what
+  counts ← count_part c b item.what
+  Ok (record { bounds = b; wanted = wanted; counts = counts })
+
+abbrev pub with_added : Passed → SeenItem → Added → Passed
+with_added s item a = record { items = s.items ++ item ∷ []; bounds = s.bounds ++ bounds_of item.what a.bounds; requests = s.requests ++ a.wanted; counts = a.counts }
+
+unfoldable pub pass_item : List SeenModule → List (List ℕ) → Params → Passed → SeenItem → Answer Passed
+pass_item blocks above ps s item = look_at blocks above ps s.items s.counts item >>= λ a. Ok (with_added s item a)
+
+abbrev pub nothing_passed : Counts → Passed
+nothing_passed c = record { items = []; bounds = []; requests = []; counts = c }
+
+abbrev pub pass_items : List SeenModule → List (List ℕ) → Params → Counts → SeenModule → Answer Passed
+pass_items blocks above ps c block = over (pass_item blocks above ps) (nothing_passed c) block.items
+
+-- ---- instruments
+
+-- the parts of a module
+abbrev pub parts_of : SeenModule → List SeenItem
+parts_of block = filter (λ item. is_part item.what) block.items
+
+abbrev pub ports_over : ℕ → (SeenWhat → Bool) → SeenModule → Bool
+ports_over n test block = nat_lt n (count_by (λ item. test item.what) block.items)
+
+-- a data port of more than 64 bits
+abbrev pub has_wide_port : SeenModule → List Bounds → Bool
+has_wide_port block bounds = list_any (λ part. is_data_port part.0.what && nat_lt 64 (width part.1)) (zip (parts_of block) bounds)
+
+abbrev pub count_instrument : SeenModule → List Bounds → Counts → Answer Counts
+count_instrument block bounds c = do
+  all ← refuse_if (nat_le 256 c.instruments) (Limit Instruments 256)
+  ins ← refuse_if (ports_over 16 (port_that is_data_in) block) (Limit Ports 16)
+  outs ← refuse_if (ports_over 16 (port_that is_data_out) block) (Limit Ports 16)
+  wide ← refuse_if (has_wide_port block bounds) (Limit PortBits 64)
+  Ok (record c { instruments = c.instruments + 1 })
+
+-- the top is no instrument
+abbrev pub finish : Option ℕ → SeenModule → Passed → Answer Counts
+finish parent block s = cond (is_some parent && is_instrument block) (count_instrument block s.bounds s.counts) (Ok s.counts)
+
+-- ---- cells
+
+pub record Progress : Type 0 where
+  pub frames : List Frame
+  pub counts : Counts
+
+-- a cell, and the instances that it wants
+pub record Entered : Type 0 where
+  pub frame : Frame
+  pub requests : List Request
+  pub counts : Counts
+
+-- one cell, which stands in these modules, its own among them
+unfoldable pub enter_one : List SeenModule → List (List ℕ) → Option ℕ → Counts → Request → Answer Entered
+enter_one blocks above parent c r = do
+  ps ← parameters r.given r.block
+  s ← pass_items blocks above ps c r.block
+  counts ← finish parent r.block s
+  Ok (record { frame = record { name = r.name; parent = parent; block = r.block; params = ps; bounds = s.bounds }; requests = s.requests; counts = counts })
+
+-- a cell and all cells below it, in so many levels
+unfoldable pub enter : ℕ → List SeenModule → List (List ℕ) → Option ℕ → Progress → Request → Answer Progress
+enter zero blocks above parent s r = Err (Limit Hierarchy 64)
+enter (suc levels) blocks above parent s r = do
+  room ← refuse_if (nat_le 8192 (length s.frames)) (Limit Cells 8192)
+  e ← enter_one blocks (r.block.name ∷ above) parent s.counts r
+  over (enter levels blocks (r.block.name ∷ above) (Some (length s.frames))) (record { frames = s.frames ++ e.frame ∷ []; counts = e.counts }) e.requests
+
+-- ---- the whole pass
+
+abbrev pub with_block : List SeenModule → SeenModule → Answer (List SeenModule)
+with_block before block = refuse_if (is_some (block_named before block.name)) (DoubleName block.at block.name) >>= λ u. Ok (before ++ block ∷ [])
+
+abbrev pub nothing_entered : Progress
+nothing_entered = record { frames = []; counts = record { bits = 0; muxes = 0; instruments = 0 } }
+
+-- at most 64 instances stand inside one another below the top
+unfoldable pub first_pass : List SeenModule → List ℕ → Answer (List Frame)
+first_pass blocks top = do
+  names ← over with_block [] blocks
+  block ← known_block top (block_named blocks top)
+  s ← enter 65 blocks [] None nothing_entered (record { name = []; block = block; given = [] })
+  Ok s.frames

@@ -1,0 +1,306 @@
+// The cells of a design in preorder: each instance before those in it.
+ghost use Rattle.std.specs.Prelude.{◌≡◌, ◌≤◌, ◌∷◌, ◌++◌, [], map, length, nat_le, IfOk, IfErr};
+ghost use Rattle.icl_syntax.specs.Views.{seen_item, seen_module};
+ghost use Rattle.icl_values.specs.Expressions.{same};
+ghost use Rattle.icl_values.specs.Faults.{Gives, refuse_if, over, Limit};
+ghost use Rattle.ij_text.specs.declared.Which.TheVariants.{Cells};
+ghost use Rattle.icl_values.specs.Tables.{seen_table};
+ghost use Rattle.icl_frames.specs.FirstPass.{with_block, parameters, pass_items, finish, enter_one, enter, first_pass};
+ghost use Rattle.icl_frames.specs.SeenFrames.{names_of, seen_passed, seen_request, seen_frame, seen_entered, seen_progress, seen_stepped, with_cell};
+
+use crate::ElabFault;
+use crate::counts::{Counts, count_instrument, is_instrument};
+use crate::frames::{Passed, Request, pass_items};
+use crate::instances::known_block;
+use crate::params::parameters;
+use crate::ranges::Bounds;
+use crate::scope::Scope;
+use icl_syntax::Module;
+use icl_values::ParamTable;
+use ij_text::{Which, name_of};
+use std::alloc::Global;
+
+/// A cell: an instance of a module, or the top.
+#[derive(Drop)]
+pub struct Frame<'a> {
+    /// The instance's name; the top's is empty.
+    pub name: &'a [u8],
+    /// The number of the cell that it stands in, counted from 0; none for the top.
+    pub parent: Option<u32>,
+    /// Its module.
+    pub block: &'a Module,
+    /// Its parameters, with the values that its instance binds.
+    pub params: ParamTable,
+    /// The left and the right index of each of its parts (ports, registers, multiplexers, instances, aliases, interfaces and
+    /// links), in the order of the text; 0 and 0 for a part without a range.
+    pub bounds: Vec<Bounds>,
+}
+
+/// A cell, and the instances that it wants.
+#[derive(Drop)]
+pub struct Entered<'a> {
+    /// The cell.
+    pub frame: Frame<'a>,
+    /// The instances that it wants.
+    pub requests: Vec<Request<'a>>,
+    /// What is counted over all cells up to here.
+    pub counts: Counts,
+}
+
+/// The cells up to here.
+#[derive(Drop)]
+pub struct Progress<'a> {
+    /// The cells.
+    pub frames: Vec<Frame<'a>>,
+    /// What is counted over them.
+    pub counts: Counts,
+}
+
+/// What is counted with a cell whose items were passed: an instrument, unless it is the top.
+fn finish(parent: Option<u32>, block: &Module, passed: &Passed) -> Result<Counts, ElabFault>
+    ensures few { IfOk result (λ c. c.bits ≡ passed.now.counts.bits) }
+    ensures gives { Gives same result (finish parent (seen_module block.now) (seen_passed (map seen_item block.now.items.items) passed.now)) }
+{
+    if parent.is_some() && is_instrument(block) {
+        count_instrument(block, passed.bounds.as_slice(), passed.counts)
+    } else {
+        Ok(passed.counts)
+    }
+}
+
+/// The parameters of a cell of a module, some of which its instance binds.
+fn own_parameters(
+    alloc: Global,
+    given: &ParamTable,
+    block: &Module,
+) -> Result<ParamTable, ElabFault>
+    ensures { Gives seen_table result (parameters (seen_table given.now) (seen_module block.now)) }
+{
+    parameters(alloc, given, block.items.as_slice())
+}
+
+/// The items of a cell of a module.
+fn own_items<'a>(
+    alloc: Global,
+    modules: &'a [Module],
+    above: &[&'a Module],
+    params: &ParamTable,
+    counts: Counts,
+    block: &'a Module,
+) -> Result<Passed<'a>, ElabFault>
+    requires { counts.bits ≤ 4096 }
+    ensures few { IfOk result (λ s. s.counts.bits ≤ 4096) }
+    ensures gives { Gives (seen_passed (map seen_item block.now.items.items)) result (pass_items (map seen_module modules.now) (names_of above.now) (seen_table params.now) counts (seen_module block.now)) }
+{
+    pass_items(
+        alloc,
+        modules,
+        above,
+        params,
+        counts,
+        block.items.as_slice(),
+    )
+}
+
+/// The cell of an instance, which stands in these modules, its own among them.
+#[tactic(auto, unfolding(crate::specs::FirstPass::enter_one))]
+fn enter_one<'a>(
+    alloc: Global,
+    modules: &'a [Module],
+    above: &[&'a Module],
+    parent: Option<u32>,
+    counts: Counts,
+    request: &Request<'a>,
+) -> Result<Entered<'a>, ElabFault>
+    requires { counts.bits ≤ 4096 }
+    ensures few { IfOk result (λ e. e.counts.bits ≤ 4096) }
+    ensures gives { Gives seen_entered result (enter_one (map seen_module modules.now) (names_of above.now) parent counts (seen_request request.now)) }
+{
+    let block = request.block;
+    let params = own_parameters(alloc, &request.given, block)?;
+    let passed = own_items(alloc, modules, above, &params, counts, block)?;
+    let counts = finish(parent, block, &passed)?;
+    Ok(Entered {
+        frame: Frame {
+            name: request.name,
+            parent,
+            block,
+            params,
+            bounds: passed.bounds,
+        },
+        requests: passed.requests,
+        counts,
+    })
+}
+
+/// The number of the next cell, if there is room for one.
+fn next_cell(frames: &[Frame]) -> Result<u32, ElabFault>
+    ensures number { IfOk result (λ n. n ≡ length (map seen_frame frames.now)) }
+    ensures gives { Gives (λ n. tt) result (refuse_if (nat_le 8192 (length (map seen_frame frames.now))) (Limit Cells 8192)) }
+{
+    if frames.len() >= 8192 {
+        return Err(ElabFault::Limit {
+            which: Which::Cells,
+            number: 8192,
+        });
+    }
+    Ok(frames.len() as u32)
+}
+
+/// The cells with one more.
+fn with_frame<'a>(
+    state: Progress<'a>,
+    frame: Frame<'a>,
+    counts: Counts,
+) -> Result<Progress<'a>, ElabFault>
+    ensures ok { IfOk result (λ s. seen_progress s ≡ record { frames = (seen_progress state.entry).frames ++ seen_frame frame.entry ∷ []; counts = counts }) }
+    ensures told { IfErr result (λ e. e ≡ ElabFault.OutOfMemory) }
+{
+    let mut frames = state.frames;
+    frames.push(frame)?;
+    Ok(Progress { frames, counts })
+}
+
+/// The cells with one more, and the instances that it wants.
+#[derive(Drop)]
+pub struct Stepped<'a> {
+    /// The cells.
+    pub progress: Progress<'a>,
+    /// The instances that the last one wants.
+    pub requests: Vec<Request<'a>>,
+    /// The number of the last one.
+    pub cell: u32,
+}
+
+/// The cells with that of an instance, which stands in these modules, its own among them.
+#[tactic(auto, unfolding(crate::specs::SeenFrames::with_cell))]
+fn with_cell<'a>(
+    alloc: Global,
+    modules: &'a [Module],
+    above: &[&'a Module],
+    parent: Option<u32>,
+    state: Progress<'a>,
+    request: &Request<'a>,
+) -> Result<Stepped<'a>, ElabFault>
+    requires { state.counts.bits ≤ 4096 }
+    ensures few { IfOk result (λ w. w.progress.counts.bits ≤ 4096) }
+    ensures number { IfOk result (λ w. w.cell ≡ length (map seen_frame state.entry.frames.items)) }
+    ensures gives { Gives seen_stepped result (with_cell (map seen_module modules.now) (names_of above.now) parent (seen_progress state.entry) (seen_request request.now)) }
+{
+    let cell = next_cell(state.frames.as_slice())?;
+    let entered = enter_one(alloc, modules, above, parent, state.counts, request)?;
+    let progress = with_frame(state, entered.frame, entered.counts)?;
+    Ok(Stepped {
+        progress,
+        requests: entered.requests,
+        cell,
+    })
+}
+
+/// The modules that the cells inside a cell of a module stand in: that module and those above it.
+fn with_module<'a>(
+    alloc: Global,
+    block: &'a Module,
+    above: &[&'a Module],
+) -> Result<Vec<&'a Module>, ElabFault>
+    ensures ok { IfOk result (λ all. names_of all.items ≡ block.now.name.items ∷ names_of above.now) }
+    ensures told { IfErr result (λ e. e ≡ ElabFault.OutOfMemory) }
+{
+    let mut all = Vec::new(alloc);
+    all.push(block)?;
+    for outer in above {
+        all.push(*outer)?;
+    }
+    Ok(all)
+}
+
+/// The cells with that of an instance and all below it, in so many levels.
+fn enter<'a>(
+    alloc: Global,
+    modules: &'a [Module],
+    above: &[&'a Module],
+    levels: u32,
+    parent: Option<u32>,
+    state: Progress<'a>,
+    request: &Request<'a>,
+) -> Result<Progress<'a>, ElabFault>
+    requires { state.counts.bits ≤ 4096 }
+    ensures few { IfOk result (λ s. s.counts.bits ≤ 4096) }
+    ensures gives { Gives seen_progress result (enter levels (map seen_module modules.now) (names_of above.now) parent (seen_progress state.entry) (seen_request request.now)) }
+{
+    if levels == 0 {
+        return Err(ElabFault::Limit {
+            which: Which::Hierarchy,
+            number: 64,
+        });
+    }
+    let inside = with_module(alloc, request.block, above)?;
+    let stepped = with_cell(alloc, modules, inside.as_slice(), parent, state, request)?;
+    let cell = stepped.cell;
+    let requests = stepped.requests;
+    let mut cells = stepped.progress;
+    for wanted in requests.as_slice() {
+        cells = enter(
+            alloc,
+            modules,
+            inside.as_slice(),
+            levels - 1,
+            Some(cell),
+            cells,
+            wanted,
+        )?;
+    }
+    Ok(cells)
+}
+
+/// Whether the names of the modules differ.
+fn distinct_modules(alloc: Global, modules: &[Module]) -> Result<(), ElabFault>
+    ensures { Gives (λ u. map seen_module modules.now) result (over with_block [] (map seen_module modules.now)) }
+{
+    let mut seen = Scope::new(alloc);
+    for block in modules {
+        if seen.has(block.name.as_slice()) {
+            let name = name_of(alloc, block.name.as_slice())?;
+            return Err(ElabFault::DoubleName { at: block.at, name });
+        }
+        seen.note(alloc, block.name.as_slice())?;
+    }
+    Ok(())
+}
+
+/// The cells of a design with this top module, in preorder (IEEE 1687-2014, ICL: Module, Instance, Parameter): the top, which has
+/// number 0, and behind each cell those of its instances, in the order of the text.
+///
+/// The first fault on the way is the answer. Two modules of one name are `DoubleName` at the second word `Module`; a top that is
+/// no module is `NoModule`. Then each cell, before those in it: `Limit` of `Hierarchy` where it stands inside 64 others below the
+/// top, or of `Cells` where 8192 cells stand before it; its parameters (what `evaluate` of `icl_values` tells);
+/// its items in the order of the text (`DoubleName` of a name in the module, the faults of its range, `NoModule` of an instance,
+/// `InstanceLoop` where a module would stand in itself, `NoName` and `DoubleName` of a parameter that is bound, and `Limit` of
+/// register bits and multiplexers); and `Limit` of instruments, their ports and the ports' bits. `OutOfMemory` may come at any
+/// point.
+#[tactic(auto, unfolding(crate::specs::FirstPass::first_pass))]
+pub fn first_pass<'a>(
+    alloc: Global,
+    modules: &'a [Module],
+    top: &[u8],
+) -> Result<Vec<Frame<'a>>, ElabFault>
+    ensures { Gives (λ frames. map seen_frame frames.items) result (first_pass (map seen_module modules.now) top.now) }
+{
+    distinct_modules(alloc, modules)?;
+    let block = known_block(alloc, modules, top)?;
+    let request = Request {
+        name: &[],
+        block,
+        given: ParamTable::new(alloc),
+    };
+    let nothing = Progress {
+        frames: Vec::new(alloc),
+        counts: Counts {
+            bits: 0,
+            muxes: 0,
+            instruments: 0,
+        },
+    };
+    let end = enter(alloc, modules, &[], 65, None, nothing, &request)?;
+    Ok(end.frames)
+}

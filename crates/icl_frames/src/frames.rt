@@ -1,0 +1,256 @@
+// The items of a cell, one after another.
+ghost use Rattle.std.specs.Prelude.{◌≡◌, ◌≤◌, ◌++◌, ◌∷◌, ℕ, List, [], map, IfOk, IfErr};
+ghost use Rattle.std.specs.List.{list_any};
+ghost use Rattle.std.specs.Str.{bytes_eq};
+ghost use Rattle.icl_syntax.specs.Values.{SeenItem, AChild};
+ghost use Rattle.icl_syntax.specs.Views.{seen_what, seen_item, seen_module, seen_bind, seen_list};
+ghost use Rattle.icl_values.specs.Faults.{Gives, over};
+ghost use Rattle.icl_values.specs.Tables.{seen_table};
+ghost use Rattle.icl_frames.specs.FirstPass.{request, bounds_of, look_at, with_added, pass_item, nothing_passed};
+ghost use Rattle.icl_frames.specs.Parts.{range_in};
+ghost use Rattle.icl_frames.specs.Ranges.{declared};
+ghost use Rattle.icl_values.specs.Expressions.{same};
+ghost use Rattle.icl_frames.specs.Taken.{AreTaken};
+ghost use Rattle.icl_frames.specs.SeenFrames.{seen_request, seen_wanted, names_of, seen_added, seen_passed};
+
+use crate::ElabFault;
+use crate::counts::{Counts, count_part};
+use crate::instances::{bound_parameters, known_block};
+use crate::kinds::is_part;
+use crate::naming::new_names;
+use crate::ranges::{Bounds, declared};
+use crate::taken::Taken;
+use icl_syntax::{Bind, Item, Module, Range, What};
+use icl_values::ParamTable;
+use ij_text::{Name, Place};
+use std::alloc::Global;
+
+/// An instance that is wanted.
+#[derive(Drop)]
+pub struct Request<'a> {
+    /// Its name.
+    pub name: &'a [u8],
+    /// Its module.
+    pub block: &'a Module,
+    /// The parameters that it binds.
+    pub given: ParamTable,
+}
+
+/// What is known after some items of a cell.
+#[derive(Drop)]
+pub struct Passed<'a> {
+    /// Their names.
+    pub taken: Taken,
+    /// The bounds of the parts among them.
+    pub bounds: Vec<Bounds>,
+    /// The instances that they want.
+    pub requests: Vec<Request<'a>>,
+    /// What is counted over all cells up to here.
+    pub counts: Counts,
+}
+
+/// Whether a module is one of those that a cell stands in.
+fn is_above(above: &[&Module], name: &[u8]) -> bool
+    ensures { result ≡ list_any (bytes_eq name.now) (names_of above.now) }
+{
+    for block in above {
+        if name == block.name.as_slice() {
+            return true;
+        }
+    }
+    false
+}
+
+/// The instance that a child item wants.
+fn child_request<'a>(
+    alloc: Global,
+    modules: &'a [Module],
+    above: &[&Module],
+    params: &ParamTable,
+    item: &'a Item,
+    of: &Name,
+    binds: &[Bind],
+) -> Result<Option<Request<'a>>, ElabFault>
+    ensures { Gives seen_wanted result (request (map seen_module modules.now) (names_of above.now) (seen_table params.now) (seen_item item.now) (AChild of.now.items (map seen_bind binds.now))) }
+{
+    let block = known_block(alloc, modules, of.as_slice())?;
+    if is_above(above, of.as_slice()) {
+        return Err(ElabFault::InstanceLoop { at: item.at });
+    }
+    let given = bound_parameters(alloc, params, block, binds)?;
+    Ok(Some(Request {
+        name: item.name.as_slice(),
+        block,
+        given,
+    }))
+}
+
+/// The instance that an item wants, if it is one.
+fn item_request<'a>(
+    alloc: Global,
+    modules: &'a [Module],
+    above: &[&Module],
+    params: &ParamTable,
+    item: &'a Item,
+) -> Result<Option<Request<'a>>, ElabFault>
+    ensures { Gives seen_wanted result (request (map seen_module modules.now) (names_of above.now) (seen_table params.now) (seen_item item.now) (seen_what item.now.what)) }
+{
+    match &item.what {
+        What::Child { module: of, binds } => {
+            child_request(alloc, modules, above, params, item, of, binds.as_slice())
+        }
+        _ => Ok(None),
+    }
+}
+
+/// The bounds that an item declares.
+fn declared_by(alloc: Global, params: &ParamTable, what: &What) -> Result<Bounds, ElabFault>
+    ensures { Gives same result (declared (seen_table params.now) (range_in (seen_what what.now))) }
+{
+    match what {
+        What::Port { range, .. } => declared(alloc, params, range),
+        What::Register { range, .. } => declared(alloc, params, range),
+        What::Alias { range, .. } => declared(alloc, params, range),
+        _ => Ok(Bounds { left: 0, right: 0 }),
+    }
+}
+
+/// The bounds with those of one item more, where it is a part.
+fn with_bounds(what: &What, b: Bounds, bounds: Vec<Bounds>) -> Result<Vec<Bounds>, ElabFault>
+    ensures ok { IfOk result (λ more. more.items ≡ bounds.items ++ bounds_of (seen_what what.now) b) }
+    ensures told { IfErr result (λ e. e ≡ ElabFault.OutOfMemory) }
+{
+    let mut bounds = bounds;
+    if is_part(what) {
+        bounds.push(b)?;
+    }
+    Ok(bounds)
+}
+
+/// The requests with one more, where one is wanted.
+fn with_request<'a>(
+    wanted: Option<Request<'a>>,
+    requests: Vec<Request<'a>>,
+) -> Result<Vec<Request<'a>>, ElabFault>
+    ensures ok { IfOk result (λ more. map seen_request more.items ≡ map seen_request requests.entry.items ++ seen_wanted wanted.entry) }
+    ensures told { IfErr result (λ e. e ≡ ElabFault.OutOfMemory) }
+{
+    let mut requests = requests;
+    if let Some(r) = wanted {
+        requests.push(r)?;
+    }
+    Ok(requests)
+}
+
+/// What an item adds.
+#[derive(Drop)]
+pub struct Added<'a> {
+    /// Its bounds.
+    pub bounds: Bounds,
+    /// The instance that it wants.
+    pub wanted: Option<Request<'a>>,
+    /// What is counted up to here.
+    pub counts: Counts,
+}
+
+/// What an item adds, behind the items with these names.
+#[tactic(auto, unfolding(crate::specs::FirstPass::look_at))]
+fn look_at<'a>(
+    alloc: Global,
+    modules: &'a [Module],
+    above: &[&Module],
+    params: &ParamTable,
+    taken: &Taken,
+    counts: Counts,
+    item: &'a Item,
+) -> Result<Added<'a>, ElabFault>
+    requires { counts.bits ≤ 4096 }
+    ensures few { IfOk result (λ a. a.counts.bits ≤ 4096) }
+    ensures gives { (items : List SeenItem) → AreTaken taken.now items → Gives seen_added result (look_at (map seen_module modules.now) (names_of above.now) (seen_table params.now) items counts (seen_item item.now)) }
+{
+    new_names(alloc, taken, item)?;
+    let bounds = declared_by(alloc, params, &item.what)?;
+    let wanted = item_request(alloc, modules, above, params, item)?;
+    let counts = count_part(counts, bounds, &item.what)?;
+    Ok(Added {
+        bounds,
+        wanted,
+        counts,
+    })
+}
+
+/// What is known with what one item more adds.
+fn with_added<'a>(
+    alloc: Global,
+    state: Passed<'a>,
+    item: &'a Item,
+    added: Added<'a>,
+) -> Result<Passed<'a>, ElabFault>
+    ensures told { IfErr result (λ e. e ≡ ElabFault.OutOfMemory) }
+    ensures counts { IfOk result (λ s. s.counts ≡ added.entry.counts) }
+    ensures taken { IfOk result (λ s. (items : List SeenItem) → AreTaken state.entry.taken items → AreTaken s.taken (items ++ seen_item item.now ∷ [])) }
+    ensures added { IfOk result (λ s. (items : List SeenItem) → seen_passed (items ++ seen_item item.now ∷ []) s ≡ with_added (seen_passed items state.entry) (seen_item item.now) (seen_added added.entry)) }
+{
+    let mut taken = state.taken;
+    taken.pass(alloc, item)?;
+    let bounds = with_bounds(&item.what, added.bounds, state.bounds)?;
+    let requests = with_request(added.wanted, state.requests)?;
+    Ok(Passed {
+        taken,
+        bounds,
+        requests,
+        counts: added.counts,
+    })
+}
+
+/// One item more.
+#[tactic(auto, unfolding(crate::specs::FirstPass::pass_item))]
+fn pass_item<'a>(
+    alloc: Global,
+    modules: &'a [Module],
+    above: &[&Module],
+    params: &ParamTable,
+    state: Passed<'a>,
+    item: &'a Item,
+) -> Result<Passed<'a>, ElabFault>
+    requires { state.counts.bits ≤ 4096 }
+    ensures few { IfOk result (λ s. s.counts.bits ≤ 4096) }
+    ensures taken { IfOk result (λ s. (items : List SeenItem) → AreTaken state.entry.taken items → AreTaken s.taken (items ++ seen_item item.now ∷ [])) }
+    ensures gives { (items : List SeenItem) → AreTaken state.entry.taken items → Gives (seen_passed (items ++ seen_item item.now ∷ [])) result (pass_item (map seen_module modules.now) (names_of above.now) (seen_table params.now) (seen_passed items state.entry) (seen_item item.now)) }
+{
+    let added = look_at(
+        alloc,
+        modules,
+        above,
+        params,
+        &state.taken,
+        state.counts,
+        item,
+    )?;
+    with_added(alloc, state, item, added)
+}
+
+/// The items of a module.
+pub fn pass_items<'a>(
+    alloc: Global,
+    modules: &'a [Module],
+    above: &[&Module],
+    params: &ParamTable,
+    counts: Counts,
+    items: &'a [Item],
+) -> Result<Passed<'a>, ElabFault>
+    requires { counts.bits ≤ 4096 }
+    ensures few { IfOk result (λ s. s.counts.bits ≤ 4096) }
+    ensures gives { Gives (seen_passed (map seen_item items.now)) result (over (pass_item (map seen_module modules.now) (names_of above.now) (seen_table params.now)) (nothing_passed counts) (map seen_item items.now)) }
+{
+    let mut state = Passed {
+        taken: Taken::new(alloc),
+        bounds: Vec::new(alloc),
+        requests: Vec::new(alloc),
+        counts,
+    };
+    for item in items {
+        state = pass_item(alloc, modules, above, params, state, item)?;
+    }
+    Ok(state)
+}

@@ -1,0 +1,27 @@
+//! The cells of a design of ICL (IEEE 1687-2014): its instances below a top module, in preorder, each with its parameters and the
+//! indices of its parts as numbers.
+#![tactic(auto)]
+
+mod cells;
+mod counts;
+mod frames;
+mod instances;
+mod kinds;
+mod laws;
+mod naming;
+mod params;
+mod ranges;
+mod scope;
+mod taken;
+
+pub use cells::{Frame, first_pass};
+pub use counts::{Counts, count_instrument, count_part, is_data_port, is_instrument};
+pub use frames::{Added, Passed, Request, pass_items};
+pub use icl_values::ElabFault;
+pub use instances::{block_named, bound_parameters, is_open, known_block};
+pub use laws::frames_are_preorder;
+pub use naming::new_names;
+pub use params::parameters;
+pub use ranges::{Bounds, Stretch, declared, indices, named_in, width};
+pub use scope::Scope;
+pub use taken::Taken;

@@ -1,0 +1,82 @@
+// The parameters of a cell.
+ghost use Rattle.std.specs.Prelude.{◌≡◌, [], map, not};
+ghost use Rattle.std.specs.Option.{option_map};
+ghost use Rattle.icl_syntax.specs.Views.{seen_expr, seen_what, seen_item, seen_bind, seen_module, bytes_of};
+ghost use Rattle.icl_values.specs.Faults.{Gives, over};
+ghost use Rattle.icl_values.specs.Values.{seen_value};
+ghost use Rattle.icl_values.specs.Tables.{seen_table};
+ghost use Rattle.icl_frames.specs.Parts.{has_parameter, is_parameter_that, is_open};
+ghost use Rattle.icl_frames.specs.FirstPass.{bound_worth, worth_in, with_parameter, with_binding};
+
+use crate::ElabFault;
+use icl_syntax::{Bind, Expr, Item, Module, What};
+use icl_values::{ParamTable, Value, evaluate};
+use ij_text::{Name, Place};
+use std::alloc::Global;
+
+/// The value that a parameter's instance binds it to, if it does and the parameter isn't local.
+fn bound_value<'a>(given: &'a ParamTable, local: bool, name: &Name) -> Option<&'a Value>
+    ensures { option_map (λ v. seen_value v.now) result ≡ bound_worth (seen_table given.now) local name.now.items }
+{
+    if local {
+        None
+    } else {
+        given.find(name.as_slice())
+    }
+}
+
+/// The value of a parameter: the one that is bound, or its own.
+fn value_of(
+    alloc: Global,
+    given: &ParamTable,
+    params: &ParamTable,
+    at: Place,
+    name: &Name,
+    local: bool,
+    e: &Expr,
+) -> Result<Value, ElabFault>
+    ensures { Gives seen_value result (worth_in (seen_table given.now) (seen_table params.now) at name.now.items (seen_expr e.now) (bound_worth (seen_table given.now) local name.now.items)) }
+{
+    match bound_value(given, local, name) {
+        Some(value) => {
+            let value = value.copy(alloc)?;
+            Ok(value)
+        }
+        None => evaluate(alloc, params, e, at),
+    }
+}
+
+/// The parameters with one more, where the item is one.
+fn with_parameter(
+    alloc: Global,
+    given: &ParamTable,
+    params: ParamTable,
+    item: &Item,
+) -> Result<ParamTable, ElabFault>
+    ensures { Gives seen_table result (with_parameter (seen_table given.now) (seen_table params) (seen_item item.now) (seen_what item.now.what)) }
+{
+    match &item.what {
+        What::Parameter { local, value } => {
+            let value = value_of(alloc, given, &params, item.at, &item.name, *local, value)?;
+            let mut params = params;
+            params.insert(alloc, item.name.as_slice(), value)?;
+            Ok(params)
+        }
+        _ => Ok(params),
+    }
+}
+
+/// The parameters of a module with these items, some of which its instance binds.
+pub fn parameters(
+    alloc: Global,
+    given: &ParamTable,
+    items: &[Item],
+) -> Result<ParamTable, ElabFault>
+    ensures { Gives seen_table result (over (λ ps item. with_parameter (seen_table given.now) ps item item.what) [] (map seen_item items.now)) }
+{
+    let mut params = ParamTable::new(alloc);
+    for item in items {
+        params = with_parameter(alloc, given, params, item)?;
+    }
+    Ok(params)
+}
