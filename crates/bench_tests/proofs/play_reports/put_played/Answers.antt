@@ -1,5 +1,5 @@
 use Rattle.play_report.proofs.Few.{read_commands_are_playable}
-use Rattle.ijtag_tests.proofs.play_reports.put_played.Goals as goal
+use Rattle.bench_tests.proofs.play_reports.put_played.Goals as goal
 
 pub put_play-requires-clause-clocks : goal.put_play-requires-clause-clocks
 put_play-requires-clause-clocks c =
