@@ -1,0 +1,11 @@
+use Rattle.std.proofs.Common.{◌≡◌, false, ap, ◌∙◌}
+use Rattle.std.specs.Prelude.{replicate}
+use Rattle.ij_text.specs.Numbers.{open_bits}
+use Rattle.icl_signals.proofs.OpenBits.{all_open}
+use Rattle.icl_signals.proofs.copies.all_open.Goals as goal
+
+pub returns : goal.returns
+returns c =
+    ap (λ v. open_bits v c.in_ok-care.care.items) c.in_ok-value.ensures
+    ∙ ap (open_bits (replicate c.args.width false)) c.in_ok-care.ensures
+    ∙ all_open c.args.width

@@ -1,0 +1,23 @@
+use Rattle.std.proofs.Common.{◌≡◌, ℕ, List, Bool, true, map, subst, ap, sym, ◌∙◌, Some}
+use Rattle.std.specs.Prelude.{get_or}
+use Rattle.icl_elab.specs.Roles.{PartOf, part_at}
+use Rattle.net_graph.specs.declared.net.BitId.{BitId}
+use Rattle.icl_signals.specs.declared.parts.Kind.TheVariants.{Register, Mux, Output}
+use Rattle.icl_signals.specs.declared.wires.StandsFor.TheVariants.{ARegisterBit, AMuxOutput, AnInstrumentOutput}
+use Rattle.icl_signals.specs.Kinds.{number_at}
+use Rattle.icl_signals.specs.Moves.{is_instrument_cell}
+use Rattle.icl_signals.specs.Wirings.{cells_of}
+use Rattle.icl_signals.proofs.Standing.{IsAtSome, stands_at, in_cell}
+use Rattle.icl_signals.proofs.CountedParts.{number_at_is, output_number_is, instrument_number_is, get_mapped}
+use Rattle.icl_signals.proofs.ends.output_number.Goals as goal
+
+pub returns : goal.returns
+returns c =
+    let cells = cells_of c.args.wiring.now in
+    let w = c.args.wire in
+    let there = subst (λ s. IsAtSome s (is_instrument_cell cells w.cell) (part_at cells w.cell w.part)) c.requires.stands (stands_at cells c.args.wiring.now.entry w) in
+    let inside = in_cell cells w.cell w.part there.part there.there in
+    c.number_at.ensures
+    ∙ ap (λ t. number_at (map (λ row. row.items) t) w.cell w.part) c.as_slice.ensures.value
+    ∙ ap (λ t. number_at t w.cell w.part) c.requires.wiring.outputs
+    ∙ output_number_is cells w.cell w.part inside.inside there.part inside.cell_is inside.part_is there.role.0

@@ -1,0 +1,9 @@
+use Rattle.std.proofs.Common.{◌≡◌, map, take}
+use Rattle.icl_signals.specs.Connecting.{output_of}
+use Rattle.icl_signals.specs.Told.{seen_entry}
+use Rattle.icl_signals.specs.Inside.{numbered}
+use Rattle.icl_signals.specs.PlainNets.{seen_output}
+use Rattle.icl_signals.proofs.instruments.outputs.Given as goal
+
+abbrev pub invariant-loop-e : goal.invariant-loop-e
+invariant-loop-e l = map seen_output l.all.items ≡ map (λ e. output_of (numbered (seen_entry e))) (take l.e-index l.parts)

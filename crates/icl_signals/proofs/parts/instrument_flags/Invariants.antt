@@ -1,0 +1,7 @@
+use Rattle.std.proofs.Common.{◌≡◌, map, take}
+use Rattle.icl_elab.specs.Roles.{seen_cell}
+use Rattle.icl_signals.specs.Moves.{is_instrument}
+use Rattle.icl_signals.proofs.parts.instrument_flags.Given as goal
+
+abbrev pub invariant-loop-cell : goal.invariant-loop-cell
+invariant-loop-cell l = l.flags.items ≡ map is_instrument (map seen_cell (take l.cell-index l.cells))

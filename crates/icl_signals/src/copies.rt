@@ -1,0 +1,70 @@
+// Copies of what a network takes over from its hierarchy.
+ghost use Rattle.std.specs.Prelude.{◌≡◌, map, replicate, None, IfOk};
+ghost use Rattle.std.specs.Option.{option_map};
+ghost use Rattle.ij_text.specs.Numbers.{tern_bits};
+ghost use Rattle.icl_elab.specs.Roles.{seen_word};
+ghost use Rattle.icl_signals.specs.Connecting.{resets};
+
+use icl_elab::Part;
+use ij_bits::{Bits, List, OutOfMemory, Tern};
+use ij_text::{Name, name_of};
+use std::alloc::Global;
+
+/// The same bits.
+pub(crate) fn bits_copy(alloc: Global, bits: &Tern) -> Result<Tern, OutOfMemory>
+    ensures { IfOk result (λ t. tern_bits t ≡ tern_bits bits.now) }
+{
+    let value = bits.value.slice(alloc, 0, bits.value.len())?;
+    let care = bits.care.slice(alloc, 0, bits.care.len())?;
+    Ok(Tern { value, care })
+}
+
+/// So many bits, all of them open.
+fn all_open(alloc: Global, width: u32) -> Result<Tern, OutOfMemory>
+    ensures { IfOk result (λ t. tern_bits t ≡ replicate width None) }
+{
+    let value = Bits::zeros(alloc, width)?;
+    let care = Bits::zeros(alloc, width)?;
+    Ok(Tern { value, care })
+}
+
+/// The reset values of a register: all open where there are none.
+pub(crate) fn resets(alloc: Global, width: u32, reset: &Option<Tern>) -> Result<Tern, OutOfMemory>
+    ensures { IfOk result (λ t. tern_bits t ≡ resets width (option_map tern_bits reset.now)) }
+{
+    match reset {
+        Some(bits) => bits_copy(alloc, bits),
+        None => all_open(alloc, width),
+    }
+}
+
+/// The same values.
+pub(crate) fn values_copy(alloc: Global, values: &[Tern]) -> Result<List<Tern>, OutOfMemory>
+    ensures { IfOk result (λ all. map tern_bits all.items ≡ map tern_bits values.now) }
+{
+    let mut all = List::new(alloc);
+    for value in values {
+        all.push(bits_copy(alloc, value)?)?;
+    }
+    Ok(all)
+}
+
+/// A word of an enumeration, with its value.
+fn word_copy(alloc: Global, word: &(Name, Tern)) -> Result<(Name, Tern), OutOfMemory>
+    ensures { IfOk result (λ w. seen_word w ≡ seen_word word.now) }
+{
+    let name = name_of(alloc, word.0.as_slice())?;
+    let value = bits_copy(alloc, &word.1)?;
+    Ok((name, value))
+}
+
+/// The words of a part's enumeration, with their values.
+pub(crate) fn words_copy(alloc: Global, part: &Part) -> Result<List<(Name, Tern)>, OutOfMemory>
+    ensures { IfOk result (λ words. map seen_word words.items ≡ map seen_word part.now.words.items) }
+{
+    let mut words = List::new(alloc);
+    for word in part.words.as_slice() {
+        words.push(word_copy(alloc, word)?)?;
+    }
+    Ok(words)
+}

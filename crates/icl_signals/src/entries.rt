@@ -1,0 +1,86 @@
+// The parts of a kind in all cells, in the order of the cells and in a cell in that of the text.
+ghost use Rattle.std.specs.Prelude.{◌≡◌, ◌+◌, ◌++◌, map, filter, All, Some, slice_get, IfOk};
+ghost use Rattle.icl_elab.specs.Roles.{seen_part, seen_cell, seen_hier};
+ghost use Rattle.icl_signals.specs.Moves.{entries_in};
+ghost use Rattle.icl_signals.specs.Connecting.{entries_that};
+ghost use Rattle.icl_signals.specs.Kinds.{test_of};
+ghost use Rattle.icl_signals.specs.Told.{seen_entry, ArePlaced};
+
+use crate::parts::{Kind, is_of};
+use icl_elab::{Cell, Hier, Part};
+use ij_bits::OutOfMemory;
+use std::alloc::Global;
+
+/// A part with its number and that of its cell.
+#[derive(Clone, Copy, Drop)]
+pub struct PartAt<'a> {
+    /// The cell, by its number.
+    pub(crate) cell: u32,
+    /// The part of that cell, by its number.
+    pub(crate) part: u32,
+    /// The part.
+    pub(crate) what: &'a Part,
+}
+
+/// The next number, if there is one.
+pub(crate) fn next(number: u32) -> Result<u32, OutOfMemory>
+    ensures { IfOk result (λ n. n ≡ number + 1) }
+{
+    match number.checked_add(1) {
+        Some(n) => Ok(n),
+        None => Err(OutOfMemory),
+    }
+}
+
+/// Parts with those of a kind in a cell behind them.
+fn with_cell<'a>(
+    kind: Kind,
+    number: u32,
+    cell: &'a Cell,
+    found: Vec<PartAt<'a>>,
+) -> Result<Vec<PartAt<'a>>, OutOfMemory>
+    ensures { IfOk result (λ all. map seen_entry all.items ≡ map seen_entry found.entry.items ++ filter (λ e. test_of kind e.what.role) (entries_in (number, seen_cell cell.now))) }
+{
+    let mut all = found;
+    let mut part = 0;
+    for what in cell.parts.as_slice() {
+        if is_of(kind, &what.body) {
+            all.push(PartAt {
+                cell: number,
+                part,
+                what,
+            })?;
+        }
+        part = next(part)?;
+    }
+    Ok(all)
+}
+
+/// The parts of a kind in all cells of a hierarchy.
+pub(crate) fn entries_of<'a>(
+    alloc: Global,
+    kind: Kind,
+    hier: &'a Hier,
+) -> Result<Vec<PartAt<'a>>, OutOfMemory>
+    ensures { IfOk result (λ all. map seen_entry all.items ≡ entries_that (test_of kind) (seen_hier hier.now)) }
+{
+    let mut all = Vec::new(alloc);
+    let mut number = 0;
+    for cell in hier.cells.as_slice() {
+        all = with_cell(kind, number, cell, all)?;
+        number = next(number)?;
+    }
+    Ok(all)
+}
+
+/// The parts of a kind in one cell.
+pub(crate) fn entries_at<'a>(
+    alloc: Global,
+    kind: Kind,
+    number: u32,
+    cell: &'a Cell,
+) -> Result<Vec<PartAt<'a>>, OutOfMemory>
+    ensures { IfOk result (λ all. map seen_entry all.items ≡ filter (λ e. test_of kind e.what.role) (entries_in (number, seen_cell cell.now))) }
+{
+    with_cell(kind, number, cell, Vec::new(alloc))
+}

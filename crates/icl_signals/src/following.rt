@@ -1,0 +1,193 @@
+// Following a signal bit to where its trace ends.
+ghost use Rattle.std.specs.Prelude.{◌≡◌, Bool, get_or, false, slice_get};
+ghost use Rattle.ij_bits.specs.BitLists.{flip_if};
+ghost use Rattle.icl_elab.specs.Roles.{seen_body, seen_refs};
+ghost use Rattle.icl_signals.specs.Wirings.{IsWiring, cells_of};
+ghost use Rattle.icl_signals.specs.Told.{IsTold, IsToldNext, IsConstant, resume};
+ghost use Rattle.icl_signals.specs.Moves.{stands_for, role_move, one_ref, ref_in, data_input, data_output, is_instrument_cell, is_entry};
+ghost use Rattle.icl_signals.specs.Traces.{follow, trace, from_ref, from_move};
+ghost use Rattle.std.specs.Option.{option_map};
+
+use crate::parts::{is_top, part_at};
+use crate::wires::{End, StandsFor, Wire};
+use crate::wiring::Wiring;
+use icl_elab::{Body, Ref};
+use ij_bits::List;
+
+fn one_ref(signal: Option<Ref>) -> StandsFor
+    ensures { result ≡ one_ref signal }
+{
+    match signal {
+        Some(r) => StandsFor::Another(r),
+        None => StandsFor::NothingAtAll,
+    }
+}
+
+/// The bit at a position, if there are any.
+fn ref_in(refs: &Option<List<Ref>>, pos: u32) -> StandsFor
+    ensures { result ≡ ref_in (option_map seen_refs refs.now) pos }
+{
+    match refs {
+        Some(refs) => one_ref(refs.as_slice().get(pos as usize).copied()),
+        None => StandsFor::NothingAtAll,
+    }
+}
+
+/// What a bit of a part stands for, where the part's cell may be the top or an instrument.
+fn role_move(top: bool, instrument: bool, body: &Body, pos: u32) -> StandsFor
+    ensures { result ≡ role_move top instrument (seen_body body.now) pos }
+{
+    match body {
+        Body::Register { .. } => StandsFor::ARegisterBit,
+        Body::Mux { .. } => StandsFor::AMuxOutput,
+        Body::ScanIn { bound } => one_ref(*bound),
+        Body::ScanOut { source } => one_ref(*source),
+        Body::DataIn { bound } => {
+            if top {
+                StandsFor::AFreeInput
+            } else {
+                ref_in(bound, pos)
+            }
+        }
+        Body::DataOut { source } => match source {
+            Some(_) => ref_in(source, pos),
+            None => {
+                if instrument {
+                    StandsFor::AnInstrumentOutput
+                } else {
+                    StandsFor::NothingAtAll
+                }
+            }
+        },
+        _ => StandsFor::NothingAtAll,
+    }
+}
+
+fn is_instrument_cell(wiring: &Wiring, cell: u32) -> bool
+    requires { IsWiring wiring.now }
+    ensures { result ≡ is_instrument_cell (cells_of wiring.now) cell }
+{
+    match wiring.instruments.get(cell as usize) {
+        Some(flag) => *flag,
+        None => false,
+    }
+}
+
+fn is_entry(entry: Wire, wire: Wire) -> bool
+    ensures { result ≡ is_entry entry wire }
+{
+    wire.cell == entry.cell && wire.part == entry.part
+}
+
+/// What a bit stands for. Takes no memory.
+#[tactic(auto, unfolding(crate::specs::Moves::stands_for))]
+pub(crate) fn next_move(wiring: &Wiring, wire: Wire) -> StandsFor
+    requires { IsWiring wiring.now }
+    ensures { result ≡ stands_for (cells_of wiring.now) wiring.now.entry wire }
+{
+    if is_entry(wiring.entry, wire) {
+        return StandsFor::TheEntry;
+    }
+    let top = is_top(wiring.hier, wire.cell);
+    let instrument = is_instrument_cell(wiring, wire.cell);
+    match part_at(wiring.hier, wire.cell, wire.part) {
+        Some(part) => role_move(top, instrument, &part.body, wire.pos),
+        None => StandsFor::NothingAtAll,
+    }
+}
+
+fn flipped(turned: bool, inverted: bool) -> bool
+    ensures { result ≡ flip_if turned inverted }
+{
+    if turned { !inverted } else { inverted }
+}
+
+/// The next bit of a trace, or its end.
+#[derive(Clone, Copy, Drop)]
+pub enum Next {
+    /// The trace ends so.
+    Ended(End),
+    /// It goes on at this bit.
+    At {
+        /// The bit.
+        wire: Wire,
+        /// Whether the inverse of the bit is meant.
+        inverted: bool,
+    },
+}
+
+/// What a reference, inverted or not, leads to.
+fn next_of(inverted: bool, r: Ref) -> Next
+    ensures value { (go : Bool → Wire → End) → from_ref go inverted r ≡ resume go result }
+    ensures told { IsConstant result }
+{
+    match r {
+        Ref::Fixed(b) => Next::Ended(End::AtConstant(flipped(inverted, b))),
+        Ref::Bit {
+            cell,
+            part,
+            pos,
+            inverted: turned,
+        } => Next::At {
+            wire: Wire { cell, part, pos },
+            inverted: flipped(turned, inverted),
+        },
+    }
+}
+
+/// One move of a trace.
+fn one_move(wiring: &Wiring, inverted: bool, wire: Wire) -> Next
+    requires { IsWiring wiring.now }
+    ensures value { (go : Bool → Wire → End) → from_move go inverted wire (stands_for (cells_of wiring.now) wiring.now.entry wire) ≡ resume go result }
+    ensures told { IsToldNext (cells_of wiring.now) wiring.now.entry result }
+{
+    match next_move(wiring, wire) {
+        StandsFor::Another(r) => next_of(inverted, r),
+        stands => Next::Ended(End::AtBit {
+            wire,
+            inverted,
+            stands,
+        }),
+    }
+}
+
+/// Where the trace of a bit, inverted or not, ends. Takes no memory.
+fn follow(wiring: &Wiring, inverted: bool, wire: Wire) -> End
+    requires { IsWiring wiring.now }
+    ensures value { result ≡ follow (cells_of wiring.now) wiring.now.entry wiring.now.looks inverted wire }
+    ensures told { IsTold (cells_of wiring.now) wiring.now.entry result }
+{
+    let mut inverted = inverted;
+    let mut wire = wire;
+    for _look in 0..wiring.looks {
+        match one_move(wiring, inverted, wire) {
+            Next::Ended(end) => return end,
+            Next::At {
+                wire: other,
+                inverted: turned,
+            } => {
+                wire = other;
+                inverted = turned;
+            }
+        }
+    }
+    End::InLoop
+}
+
+/// Where the trace of a reference ends. Takes no memory.
+#[tactic(auto, unfolding(crate::specs::Traces::trace))]
+pub(crate) fn trace(wiring: &Wiring, r: Ref) -> End
+    requires { IsWiring wiring.now }
+    ensures value { result ≡ trace (cells_of wiring.now) wiring.now.entry r }
+    ensures told { IsTold (cells_of wiring.now) wiring.now.entry result }
+{
+    match r {
+        Ref::Fixed(b) => End::AtConstant(b),
+        Ref::Bit {
+            cell,
+            part,
+            pos,
+            inverted,
+        } => follow(wiring, flipped(inverted, false), Wire { cell, part, pos }),
+    }
+}

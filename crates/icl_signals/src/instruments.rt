@@ -1,0 +1,145 @@
+// The instruments of a network.
+ghost use Rattle.std.specs.Prelude.{◌≡◌, ◌∷◌, [], map, filter, All, IfOk};
+ghost use Rattle.std.specs.List.{enumerate_from};
+ghost use Rattle.icl_values.specs.Faults.{each};
+ghost use Rattle.icl_elab.specs.Roles.{part_width, seen_part, seen_cell, seen_hier};
+ghost use Rattle.icl_signals.specs.Refusals.{Gives, behind};
+ghost use Rattle.icl_signals.specs.Wirings.{IsWiring, cells_of};
+ghost use Rattle.icl_signals.specs.Moves.{is_instrument};
+ghost use Rattle.icl_signals.specs.Told.{seen_entry};
+ghost use Rattle.icl_signals.specs.Inside.{numbered};
+ghost use Rattle.icl_signals.specs.PlainNets.{seen_input, seen_output, seen_inst};
+ghost use Rattle.icl_signals.specs.Connecting.{own_bits, input_from, input_of, output_of, instrument_of, instruments};
+
+use crate::ConnectFault;
+use crate::ends::input_from;
+use crate::entries::{PartAt, entries_at, next};
+use crate::parts::{Kind, is_instrument};
+use crate::registers::width_of;
+use crate::wiring::Wiring;
+use icl_elab::{Cell, Ref};
+use ij_bits::{List, OutOfMemory};
+use ij_text::name_of;
+use net_graph::{Inst, PortIn, PortOut, Sig};
+use std::alloc::Global;
+
+/// What drives each bit of an input, position 0 first.
+fn input_bits(alloc: Global, wiring: &Wiring, e: PartAt) -> Result<List<Sig>, ConnectFault>
+    requires { IsWiring wiring.now }
+    ensures { Gives (λ all. all.items) result (each (input_from (cells_of wiring.now) wiring.now.entry e.entry.what.now.at) (own_bits (seen_entry e.entry))) }
+{
+    let part = e.what;
+    let width = width_of(part)?;
+    let mut all = List::new(alloc);
+    for pos in 0..width {
+        let bit = Ref::Bit {
+            cell: e.cell,
+            part: e.part,
+            pos,
+            inverted: false,
+        };
+        let signal = input_from(wiring, part.at, bit)?;
+        all.push(signal)?;
+    }
+    Ok(all)
+}
+
+fn input_of(alloc: Global, wiring: &Wiring, e: PartAt) -> Result<PortIn, ConnectFault>
+    requires { IsWiring wiring.now }
+    ensures { Gives seen_input result (input_of (cells_of wiring.now) wiring.now.entry e.entry.cell (numbered (seen_entry e.entry))) }
+{
+    let bits = input_bits(alloc, wiring, e)?;
+    let name = name_of(alloc, e.what.name.as_slice())?;
+    Ok(PortIn { name, bits })
+}
+
+fn output_of(alloc: Global, e: PartAt) -> Result<PortOut, OutOfMemory>
+    ensures { IfOk result (λ port. seen_output port ≡ output_of (numbered (seen_entry e.entry))) }
+{
+    let name = name_of(alloc, e.what.name.as_slice())?;
+    let width = width_of(e.what)?;
+    Ok(PortOut { name, width })
+}
+
+fn inputs(
+    alloc: Global,
+    wiring: &Wiring,
+    cell: u32,
+    parts: &[PartAt],
+) -> Result<List<PortIn>, ConnectFault>
+    requires wiring { IsWiring wiring.now }
+    requires here { All (λ e. e.cell ≡ cell) parts.now }
+    ensures { Gives (λ all. map seen_input all.items) result (each (input_of (cells_of wiring.now) wiring.now.entry cell) (map (λ e. numbered (seen_entry e)) parts.now)) }
+{
+    let mut all = List::new(alloc);
+    for e in parts {
+        let port = input_of(alloc, wiring, *e)?;
+        all.push(port)?;
+    }
+    Ok(all)
+}
+
+fn outputs(alloc: Global, parts: &[PartAt]) -> Result<List<PortOut>, OutOfMemory>
+    ensures { IfOk result (λ all. map seen_output all.items ≡ map (λ e. output_of (numbered (seen_entry e))) parts.now) }
+{
+    let mut all = List::new(alloc);
+    for e in parts {
+        all.push(output_of(alloc, *e)?)?;
+    }
+    Ok(all)
+}
+
+/// The instrument that a cell is.
+#[tactic(auto, unfolding(crate::specs::Connecting::instrument_of))]
+fn instrument_of(
+    alloc: Global,
+    wiring: &Wiring,
+    number: u32,
+    cell: &Cell,
+) -> Result<Inst, ConnectFault>
+    requires { IsWiring wiring.now }
+    ensures { Gives seen_inst result (instrument_of (cells_of wiring.now) wiring.now.entry (number, seen_cell cell.now)) }
+{
+    let data_in = entries_at(alloc, Kind::Input, number, cell)?;
+    let ins = inputs(alloc, wiring, number, data_in.as_slice())?;
+    let data_out = entries_at(alloc, Kind::Output, number, cell)?;
+    let outs = outputs(alloc, data_out.as_slice())?;
+    Ok(Inst {
+        node: number,
+        ins,
+        outs,
+    })
+}
+
+/// The instruments with the one that a cell is, if it is one.
+fn with_instrument(
+    alloc: Global,
+    wiring: &Wiring,
+    number: u32,
+    cell: &Cell,
+    found: List<Inst>,
+) -> Result<List<Inst>, ConnectFault>
+    requires { IsWiring wiring.now }
+    ensures { Gives (λ all. map seen_inst all.items) result (behind (map seen_inst found.items) (each (instrument_of (cells_of wiring.now) wiring.now.entry) (filter (λ c. is_instrument c.1) ((number, seen_cell cell.now) ∷ [])))) }
+{
+    let mut all = found;
+    if is_instrument(cell) {
+        let inst = instrument_of(alloc, wiring, number, cell)?;
+        all.push(inst)?;
+    }
+    Ok(all)
+}
+
+/// The instruments of the network.
+pub(crate) fn instruments(alloc: Global, wiring: &Wiring) -> Result<List<Inst>, ConnectFault>
+    requires { IsWiring wiring.now }
+    ensures { Gives (λ all. map seen_inst all.items) result (each (instrument_of (cells_of wiring.now) wiring.now.entry) (instruments (cells_of wiring.now))) }
+{
+    let mut all = List::new(alloc);
+    let mut number = 0;
+    for cell in wiring.hier.cells.as_slice() {
+        all = with_instrument(alloc, wiring, number, cell, all)?;
+        number = next(number)?;
+    }
+    Ok(all)
+}

@@ -1,0 +1,113 @@
+// The numbers of registers, multiplexers, things, instruments and their outputs: for each, how many of its kind stand in front.
+ghost use Rattle.std.specs.Prelude.{◌≡◌, ◌+◌, [], map, get_or, IfOk};
+ghost use Rattle.icl_elab.specs.Roles.{seen_part, seen_cell};
+ghost use Rattle.icl_signals.specs.Kinds.{is_of, one_if, in_front, with_all, numbers_from, number_at};
+
+use crate::parts::{Kind, is_of};
+use icl_elab::{Cell, Part};
+use ij_bits::OutOfMemory;
+use std::alloc::Global;
+
+/// One more, if there is room for it.
+fn more(count: u32, is_one: bool) -> Result<u32, OutOfMemory>
+    ensures { IfOk result (λ next. next ≡ count + one_if is_one) }
+{
+    if !is_one {
+        return Ok(count);
+    }
+    match count.checked_add(1) {
+        Some(next) => Ok(next),
+        None => Err(OutOfMemory),
+    }
+}
+
+/// For each part how many of a kind stand in front of it, and how many there are behind the last one.
+#[derive(Drop)]
+pub(crate) struct InFront {
+    /// For each part.
+    numbers: Vec<u32>,
+    /// Behind the last one.
+    count: u32,
+}
+
+fn in_front(alloc: Global, kind: Kind, count: u32, parts: &[Part]) -> Result<InFront, OutOfMemory>
+    ensures numbers { IfOk result (λ f. f.numbers.items ≡ in_front (is_of kind) count (map seen_part parts.now)) }
+    ensures count { IfOk result (λ f. f.count ≡ with_all (is_of kind) count (map seen_part parts.now)) }
+{
+    let mut numbers = Vec::new(alloc);
+    let mut next = count;
+    for part in parts {
+        numbers.push(next)?;
+        next = more(next, is_of(kind, &part.body))?;
+    }
+    Ok(InFront {
+        numbers,
+        count: next,
+    })
+}
+
+/// For each part of each cell how many of a kind stand in front of it in the hierarchy.
+pub(crate) fn numbers_of(
+    alloc: Global,
+    kind: Kind,
+    cells: &[Cell],
+) -> Result<Vec<Vec<u32>>, OutOfMemory>
+    ensures { IfOk result (λ table. map (λ row. row.items) table.items ≡ numbers_from kind 0 (map seen_cell cells.now)) }
+{
+    let mut table = Vec::new(alloc);
+    let mut count = 0;
+    for cell in cells {
+        let found = in_front(alloc, kind, count, cell.parts.as_slice())?;
+        count = found.count;
+        table.push(found.numbers)?;
+    }
+    Ok(table)
+}
+
+/// For each part of each cell how many outputs stand in front of it in that cell.
+pub(crate) fn outputs_of(alloc: Global, cells: &[Cell]) -> Result<Vec<Vec<u32>>, OutOfMemory>
+    ensures { IfOk result (λ table. map (λ row. row.items) table.items ≡ map (λ c. in_front (is_of Kind.Output) 0 c.parts) (map seen_cell cells.now)) }
+{
+    let mut table = Vec::new(alloc);
+    for cell in cells {
+        let found = in_front(alloc, Kind::Output, 0, cell.parts.as_slice())?;
+        table.push(found.numbers)?;
+    }
+    Ok(table)
+}
+
+/// For each cell how many instruments stand in front of it.
+pub(crate) fn instruments_of(alloc: Global, flags: &[bool]) -> Result<Vec<u32>, OutOfMemory>
+    ensures { IfOk result (λ numbers. numbers.items ≡ in_front (λ b. b) 0 flags.now) }
+{
+    let mut numbers = Vec::new(alloc);
+    let mut next = 0;
+    for flag in flags {
+        numbers.push(next)?;
+        next = more(next, *flag)?;
+    }
+    Ok(numbers)
+}
+
+/// The number of a cell, 0 for one that isn't there. Takes no memory.
+pub(crate) fn number_of(numbers: &[u32], cell: u32) -> u32
+    ensures { result ≡ get_or numbers.now cell 0 }
+{
+    match numbers.get(cell as usize) {
+        Some(number) => *number,
+        None => 0,
+    }
+}
+
+/// The number at a part, 0 for one that isn't there. Takes no memory.
+pub(crate) fn number_at(table: &[Vec<u32>], cell: u32, part: u32) -> u32
+    ensures { result ≡ number_at (map (λ row. row.items) table.now) cell part }
+{
+    match table.get(cell as usize) {
+        Some(row) => match row.get(part as usize) {
+            Some(number) => *number,
+            None => 0,
+        },
+        None => 0,
+    }
+}

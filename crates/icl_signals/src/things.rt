@@ -1,0 +1,120 @@
+// What procedures may name in a network.
+ghost use Rattle.std.specs.Prelude.{◌≡◌, map, Some, None, IfOk};
+ghost use Rattle.std.specs.Option.{option_map};
+ghost use Rattle.icl_elab.specs.Roles.{seen_part, part_at};
+ghost use Rattle.icl_signals.specs.Wirings.{IsWiring, cells_of};
+ghost use Rattle.icl_signals.specs.Told.{IsPlaced, ArePlaced, seen_entry};
+ghost use Rattle.icl_signals.specs.PlainNets.{seen_thing};
+ghost use Rattle.icl_signals.specs.Connecting.{own_bits, spot_of, thing_of, number_among, is_register};
+
+use crate::copies::words_copy;
+use crate::ends::{constant, signal_from};
+use crate::entries::PartAt;
+use crate::numbers::number_at;
+use crate::parts::part_at;
+use crate::registers::width_of;
+use crate::wiring::Wiring;
+use icl_elab::{Body, Ref};
+use ij_bits::{List, OutOfMemory};
+use ij_text::name_of;
+use net_graph::{BitId, Spot, Thing};
+use std::alloc::Global;
+
+/// What a bit of a thing is.
+fn spot_of(wiring: &Wiring, r: Ref) -> Spot
+    requires { IsWiring wiring.now }
+    ensures { result ≡ spot_of (cells_of wiring.now) wiring.now.entry r }
+{
+    match r {
+        Ref::Fixed(b) => Spot::Outward(constant(b)),
+        Ref::Bit {
+            cell,
+            part,
+            pos,
+            ..
+        } => match part_at(wiring.hier, cell, part) {
+            Some(p) => match &p.body {
+                Body::Register { .. } => Spot::Held(BitId {
+                    reg: number_at(wiring.registers.as_slice(), cell, part),
+                    pos,
+                }),
+                Body::DataIn { .. } => Spot::Inward(signal_from(wiring, p.at, r)),
+                _ => Spot::Outward(signal_from(wiring, p.at, r)),
+            },
+            None => Spot::Outward(net_graph::Sig::Absent),
+        },
+    }
+}
+
+/// The bits that references name.
+fn named_spots(alloc: Global, wiring: &Wiring, refs: &[Ref]) -> Result<List<Spot>, OutOfMemory>
+    requires { IsWiring wiring.now }
+    ensures { IfOk result (λ all. all.items ≡ map (spot_of (cells_of wiring.now) wiring.now.entry) refs.now) }
+{
+    let mut all = List::new(alloc);
+    all.reserve(refs.len())?;
+    for r in refs {
+        all.push(spot_of(wiring, *r))?;
+    }
+    Ok(all)
+}
+
+/// The bits of a part, position 0 first.
+fn own_spots(alloc: Global, wiring: &Wiring, e: PartAt) -> Result<List<Spot>, OutOfMemory>
+    requires { IsWiring wiring.now }
+    ensures { IfOk result (λ all. all.items ≡ map (spot_of (cells_of wiring.now) wiring.now.entry) (own_bits (seen_entry e.entry))) }
+{
+    let width = width_of(e.what)?;
+    let mut all = List::new(alloc);
+    for pos in 0..width {
+        all.push(spot_of(
+            wiring,
+            Ref::Bit {
+                cell: e.cell,
+                part: e.part,
+                pos,
+                inverted: false,
+            },
+        ))?;
+    }
+    Ok(all)
+}
+
+/// What procedures may name by a part.
+#[tactic(auto, unfolding(crate::specs::Connecting::thing_of))]
+fn thing_of(alloc: Global, wiring: &Wiring, e: PartAt) -> Result<Thing, OutOfMemory>
+    requires { IsWiring wiring.now }
+    ensures { IfOk result (λ t. seen_thing t ≡ thing_of (cells_of wiring.now) wiring.now.entry (seen_entry e.entry)) }
+{
+    let part = e.what;
+    let bits = match &part.body {
+        Body::Alias { refs } => named_spots(alloc, wiring, refs.as_slice())?,
+        _ => own_spots(alloc, wiring, e)?,
+    };
+    let name = name_of(alloc, part.name.as_slice())?;
+    let words = words_copy(alloc, part)?;
+    Ok(Thing {
+        node: e.cell,
+        name,
+        left: part.left,
+        right: part.right,
+        bits,
+        words,
+    })
+}
+
+/// What procedures may name.
+pub(crate) fn things(
+    alloc: Global,
+    wiring: &Wiring,
+    parts: &[PartAt],
+) -> Result<List<Thing>, OutOfMemory>
+    requires { IsWiring wiring.now }
+    ensures { IfOk result (λ all. map seen_thing all.items ≡ map (thing_of (cells_of wiring.now) wiring.now.entry) (map seen_entry parts.now)) }
+{
+    let mut all = List::new(alloc);
+    for e in parts {
+        all.push(thing_of(alloc, wiring, *e)?)?;
+    }
+    Ok(all)
+}

@@ -1,0 +1,98 @@
+// What following a signal looks at.
+ghost use Rattle.std.specs.Prelude.{◌≡◌, ◌+◌, map, sum_by, IfOk};
+ghost use Rattle.icl_elab.specs.Roles.{part_width, seen_part, seen_cell, seen_hier};
+ghost use Rattle.icl_signals.specs.Wirings.{IsWiring, cells_of};
+ghost use Rattle.icl_signals.specs.Traces.{signal_bits};
+
+use crate::numbers::{instruments_of, numbers_of, outputs_of};
+use crate::parts::{Kind, instrument_flags, width};
+use crate::wires::Wire;
+use icl_elab::{Cell, Hier, Part};
+use ij_bits::OutOfMemory;
+use std::alloc::Global;
+
+/// What following a signal looks at, made once for a network.
+#[derive(Drop)]
+pub struct Wiring<'a> {
+    /// The hierarchy.
+    pub(crate) hier: &'a Hier,
+    /// Which of its cells are instruments.
+    pub(crate) instruments: Vec<bool>,
+    /// For each cell how many instruments stand in front of it.
+    pub(crate) instrument_numbers: Vec<u32>,
+    /// For each part of each cell how many registers stand in front of it.
+    pub(crate) registers: Vec<Vec<u32>>,
+    /// The same of multiplexers.
+    pub(crate) muxes: Vec<Vec<u32>>,
+    /// The same of what procedures may name.
+    pub(crate) things: Vec<Vec<u32>>,
+    /// For each part of each cell how many outputs stand in front of it in that cell.
+    pub(crate) outputs: Vec<Vec<u32>>,
+    /// Where the network begins.
+    pub(crate) entry: Wire,
+    /// How many bits a trace looks at until it must have come back to one.
+    pub(crate) looks: u64,
+}
+
+/// More bits, if so many can be counted.
+fn added(count: u64, bits: u64) -> Result<u64, OutOfMemory>
+    ensures { IfOk result (λ sum. sum ≡ count + bits) }
+{
+    match count.checked_add(bits) {
+        Some(sum) => Ok(sum),
+        None => Err(OutOfMemory),
+    }
+}
+
+/// A count with the bits of some parts.
+fn with_parts(count: u64, parts: &[Part]) -> Result<u64, OutOfMemory>
+    ensures { IfOk result (λ sum. sum ≡ count + sum_by part_width (map seen_part parts.now)) }
+{
+    let mut sum = count;
+    for part in parts {
+        sum = added(sum, width(part))?;
+    }
+    Ok(sum)
+}
+
+/// How many signal bits there are.
+fn count_bits(cells: &[Cell]) -> Result<u64, OutOfMemory>
+    ensures { IfOk result (λ sum. sum ≡ signal_bits (map seen_cell cells.now)) }
+{
+    let mut sum = 0;
+    for cell in cells {
+        sum = with_parts(sum, cell.parts.as_slice())?;
+    }
+    Ok(sum)
+}
+
+/// What following a signal of a hierarchy looks at, where the network begins at `entry`.
+pub(crate) fn wiring_of<'a>(
+    alloc: Global,
+    hier: &'a Hier,
+    entry: Wire,
+) -> Result<Wiring<'a>, OutOfMemory>
+    ensures is { IfOk result (λ g. IsWiring g) }
+    ensures cells { IfOk result (λ g. cells_of g ≡ seen_hier hier.now) }
+    ensures entry { IfOk result (λ g. g.entry ≡ entry) }
+{
+    let cells = hier.cells.as_slice();
+    let instruments = instrument_flags(alloc, cells)?;
+    let instrument_numbers = instruments_of(alloc, instruments.as_slice())?;
+    let registers = numbers_of(alloc, Kind::Register, cells)?;
+    let muxes = numbers_of(alloc, Kind::Mux, cells)?;
+    let things = numbers_of(alloc, Kind::Thing, cells)?;
+    let outputs = outputs_of(alloc, cells)?;
+    let looks = added(count_bits(cells)?, 1)?;
+    Ok(Wiring {
+        hier,
+        instruments,
+        instrument_numbers,
+        registers,
+        muxes,
+        things,
+        outputs,
+        entry,
+        looks,
+    })
+}
