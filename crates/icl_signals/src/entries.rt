@@ -2,12 +2,13 @@
 ghost use Rattle.std.specs.Prelude.{◌≡◌, ◌+◌, ◌++◌, map, filter, All, Some, slice_get, IfOk};
 ghost use Rattle.icl_elab.specs.Roles.{seen_part, seen_cell, seen_hier};
 ghost use Rattle.icl_signals.specs.Moves.{entries_in};
-ghost use Rattle.icl_signals.specs.Connecting.{entries_that};
+ghost use Rattle.icl_signals.specs.Connecting.{entries_that, own_bits, parts_that};
 ghost use Rattle.icl_signals.specs.Kinds.{test_of};
 ghost use Rattle.icl_signals.specs.Told.{seen_entry, ArePlaced};
+ghost use Rattle.icl_signals.specs.Inside.{numbered};
 
-use crate::parts::{Kind, is_of};
-use icl_elab::{Cell, Hier, Part};
+use crate::parts::{Kind, is_of, width_of};
+use icl_elab::{Cell, Hier, Part, Ref};
 use ij_bits::OutOfMemory;
 use std::alloc::Global;
 
@@ -80,7 +81,30 @@ pub(crate) fn entries_at<'a>(
     number: u32,
     cell: &'a Cell,
 ) -> Result<Vec<PartAt<'a>>, OutOfMemory>
-    ensures { IfOk result (λ all. map seen_entry all.items ≡ filter (λ e. test_of kind e.what.role) (entries_in (number, seen_cell cell.now))) }
+    ensures { IfOk result (λ all. map (λ e. numbered (seen_entry e)) all.items ≡ parts_that (test_of kind) (seen_cell cell.now)) }
 {
-    with_cell(kind, number, cell, Vec::new(alloc))
+    let all = with_cell(kind, number, cell, Vec::new(alloc))?;
+    Ok(all)
+}
+
+/// The bits of a part of this number in a cell of this number, position 0 first.
+pub(crate) fn own_refs(
+    alloc: Global,
+    cell: u32,
+    part: u32,
+    what: &Part,
+) -> Result<Vec<Ref>, OutOfMemory>
+    ensures { IfOk result (λ refs. refs.items ≡ own_bits (record { cell = cell; part = part; what = seen_part what.now })) }
+{
+    let width = width_of(what)?;
+    let mut refs = Vec::new(alloc);
+    for pos in 0..width {
+        refs.push(Ref::Bit {
+            cell,
+            part,
+            pos,
+            inverted: false,
+        })?;
+    }
+    Ok(refs)
 }

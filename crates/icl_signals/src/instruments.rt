@@ -1,5 +1,5 @@
 // The instruments of a network.
-ghost use Rattle.std.specs.Prelude.{◌≡◌, ◌∷◌, [], map, filter, All, IfOk};
+ghost use Rattle.std.specs.Prelude.{◌≡◌, ◌∷◌, [], map, filter, IfOk};
 ghost use Rattle.std.specs.List.{enumerate_from};
 ghost use Rattle.icl_values.specs.Faults.{each};
 ghost use Rattle.icl_elab.specs.Roles.{part_width, seen_part, seen_cell, seen_hier};
@@ -9,46 +9,44 @@ ghost use Rattle.icl_signals.specs.Moves.{is_instrument};
 ghost use Rattle.icl_signals.specs.Told.{seen_entry};
 ghost use Rattle.icl_signals.specs.Inside.{numbered};
 ghost use Rattle.icl_signals.specs.PlainNets.{seen_input, seen_output, seen_inst};
-ghost use Rattle.icl_signals.specs.Connecting.{own_bits, input_from, input_of, output_of, instrument_of, instruments};
+ghost use Rattle.icl_signals.specs.Connecting.{input_from, input_of, output_of, instrument_of, instruments};
 
 use crate::ConnectFault;
 use crate::ends::input_from;
-use crate::entries::{PartAt, entries_at, next};
-use crate::parts::{Kind, is_instrument};
-use crate::registers::width_of;
+use crate::entries::{PartAt, entries_at, next, own_refs};
+use crate::parts::{Kind, is_instrument, width_of};
 use crate::wiring::Wiring;
 use icl_elab::{Cell, Ref};
 use ij_bits::{List, OutOfMemory};
-use ij_text::name_of;
+use ij_text::{Place, name_of};
 use net_graph::{Inst, PortIn, PortOut, Sig};
 use std::alloc::Global;
 
-/// What drives each bit of an input, position 0 first.
-fn input_bits(alloc: Global, wiring: &Wiring, e: PartAt) -> Result<List<Sig>, ConnectFault>
+/// What drives bits of an input.
+fn input_bits(
+    alloc: Global,
+    wiring: &Wiring,
+    at: Place,
+    refs: &[Ref],
+) -> Result<List<Sig>, ConnectFault>
     requires { IsWiring wiring.now }
-    ensures { Gives (λ all. all.items) result (each (input_from (cells_of wiring.now) wiring.now.entry e.entry.what.now.at) (own_bits (seen_entry e.entry))) }
+    ensures { Gives (λ all. all.items) result (each (input_from (cells_of wiring.now) wiring.now.entry at) refs.now) }
 {
-    let part = e.what;
-    let width = width_of(part)?;
     let mut all = List::new(alloc);
-    for pos in 0..width {
-        let bit = Ref::Bit {
-            cell: e.cell,
-            part: e.part,
-            pos,
-            inverted: false,
-        };
-        let signal = input_from(wiring, part.at, bit)?;
+    for r in refs {
+        let signal = input_from(wiring, at, *r)?;
         all.push(signal)?;
     }
     Ok(all)
 }
 
-fn input_of(alloc: Global, wiring: &Wiring, e: PartAt) -> Result<PortIn, ConnectFault>
+/// An input of the instrument that this cell is.
+fn input_of(alloc: Global, wiring: &Wiring, cell: u32, e: PartAt) -> Result<PortIn, ConnectFault>
     requires { IsWiring wiring.now }
-    ensures { Gives seen_input result (input_of (cells_of wiring.now) wiring.now.entry e.entry.cell (numbered (seen_entry e.entry))) }
+    ensures { Gives seen_input result (input_of (cells_of wiring.now) wiring.now.entry cell (numbered (seen_entry e.entry))) }
 {
-    let bits = input_bits(alloc, wiring, e)?;
+    let refs = own_refs(alloc, cell, e.part, e.what)?;
+    let bits = input_bits(alloc, wiring, e.what.at, refs.as_slice())?;
     let name = name_of(alloc, e.what.name.as_slice())?;
     Ok(PortIn { name, bits })
 }
@@ -67,20 +65,19 @@ fn inputs(
     cell: u32,
     parts: &[PartAt],
 ) -> Result<List<PortIn>, ConnectFault>
-    requires wiring { IsWiring wiring.now }
-    requires here { All (λ e. e.cell ≡ cell) parts.now }
+    requires { IsWiring wiring.now }
     ensures { Gives (λ all. map seen_input all.items) result (each (input_of (cells_of wiring.now) wiring.now.entry cell) (map (λ e. numbered (seen_entry e)) parts.now)) }
 {
     let mut all = List::new(alloc);
     for e in parts {
-        let port = input_of(alloc, wiring, *e)?;
+        let port = input_of(alloc, wiring, cell, *e)?;
         all.push(port)?;
     }
     Ok(all)
 }
 
 fn outputs(alloc: Global, parts: &[PartAt]) -> Result<List<PortOut>, OutOfMemory>
-    ensures { IfOk result (λ all. map seen_output all.items ≡ map (λ e. output_of (numbered (seen_entry e))) parts.now) }
+    ensures { IfOk result (λ all. map seen_output all.items ≡ map output_of (map (λ e. numbered (seen_entry e)) parts.now)) }
 {
     let mut all = List::new(alloc);
     for e in parts {

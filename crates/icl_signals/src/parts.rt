@@ -50,6 +50,17 @@ pub(crate) fn width(part: &Part) -> u64
     }
 }
 
+/// The width of a part as a number of 32 bits: a wider one has no room.
+pub(crate) fn width_of(part: &Part) -> Result<u32, OutOfMemory>
+    ensures { IfOk result (λ n. n ≡ part_width (seen_part part.now)) }
+{
+    let wide = width(part);
+    if wide > 0xFFFF_FFFF {
+        return Err(OutOfMemory);
+    }
+    Ok(wide as u32)
+}
+
 /// What the network numbers: registers, multiplexers, what procedures may name, and outputs and inputs of instruments.
 #[derive(Clone, Copy, Drop)]
 pub enum Kind {

@@ -16,9 +16,9 @@ use crate::copies::resets;
 use crate::ends::{data_from, scan_from};
 use crate::entries::PartAt;
 use crate::numbers::number_at;
-use crate::parts::width;
+use crate::parts::width_of;
 use crate::wiring::Wiring;
-use icl_elab::{Body, Part, Ref};
+use icl_elab::{Body, Ref};
 use ij_bits::{List, OutOfMemory};
 use ij_text::Place;
 use net_graph::{Point, Reg, Sig};
@@ -46,7 +46,7 @@ fn absent(alloc: Global, width: u32) -> Result<List<Sig>, OutOfMemory>
 }
 
 /// The data signals that references lead to.
-fn signals(
+pub(crate) fn signals(
     alloc: Global,
     wiring: &Wiring,
     at: Place,
@@ -77,17 +77,6 @@ fn captures(
         Some(refs) => signals(alloc, wiring, at, refs.as_slice()),
         None => Ok(absent(alloc, width)?),
     }
-}
-
-/// The width of a part as a number of 32 bits: a wider one has no room.
-pub(crate) fn width_of(part: &Part) -> Result<u32, OutOfMemory>
-    ensures { IfOk result (λ n. n ≡ part_width (seen_part part.now)) }
-{
-    let wide = width(part);
-    if wide > 0xFFFF_FFFF {
-        return Err(OutOfMemory);
-    }
-    Ok(wide as u32)
 }
 
 /// The number that a part has among those that procedures may name.

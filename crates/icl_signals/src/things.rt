@@ -1,5 +1,5 @@
 // What procedures may name in a network.
-ghost use Rattle.std.specs.Prelude.{◌≡◌, map, Some, None, IfOk};
+ghost use Rattle.std.specs.Prelude.{◌≡◌, map, true, Some, None, IfOk};
 ghost use Rattle.std.specs.Option.{option_map};
 ghost use Rattle.icl_elab.specs.Roles.{seen_part, part_at};
 ghost use Rattle.icl_signals.specs.Wirings.{IsWiring, cells_of};
@@ -9,16 +9,25 @@ ghost use Rattle.icl_signals.specs.Connecting.{own_bits, spot_of, thing_of, numb
 
 use crate::copies::words_copy;
 use crate::ends::{constant, signal_from};
-use crate::entries::PartAt;
+use crate::entries::{PartAt, own_refs};
 use crate::numbers::number_at;
 use crate::parts::part_at;
-use crate::registers::width_of;
 use crate::wiring::Wiring;
-use icl_elab::{Body, Ref};
+use icl_elab::{Body, Part, Ref};
 use ij_bits::{List, OutOfMemory};
 use ij_text::name_of;
 use net_graph::{BitId, Spot, Thing};
 use std::alloc::Global;
+
+/// The number of a register.
+fn register_number(wiring: &Wiring, cell: u32, part: u32, what: &Part) -> u32
+    requires wiring { IsWiring wiring.now }
+    requires placed { part_at (cells_of wiring.now) cell part ≡ Some (seen_part what.now) }
+    requires register { is_register (seen_part what.now).role ≡ true }
+    ensures { result ≡ number_among is_register (cells_of wiring.now) cell part }
+{
+    number_at(wiring.registers.as_slice(), cell, part)
+}
 
 /// What a bit of a thing is.
 fn spot_of(wiring: &Wiring, r: Ref) -> Spot
@@ -35,7 +44,7 @@ fn spot_of(wiring: &Wiring, r: Ref) -> Spot
         } => match part_at(wiring.hier, cell, part) {
             Some(p) => match &p.body {
                 Body::Register { .. } => Spot::Held(BitId {
-                    reg: number_at(wiring.registers.as_slice(), cell, part),
+                    reg: register_number(wiring, cell, part, p),
                     pos,
                 }),
                 Body::DataIn { .. } => Spot::Inward(signal_from(wiring, p.at, r)),
@@ -64,20 +73,8 @@ fn own_spots(alloc: Global, wiring: &Wiring, e: PartAt) -> Result<List<Spot>, Ou
     requires { IsWiring wiring.now }
     ensures { IfOk result (λ all. all.items ≡ map (spot_of (cells_of wiring.now) wiring.now.entry) (own_bits (seen_entry e.entry))) }
 {
-    let width = width_of(e.what)?;
-    let mut all = List::new(alloc);
-    for pos in 0..width {
-        all.push(spot_of(
-            wiring,
-            Ref::Bit {
-                cell: e.cell,
-                part: e.part,
-                pos,
-                inverted: false,
-            },
-        ))?;
-    }
-    Ok(all)
+    let refs = own_refs(alloc, e.cell, e.part, e.what)?;
+    named_spots(alloc, wiring, refs.as_slice())
 }
 
 /// What procedures may name by a part.

@@ -1,0 +1,44 @@
+-- The entries of a hierarchy are its parts, at their numbers.
+use Rattle.std.proofs.Common.{◌≡◌, ◌+◌, ◌<◌, ℕ, zero, suc, Bool, true, false, List, [], ◌∷◌, map, length, refl, sym, ap, subst, arith}
+use Rattle.std.specs.Prelude.{filter, slice_get, slice_index_or}
+use Rattle.std.specs.List.{AllByRecursion, enumerate_from}
+use Rattle.icl_elab.specs.Roles.{Role, PartOf, CellOf}
+use Rattle.icl_signals.specs.declared.entries.PartAt.{PartAt}
+use Rattle.icl_signals.specs.Moves.{Entry, entry_of, entries}
+use Rattle.icl_signals.specs.Connecting.{entries_that}
+use Rattle.icl_signals.specs.Inside.{numbered}
+use Rattle.icl_signals.specs.Told.{seen_entry, IsPlaced, ArePlaced}
+use Rattle.icl_signals.proofs.Joined.{Known, all_known}
+
+kept : {A : Type 0} (P : A → Type 0) (test : A → Bool) (xs : List A) → AllByRecursion P xs → AllByRecursion P (filter test xs)
+kept P test [] h = tt
+kept {A} P test (x ∷ xs) h = by_test (test x) refl (kept P test xs h.1)
+  where
+    by_test : (b : Bool) → test x ≡ b → AllByRecursion P (filter test xs) → AllByRecursion P (filter test (x ∷ xs))
+    by_test true e g = rw e (h.0, g)
+    by_test false e g = rw e g
+
+by_number : (cells : List CellOf) (all : List PartAt) → AllByRecursion (Known cells) (map seen_entry all) → ArePlaced cells all
+by_number cells [] h k d lt = absurd (omega (arith, lt))
+by_number cells (e ∷ all) h zero d lt = h.0
+by_number cells (e ∷ all) h (suc k) d lt = by_number cells all h.1 k d (omega (arith, lt))
+
+pub placed : (cells : List CellOf) (test : Role → Bool) (all : List PartAt) → map seen_entry all ≡ entries_that test cells → ArePlaced cells all
+placed cells test all h =
+    let known = kept (Known cells) (λ e. test e.what.role) (entries cells) (all_known cells cells 0 (λ i. let z : 0 + i ≡ i = omega arith in ap (slice_get cells) z)) in
+    by_number cells all (subst (AllByRecursion (Known cells)) (sym h) known)
+
+-- ---- with their numbers in one cell
+
+pub numbered_each : (all : List PartAt) → map (λ e. numbered (seen_entry e)) all ≡ map numbered (map seen_entry all)
+numbered_each [] = refl
+numbered_each (e ∷ all) = ap (λ l. numbered (seen_entry e) ∷ l) (numbered_each all)
+
+pub numbered_are : (test : Role → Bool) (n s : ℕ) (ps : List PartOf) → map numbered (filter (λ e. test e.what.role) (map (entry_of n) (enumerate_from s ps))) ≡ filter (λ p. test p.1.role) (enumerate_from s ps)
+numbered_are test n s [] = refl
+numbered_are test n s (p ∷ ps) = by_test (test p.role) refl (numbered_are test n (s + 1) ps)
+  where
+    by_test : (b : Bool) → test p.role ≡ b → map numbered (filter (λ e. test e.what.role) (map (entry_of n) (enumerate_from (s + 1) ps))) ≡ filter (λ q. test q.1.role) (enumerate_from (s + 1) ps)
+        → map numbered (filter (λ e. test e.what.role) (map (entry_of n) (enumerate_from s (p ∷ ps)))) ≡ filter (λ q. test q.1.role) (enumerate_from s (p ∷ ps))
+    by_test true e g = rw e (ap (λ l. (s, p) ∷ l) g)
+    by_test false e g = rw e g
