@@ -32,7 +32,7 @@ pub(crate) struct CellParts {
 }
 
 /// What is found at a part, in its cell.
-fn placed(alloc: Global, m: &Member, found: Found) -> Result<Placed, ElabFault>
+fn placed_part(alloc: Global, m: &Member, found: Found) -> Result<Placed, ElabFault>
     ensures same { IfOk result (λ p. seen_placed p ≡ seen_found found) }
     ensures head { IfOk result (λ p. head_of_placed p ≡ head_of_member (seen_member m.now)) }
     ensures told { IfErr result (λ e. e ≡ ElabFault.OutOfMemory) }
@@ -62,7 +62,7 @@ fn cell_found(alloc: Global, tables: &Tables, here: u32) -> Result<CellParts, El
     let mut parts = Vec::new(alloc);
     for m in tables.members(here) {
         let found = part_found(alloc, tables, here, m)?;
-        let part = placed(alloc, m, found)?;
+        let part = placed_part(alloc, m, found)?;
         parts.push(part)?;
     }
     Ok(CellParts { parts })
