@@ -1,9 +1,10 @@
 // What an instance binds its input ports to, bit by bit.
-ghost use Rattle.std.specs.Prelude.{◌≡◌, ℕ, ◌+◌, ◌-◌, ◌==◌, ◌++◌, ◌∷◌, List, [], map, slice_index_or, false, IfOk, IfErr};
+ghost use Rattle.std.specs.Prelude.{◌≡◌, ℕ, ◌+◌, ◌-◌, ◌==◌, ◌++◌, ◌∷◌, [], map, slice_index_or, false, IfOk, IfErr};
 ghost use Rattle.std.specs.List.{list_any, list_all, position_from, range_with_len};
 ghost use Rattle.std.specs.Option.{option_map};
 ghost use Rattle.icl_syntax.specs.Views.{seen_bind, seen_range, seen_sig, seen_what};
 ghost use Rattle.icl_frames.specs.FirstPass.{Frame};
+ghost use Rattle.icl_elab.specs.SeenParts.{Frames};
 ghost use Rattle.icl_frames.specs.Parts.{is_input, is_scan_in, is_data_in, port_that};
 ghost use Rattle.icl_frames.specs.Ranges.{positions, width};
 ghost use Rattle.icl_values.specs.Expressions.{same};
@@ -183,14 +184,14 @@ impl Bindings {
 
     /// Whether a part is bound at all of its bits, or at none.
     fn is_whole(&self, m: &Member) -> bool
-        ensures { (frames : List Frame) (here : Here) (child : Frame) → result ≡ is_whole frames here child self.now (seen_member m.now) }
+        ensures { (frames : Frames) (here : Here) (child : Frame) → result ≡ is_whole frames here child self.now (seen_member m.now) }
     {
         !self.binds(m.part) || self.binds_all(m.part, width(m.bounds) as usize)
     }
 
     /// Whether each part is bound at all of its bits, or at none.
     pub(crate) fn are_whole(&self, members: &[Member]) -> bool
-        ensures { (frames : List Frame) (here : Here) (child : Frame) → result ≡ list_all (is_whole frames here child self.now) (map seen_member members.now) }
+        ensures { (frames : Frames) (here : Here) (child : Frame) → result ≡ list_all (is_whole frames here child self.now) (map seen_member members.now) }
     {
         for m in members {
             if !self.is_whole(m) {
@@ -261,7 +262,7 @@ fn scan_signals(
 
 /// The one bit of a scan port. `WidthDiffers` where there are more, or none.
 fn only_one(at: Place, refs: List<Ref>) -> Result<List<Ref>, ElabFault>
-    ensures { (frames : List Frame) (here : Here) (child : Frame) → Gives seen_refs result (only_one frames here child at refs.items) }
+    ensures { (frames : Frames) (here : Here) (child : Frame) → Gives seen_refs result (only_one frames here child at refs.items) }
 {
     if refs.len() == 1 {
         Ok(refs)

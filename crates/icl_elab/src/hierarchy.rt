@@ -307,7 +307,7 @@ fn put_together(
 }
 
 /// The hierarchy of these cells.
-fn resolved(alloc: Global, frames: &[Frame]) -> Result<Hier, ElabFault>
+fn resolved<'a>(alloc: Global, frames: &'a [Frame<'a>]) -> Result<Hier, ElabFault>
     ensures { Gives seen_hier result (resolved (map seen_frame frames.now)) }
 {
     let tables = Tables::of(alloc, frames)?;

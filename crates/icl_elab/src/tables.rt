@@ -1,17 +1,20 @@
 // The cells of a design, with tables of their parts.
-ghost use Rattle.std.specs.Prelude.{◌≡◌, ◌<◌, map, length, IfOk};
+ghost use Rattle.std.specs.Prelude.{◌≡◌, ◌<◌, ◌^◌, ℕ, None, map, length, get_or, IfOk, OnOk};
 ghost use Rattle.icl_syntax.specs.Views.{seen_item, seen_what};
 ghost use Rattle.icl_values.specs.Faults.{Gives};
 ghost use Rattle.icl_values.specs.Expressions.{same};
 ghost use Rattle.icl_values.specs.Tables.{seen_table};
-ghost use Rattle.icl_frames.specs.Ranges.{width};
+ghost use Rattle.icl_frames.specs.Ranges.{one_bit, width};
+ghost use Rattle.icl_frames.specs.Scopes.{entry_of};
+ghost use Rattle.icl_frames.specs.declared.scope.Scope.{Scope as ScopeAt};
 ghost use Rattle.icl_frames.specs.SeenFrames.{seen_frame};
-ghost use Rattle.icl_elab.specs.Names.{members, named, inside};
-ghost use Rattle.icl_elab.specs.Tables.{AreTables, IsHere, frames_of, here_in, seen_member};
+ghost use Rattle.icl_elab.specs.Names.{child_cell, inside, known_cell, members, named};
+ghost use Rattle.icl_elab.specs.Tables.{AreAllChildren, AreCellTables, AreEmpty, AreTables, IsCellTable, IsChildAdded, IsHere, frames_in, frames_of, here_in, seen_member};
 
-use icl_frames::{Bounds, Frame, Scope};
-use icl_syntax::Item;
+use icl_frames::{Bounds, Frame, Scope, is_part};
+use icl_syntax::{Item, What};
 use icl_values::{ElabFault, ParamTable};
+use ij_bits::OutOfMemory;
 use ij_text::{Place, name_of};
 use std::alloc::Global;
 
@@ -53,14 +56,126 @@ pub(crate) fn width_of(b: Bounds) -> Result<u32, ElabFault>
     }
 }
 
+/// The indices of a part: one bit of index 0 past the end.
+fn bounds_at(bounds: &[Bounds], part: u32) -> Bounds
+    ensures { result ≡ get_or bounds.now part one_bit }
+{
+    if (part as usize) < bounds.len() {
+        bounds[part as usize]
+    } else {
+        Bounds { left: 0, right: 0 }
+    }
+}
+
+/// The parts of a cell, by number.
+fn members_of<'a>(alloc: Global, frame: &'a Frame<'a>) -> Result<Vec<Member<'a>>, OutOfMemory>
+    requires { length frame.now.block.now.items.items < 2 ^ 32 }
+    ensures { IfOk result (λ all. map seen_member all.items ≡ members (seen_frame frame.now)) }
+{
+    let mut all = Vec::new(alloc);
+    let mut part = 0;
+    for item in frame.block.items.as_slice() {
+        if is_part(&item.what) {
+            let bounds = bounds_at(frame.bounds.as_slice(), part);
+            all.push(Member { part, item, bounds })?;
+            part += 1;
+        }
+    }
+    Ok(all)
+}
+
+/// The parts of a cell, by number and by name.
+fn cell_table<'a>(alloc: Global, frame: &'a Frame<'a>) -> Result<CellTable<'a>, OutOfMemory>
+    ensures table { IfOk result (λ c. IsCellTable c) }
+    ensures frame { IfOk result (λ c. seen_frame c.frame.now ≡ seen_frame frame.now) }
+{
+    let items = frame.block.items.as_slice();
+    if items.len() >= 0xffff_ffff {
+        return Err(OutOfMemory);
+    }
+    let members = members_of(alloc, frame)?;
+    let names = Scope::of(alloc, items)?;
+    Ok(CellTable {
+        frame,
+        members,
+        names,
+    })
+}
+
+/// The parts of each cell.
+fn cell_tables<'a>(
+    alloc: Global,
+    frames: &'a [Frame<'a>],
+) -> Result<Vec<CellTable<'a>>, OutOfMemory>
+    ensures tables { IfOk result (λ cells. AreCellTables cells.items) }
+    ensures frames { IfOk result (λ cells. frames_in cells.items ≡ map seen_frame frames.now) }
+{
+    let mut cells = Vec::new(alloc);
+    for frame in frames {
+        let cell = cell_table(alloc, frame)?;
+        cells.push(cell)?;
+    }
+    Ok(cells)
+}
+
+/// So many tables without names.
+fn no_children(alloc: Global, count: usize) -> Result<Vec<Scope>, OutOfMemory>
+    ensures long { IfOk result (λ all. length all.items ≡ count) }
+    ensures none { IfOk result (λ all. AreEmpty all.items) }
+{
+    let mut all = Vec::new(alloc);
+    for _k in 0..count {
+        all.push(Scope::new(alloc))?;
+    }
+    Ok(all)
+}
+
+/// Adds a cell to the children of another one.
+fn add_child(
+    alloc: Global,
+    children: &mut [Scope],
+    parent: u32,
+    name: &[u8],
+    number: u32,
+) -> Result<(), OutOfMemory>
+    ensures { OnOk result (IsChildAdded children.old children.new parent name.now number) }
+{
+    if (parent as usize) < children.len() {
+        let table = &mut children[parent as usize];
+        table.add(alloc, name, number)?;
+    }
+    Ok(())
+}
+
+/// For each cell the cells that its instances are, by their names. Of two of one name the first one counts.
+fn children_of(alloc: Global, frames: &[Frame]) -> Result<Vec<Scope>, OutOfMemory>
+    requires { length frames.now < 2 ^ 32 }
+    ensures long { IfOk result (λ all. length all.items ≡ length frames.now) }
+    ensures all { IfOk result (λ all. AreAllChildren (map seen_frame frames.now) all.items) }
+{
+    let mut all = no_children(alloc, frames.len())?;
+    let mut number = 0;
+    for frame in frames {
+        if let Some(parent) = frame.parent {
+            add_child(alloc, &mut all, parent, frame.name, number)?;
+        }
+        number += 1;
+    }
+    Ok(all)
+}
+
 impl<'a> Tables<'a> {
     /// The tables of these cells.
     pub(crate) fn of(alloc: Global, frames: &'a [Frame<'a>]) -> Result<Tables<'a>, ElabFault>
         ensures tables { IfOk result (λ t. AreTables t) }
         ensures gives { Gives frames_of result (Ok (map seen_frame frames.now)) }
     {
-        let _ = (alloc, frames);
-        Err(ElabFault::OutOfMemory)
+        if frames.len() > 0xffff_ffff {
+            return Err(ElabFault::OutOfMemory);
+        }
+        let cells = cell_tables(alloc, frames)?;
+        let children = children_of(alloc, frames)?;
+        Ok(Tables { cells, children })
     }
 
     /// How many cells there are.
@@ -118,13 +233,28 @@ impl<'a> Tables<'a> {
         }
     }
 
+    /// The cell of the instance of this name, by its number.
+    fn child(&self, here: u32, at: Place, name: &[u8]) -> Result<u32, ElabFault>
+        requires { IsHere self.now here }
+        ensures there { IfOk result (λ child. IsHere self.now child) }
+        ensures gives { Gives (here_in self.now) result (known_cell at (child_cell (frames_of self.now) here name.now)) }
+    {
+        let children = &self.children[here as usize];
+        match children.find(name) {
+            Some(child) => Ok(child),
+            None => Err(ElabFault::WrongKind { at }),
+        }
+    }
+
     /// The cell that a part is, by its number. `WrongKind` where the part is no instance.
     pub(crate) fn inside(&self, here: u32, at: Place, item: &Item) -> Result<u32, ElabFault>
         requires { IsHere self.now here }
         ensures there { IfOk result (λ child. IsHere self.now child) }
         ensures gives { Gives (here_in self.now) result (inside (frames_of self.now) (here_in self.now here) at item.now.name.items (seen_what item.now.what)) }
     {
-        let _ = (here, at, item);
-        Err(ElabFault::OutOfMemory)
+        match &item.what {
+            What::Child { .. } => self.child(here, at, item.name.as_slice()),
+            _ => Err(ElabFault::WrongKind { at }),
+        }
     }
 }
