@@ -1,15 +1,16 @@
 -- The bindings of an instance, and a table of the bits that they bind: for each part and position the number of its binding.
-use Rattle.std.specs.Prelude.{◌≡◌, ℕ, nat_lt, nat_le, ◌==◌, Bool, not, ◌&&◌, List, [], ◌∷◌, ◌++◌, length, slice_index_or, Option, None, Ok}
-use Rattle.std.specs.List.{list_any, position_from}
+use Rattle.std.specs.Prelude.{◌≡◌, ℕ, nat_lt, nat_le, ◌==◌, Bool, not, ◌&&◌, ◌||◌, List, [], ◌∷◌, ◌++◌, length, slice_index_or, Option, None, Ok}
+use Rattle.std.specs.List.{list_any, list_all, position_from, range_with_len}
 use Rattle.icl_syntax.specs.Values.{SeenRange, SeenSig, SeenWhat}
 use Rattle.ij_text.specs.declared.Place.{Place}
 use Rattle.icl_values.specs.Faults.{Answer, ◌>>=◌, refuse_if, DoubleName, WrongKind}
 use Rattle.icl_frames.specs.declared.ranges.Stretch.{Stretch}
 use Rattle.icl_frames.specs.FirstPass.{Frame}
 use Rattle.icl_frames.specs.Parts.{is_input, port_that}
-use Rattle.icl_frames.specs.Ranges.{positions, named_in}
+use Rattle.icl_frames.specs.Ranges.{positions, named_in, width}
 use Rattle.icl_elab.specs.declared.bindings.Bound.{Bound as BoundAt}
-use Rattle.icl_elab.specs.Names.{Here, named}
+use Rattle.icl_elab.specs.Names.{Here, Member, named}
+use Rattle.icl_elab.specs.Tables.{here_at}
 use Rattle.icl_elab.specs.Bindings.{Bound, binds_bit, is_bound, bound_refs}
 
 abbrev pub seen_bound : BoundAt → Bound
@@ -31,7 +32,15 @@ pub record AreMarked (rows : List (List (Option ℕ))) (bs : List Bound) : Type 
   pub bits : (part pos : ℕ) → mark_at (row_at rows part) pos ≡ position_from (binds_bit part pos) 0 bs
   pub parts : (part : ℕ) → has_marks (row_at rows part) ≡ list_any (λ b. b.part == part) bs
 
+-- a part that is bound somewhere is bound everywhere
+abbrev pub is_whole_part : List Bound → Member → Bool
+is_whole_part bs m = not (list_any (λ b. b.part == m.part) bs) || list_all (is_bound bs m.part) (range_with_len 0 (width m.bounds))
+
 -- ---- one binding of a port
+
+-- no cell, where none matters
+abbrev pub nowhere : Here
+nowhere = here_at [] 0
 
 -- the bits that it binds, none of them bound already, and what it binds them to
 unfoldable pub bound_in : List Frame → Here → Frame → List Bound → Place → List ℕ → Option SeenRange → List SeenSig → Answer Bound

@@ -3,18 +3,15 @@ ghost use Rattle.std.specs.Prelude.{◌≡◌, ℕ, ◌+◌, ◌-◌, ◌==◌, 
 ghost use Rattle.std.specs.List.{list_any, list_all, position_from, range_with_len};
 ghost use Rattle.std.specs.Option.{option_map};
 ghost use Rattle.icl_syntax.specs.Views.{seen_bind, seen_range, seen_sig, seen_what};
-ghost use Rattle.icl_frames.specs.FirstPass.{Frame};
-ghost use Rattle.icl_elab.specs.SeenParts.{Frames};
 ghost use Rattle.icl_frames.specs.Parts.{is_input, is_scan_in, is_data_in, port_that};
 ghost use Rattle.icl_frames.specs.Ranges.{positions, width};
 ghost use Rattle.icl_values.specs.Expressions.{same};
 ghost use Rattle.icl_values.specs.Faults.{Gives, each, over};
-ghost use Rattle.icl_elab.specs.Names.{Here};
-ghost use Rattle.icl_elab.specs.Bindings.{binds_bit, is_bound, only_one, bound_refs, bind, is_whole, all_whole, ref_at, refs_of};
-ghost use Rattle.icl_elab.specs.Marks.{bound_in, seen_bound};
+ghost use Rattle.icl_elab.specs.Bindings.{binds_bit, is_bound, only_one, bound_refs, bind, ref_at, refs_of};
+ghost use Rattle.icl_elab.specs.Marks.{bound_in, is_whole_part, nowhere, seen_bound};
 ghost use Rattle.icl_elab.specs.Roles.{seen_refs};
 ghost use Rattle.icl_elab.specs.Signals.{scan_signal};
-ghost use Rattle.icl_elab.specs.Tables.{IsHere, frames_of, here_in, seen_member};
+ghost use Rattle.icl_elab.specs.Tables.{IsHere, frames_of, here_in, no_frame, seen_member};
 
 use crate::hier::Ref;
 use crate::marks::{Row, note};
@@ -184,14 +181,14 @@ impl Bindings {
 
     /// Whether a part is bound at all of its bits, or at none.
     fn is_whole(&self, m: &Member) -> bool
-        ensures { (frames : Frames) (here : Here) (child : Frame) → result ≡ is_whole frames here child self.now (seen_member m.now) }
+        ensures { result ≡ is_whole_part self.now (seen_member m.now) }
     {
         !self.binds(m.part) || self.binds_all(m.part, width(m.bounds) as usize)
     }
 
     /// Whether each part is bound at all of its bits, or at none.
     pub(crate) fn are_whole(&self, members: &[Member]) -> bool
-        ensures { (frames : Frames) (here : Here) (child : Frame) → result ≡ list_all (is_whole frames here child self.now) (map seen_member members.now) }
+        ensures { result ≡ list_all (is_whole_part self.now) (map seen_member members.now) }
     {
         for m in members {
             if !self.is_whole(m) {
@@ -262,7 +259,7 @@ fn scan_signals(
 
 /// The one bit of a scan port. `WidthDiffers` where there are more, or none.
 fn only_one(at: Place, refs: List<Ref>) -> Result<List<Ref>, ElabFault>
-    ensures { (frames : Frames) (here : Here) (child : Frame) → Gives seen_refs result (only_one frames here child at refs.items) }
+    ensures { Gives seen_refs result (only_one [] nowhere no_frame at refs.items) }
 {
     if refs.len() == 1 {
         Ok(refs)
@@ -293,7 +290,7 @@ fn bound_refs(
     sigs: &[Sig],
 ) -> Result<List<Ref>, ElabFault>
     requires { IsHere tables.now here }
-    ensures { (child : Frame) → Gives seen_refs result (bound_refs (frames_of tables.now) (here_in tables.now here) child at (seen_what what.now) s (map seen_sig sigs.now)) }
+    ensures { Gives seen_refs result (bound_refs (frames_of tables.now) (here_in tables.now here) no_frame at (seen_what what.now) s (map seen_sig sigs.now)) }
 {
     if is_scan_in_port(what) {
         let refs = scan_signals(alloc, tables, here, sigs)?;
