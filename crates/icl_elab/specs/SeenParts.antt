@@ -20,10 +20,6 @@ use Rattle.icl_elab.specs.Signals.{alias_signals}
 use Rattle.icl_elab.specs.Roles.{Word, Selection, AnAliasOf, seen_body, seen_word, seen_refs, seen_selection}
 use Rattle.icl_elab.specs.SecondPass.{Found, found, Said, nothing_said, register_prop, register_found, alias_prop}
 
--- the cells of the first pass
-abbrev pub Frames : Type 0
-Frames = List Frame
-
 abbrev pub seen_words : Listed (Listed ℕ × Tern) → List Word
 seen_words words = map seen_word words.items
 

@@ -1,12 +1,12 @@
 // What ports and aliases are.
-ghost use Rattle.std.specs.Prelude.{◌≡◌, map};
+ghost use Rattle.std.specs.Prelude.{◌≡◌, [], map};
 ghost use Rattle.icl_syntax.specs.Views.{seen_prop, seen_sig};
 ghost use Rattle.icl_values.specs.Expressions.{same};
 ghost use Rattle.icl_values.specs.Faults.{Gives, over};
-ghost use Rattle.icl_elab.specs.Names.{Here};
+ghost use Rattle.icl_elab.specs.Marks.{nowhere};
 ghost use Rattle.icl_elab.specs.Roles.{seen_body};
 ghost use Rattle.icl_elab.specs.SecondPass.{alias_prop, first_scan, found, port_prop, port_role, source_role};
-ghost use Rattle.icl_elab.specs.SeenParts.{Frames, alias_answer, seen_resolved};
+ghost use Rattle.icl_elab.specs.SeenParts.{alias_answer, seen_resolved};
 ghost use Rattle.icl_elab.specs.Tables.{IsHere, frames_of, here_in, seen_member};
 
 use crate::hier::{Body, Ref};
@@ -107,7 +107,7 @@ fn port_prop(
 
 /// What a port of this kind is without properties.
 fn port_role(kind: PortKind) -> Body
-    ensures { (frames : Frames) (here : Here) → seen_body result ≡ port_role frames here kind }
+    ensures { seen_body result ≡ port_role [] nowhere kind }
 {
     match kind {
         PortKind::ScanInPort => Body::ScanIn { bound: None },
