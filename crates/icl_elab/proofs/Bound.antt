@@ -50,23 +50,27 @@ module _ {A : Type 0} (p : A → Bool) where
     pub number : k ≡ s + place
     pub within : place < length xs
     pub found : (d : A) → find p xs ≡ Some (get_or xs place d)
+    pub there : find p xs ≡ slice_get xs place
 
   pub first_found : (s k : ℕ) (xs : List A) → position_from p s xs ≡ Some k → IsFirst s k xs
   first_found s k [] h = absurd cc
   first_found s k (x ∷ xs) h = by_test (p x) refl h (λ g. first_found (s + 1) k xs g)
     where
       by_test : (b : Bool) → p x ≡ b → cond b (Some s) (position_from p (s + 1) xs) ≡ Some k → (position_from p (s + 1) xs ≡ Some k → IsFirst (s + 1) k xs) → IsFirst s k (x ∷ xs)
-      by_test true e g again = let n : s ≡ k = some_is s k g in record { place = 0; number = omega (arith, n); within = omega arith; found = λ d. ap (λ (b : Bool). cond b (Some x) (find p xs)) e }
+      by_test true e g again = let n : s ≡ k = some_is s k g in record { place = 0; number = omega (arith, n); within = omega arith; found = λ d. ap (λ (b : Bool). cond b (Some x) (find p xs)) e; there = ap (λ (b : Bool). cond b (Some x) (find p xs)) e }
       by_test false e g again =
           let a = again g in
-          record { place = suc a.place; number = let n = a.number in omega (arith, n); within = let w = a.within in omega (arith, w); found = λ d. ap (λ (b : Bool). cond b (Some x) (find p xs)) e ∙ a.found d }
+          record { place = suc a.place; number = let n = a.number in omega (arith, n); within = let w = a.within in omega (arith, w); found = λ d. ap (λ (b : Bool). cond b (Some x) (find p xs)) e ∙ a.found d; there = ap (λ (b : Bool). cond b (Some x) (find p xs)) e ∙ a.there }
 
   -- the item with that number
   pub first_at : (k : ℕ) (xs : List A) (d : A) → position_from p 0 xs ≡ Some k → find p xs ≡ Some (get_or xs k d)
   first_at k xs d h = let f = first_found 0 k xs h in let e : f.place ≡ k = let n = f.number in omega (arith, n) in f.found d ∙ ap (λ n. Some (get_or xs n d)) e
 
+  pub first_get : (k : ℕ) (xs : List A) → position_from p 0 xs ≡ Some k → find p xs ≡ slice_get xs k
+  first_get k xs h = let f = first_found 0 k xs h in let e : f.place ≡ k = let n = f.number in omega (arith, n) in f.there ∙ ap (slice_get xs) e
+
   pub first_within : (k : ℕ) (xs : List A) → position_from p 0 xs ≡ Some k → k < length xs
-  first_within k xs h = let f = first_found 0 k xs h in omega (arith, f.number, f.within)
+  first_within k xs h = let f = first_found 0 k xs h in let n = f.number in let w = f.within in omega (arith, n, w)
 
 -- ---- positions from one on
 

@@ -35,6 +35,14 @@ abbrev pub home_in : List CellParts → ℕ → Option ℕ → Option ℕ
 home_in cells c None = None
 home_in cells c (Some parent) = position_from (is_of_cell c) 0 (parts_of (slice_get cells parent))
 
+-- what a part binds
+abbrev pub bound_of : Option Placed → List Bound
+bound_of None = []
+bound_of (Some p) = p.bound
+
+abbrev pub bound_by : List CellParts → ℕ → ℕ → List Bound
+bound_by cells cell part = bound_of (slice_get (parts_of (slice_get cells cell)) part)
+
 -- ---- ports
 
 -- what a port is that is bound so; none for any other part
@@ -63,10 +71,17 @@ ports_from founds s (f ∷ fs) (c ∷ cells) = map (port_of (bindings_of founds 
 abbrev pub part_with : Placed → Option Role → PartOf
 part_with p port = record (seen_part p.part) { role = unwrap_or port (seen_body p.part.body) }
 
+abbrev pub first_port : List (Option Role) → Option Role
+first_port [] = None
+first_port (port ∷ ports) = port
+
+abbrev pub rest_ports : List (Option Role) → List (Option Role)
+rest_ports [] = []
+rest_ports (port ∷ ports) = ports
+
 abbrev pub parts_with : List Placed → List (Option Role) → List PartOf
 parts_with [] ports = []
-parts_with (p ∷ ps) [] = part_with p None ∷ parts_with ps []
-parts_with (p ∷ ps) (port ∷ ports) = part_with p port ∷ parts_with ps ports
+parts_with (p ∷ ps) ports = part_with p (first_port ports) ∷ parts_with ps (rest_ports ports)
 
 abbrev pub cell_with : Frame → List Placed → List (Option Role) → CellOf
 cell_with f ps ports = record { name = f.name; parent = f.parent; module_name = f.block.name; parts = parts_with ps ports }

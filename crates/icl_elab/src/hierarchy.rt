@@ -8,9 +8,9 @@ ghost use Rattle.icl_frames.specs.Ranges.{width};
 ghost use Rattle.icl_frames.specs.Scopes.{or_else};
 ghost use Rattle.icl_frames.specs.SeenFrames.{seen_frame};
 ghost use Rattle.icl_elab.specs.Names.{is_in};
-ghost use Rattle.icl_elab.specs.Hierarchy.{bindings_of, first_ref, hierarchy, put_together};
+ghost use Rattle.icl_elab.specs.Hierarchy.{bindings_of, first_ref, hierarchy, is_this_cell, put_together};
 ghost use Rattle.icl_elab.specs.Laws.{AreNumbered, AreWired};
-ghost use Rattle.icl_elab.specs.Placing.{cell_with, home_at, home_in, is_of_cell, made, parent_in, part_with, parts_with, port_of, ports_from, first_ports, other_ports, resolved, seen_cell_ports, seen_ports};
+ghost use Rattle.icl_elab.specs.Placing.{bound_by, cell_with, first_port, rest_ports, home_at, home_in, is_of_cell, made, parent_in, part_with, parts_with, port_of, ports_from, first_ports, other_ports, resolved, seen_cell_ports, seen_ports};
 ghost use Rattle.icl_elab.specs.Roles.{seen_body, seen_cell, seen_hier, seen_part};
 ghost use Rattle.icl_elab.specs.SeenParts.{heads_of_cells, heads_of_frame, seen_cell_parts, seen_pass};
 ghost use Rattle.icl_elab.specs.Tables.{AreTables, IsHere, frames_of, here_in};
@@ -28,6 +28,16 @@ use std::alloc::Global;
 
 // ---- where each cell is bound
 
+/// Whether a cell is the parent.
+fn is_in(parent: Option<u32>, cell: u32) -> bool
+    ensures { result ≡ is_in parent cell }
+{
+    match parent {
+        Some(parent) => parent == cell,
+        None => false,
+    }
+}
+
 /// Notes that a part of a cell is an instance, if it is one of that cell and none is noted.
 fn note_home(tables: &Tables, homes: &mut [Option<usize>], here: u32, child: u32, part: usize)
     requires tables { AreTables tables.now }
@@ -35,22 +45,43 @@ fn note_home(tables: &Tables, homes: &mut [Option<usize>], here: u32, child: u32
     ensures { (c : ℕ) → c < length homes.old → home_at homes.new c ≡ or_else (home_at homes.old c) (cond (is_in (parent_in (frames_of tables.now) c) here && child == c) (Some part) None) }
 {
     let i = child as usize;
-    if i < homes.len() && homes[i].is_none() && tables.frame(child).parent == Some(here) {
+    if i < homes.len() && homes[i].is_none() && is_in(tables.frame(child).parent, here) {
         homes[i] = Some(part);
     }
 }
 
+/// Notes a part of a cell for the cell that it is, if it is an instance.
+fn note_part(tables: &Tables, homes: &mut [Option<usize>], here: u32, part: usize, body: &Body)
+    requires tables { AreTables tables.now }
+    requires long { length homes.old ≡ length (frames_of tables.now) }
+    ensures { (c : ℕ) → c < length homes.old → home_at homes.new c ≡ or_else (home_at homes.old c) (cond (is_in (parent_in (frames_of tables.now) c) here && is_this_cell c (seen_body body.now)) (Some part) None) }
+{
+    if let Body::Child { cell } = body {
+        note_home(tables, homes, here, *cell, part);
+    }
+}
+
 /// Notes the instances of a cell, of which the first counts for each cell that they are.
-fn note_children(tables: &Tables, homes: &mut [Option<usize>], here: u32, parts: &[Placed])
+fn note_parts(tables: &Tables, homes: &mut [Option<usize>], here: u32, parts: &[Placed])
     requires tables { AreTables tables.now }
     requires long { length homes.old ≡ length (frames_of tables.now) }
     ensures { (c : ℕ) → c < length homes.old → home_at homes.new c ≡ or_else (home_at homes.old c) (cond (is_in (parent_in (frames_of tables.now) c) here) (position_from (is_of_cell c) 0 parts.now) None) }
 {
-    for k in 0..parts.len() {
-        if let Body::Child { cell } = &parts[k].part.body {
-            note_home(tables, homes, here, *cell, k);
-        }
+    for (k, p) in parts.iter().enumerate() {
+        note_part(tables, homes, here, k, &p.part.body);
     }
+}
+
+/// So many cells without a home.
+fn no_homes(alloc: Global, count: usize) -> Result<Vec<Option<usize>>, OutOfMemory>
+    ensures long { IfOk result (λ homes. length homes.items ≡ count) }
+    ensures none { IfOk result (λ homes. (c : ℕ) → home_at homes.items c ≡ None) }
+{
+    let mut homes = Vec::new(alloc);
+    for _k in 0..count {
+        homes.push(None)?;
+    }
+    Ok(homes)
 }
 
 /// For each cell the number of the part of its parent that is its instance.
@@ -61,16 +92,35 @@ fn homes(
 ) -> Result<Vec<Option<usize>>, OutOfMemory>
     requires tables { AreTables tables.now }
     requires long { length cells.now ≡ length (frames_of tables.now) }
-    ensures { IfOk result (λ homes. (c : ℕ) → c < length cells.now → home_at homes.items c ≡ home_in cells.now c (parent_in (frames_of tables.now) c)) }
+    ensures long { IfOk result (λ homes. length homes.items ≡ length cells.now) }
+    ensures homes { IfOk result (λ homes. (c : ℕ) → c < length cells.now → home_at homes.items c ≡ home_in cells.now c (parent_in (frames_of tables.now) c)) }
 {
-    let mut homes = Vec::new(alloc);
-    for _cell in cells {
-        homes.push(None)?;
-    }
+    let mut homes = no_homes(alloc, cells.len())?;
     for here in 0..tables.len() {
-        note_children(tables, &mut homes, here, &cells[here as usize].parts);
+        note_parts(tables, &mut homes, here, &cells[here as usize].parts);
     }
     Ok(homes)
+}
+
+/// What a part of a cell binds: nothing, if there is no such part.
+fn bound_by<'a>(
+    cells: &'a [CellParts],
+    nothing: &'a Bindings,
+    cell: usize,
+    part: usize,
+) -> &'a Bindings
+    requires { nothing.now ≡ [] }
+    ensures { result.now ≡ bound_by cells.now cell part }
+{
+    if cell >= cells.len() {
+        return nothing;
+    }
+    let parts = cells[cell].parts.as_slice();
+    if part < parts.len() {
+        &parts[part].bound
+    } else {
+        nothing
+    }
 }
 
 /// What a cell is bound to in its parent, where this part is its instance.
@@ -83,18 +133,12 @@ fn bound_in_parent<'a>(
     requires { nothing.now ≡ [] }
     ensures { (c : ℕ) → home ≡ home_in cells.now c parent → result.now ≡ bindings_of (seen_pass cells.now) c parent }
 {
-    let (Some(parent), Some(part)) = (parent, home) else {
-        return nothing;
-    };
-    let parent = parent as usize;
-    if parent >= cells.len() {
-        return nothing;
-    }
-    let parts = cells[parent].parts.as_slice();
-    if part < parts.len() {
-        &parts[part].bound
-    } else {
-        nothing
+    match parent {
+        Some(parent) => match home {
+            Some(part) => bound_by(cells, nothing, parent as usize, part),
+            None => nothing,
+        },
+        None => nothing,
     }
 }
 
@@ -212,6 +256,17 @@ fn with_port(placed: Placed, port: Option<Body>) -> Part
     part
 }
 
+/// What the next port is, of those that are left.
+fn next_port(left: &mut Vec<Option<Body>>) -> Option<Body>
+    ensures port { option_map seen_body result ≡ first_port (seen_ports (reverse left.old.items)) }
+    ensures rest { seen_ports (reverse left.new.items) ≡ rest_ports (seen_ports (reverse left.old.items)) }
+{
+    match left.pop() {
+        Some(port) => port,
+        None => None,
+    }
+}
+
 /// The parts of a cell with what they are bound to.
 fn with_ports(
     alloc: Global,
@@ -220,15 +275,14 @@ fn with_ports(
 ) -> Result<List<Part>, OutOfMemory>
     ensures { IfOk result (λ parts. map seen_part parts.items ≡ parts_with placed.items (seen_ports ports.items)) }
 {
-    let mut placed = placed;
-    let mut ports = ports;
+    let mut left = placed;
+    let mut ports_left = ports;
     let mut parts = List::new(alloc);
-    parts.reserve(placed.len())?;
-    placed.reverse();
-    ports.reverse();
-    while let Some(first) = placed.pop() {
-        let port = ports.pop().flatten();
-        parts.push_reserved(with_port(first, port));
+    left.reverse();
+    ports_left.reverse();
+    while let Some(first) = left.pop() {
+        let port = next_port(&mut ports_left);
+        parts.push(with_port(first, port))?;
     }
     Ok(parts)
 }
@@ -254,11 +308,11 @@ fn cell_of(
 }
 
 /// The ports of the next cell, of those that are left.
-fn next_ports(alloc: Global, all: &mut Vec<CellPorts>) -> Vec<Option<Body>>
-    ensures ports { seen_ports result.items ≡ first_ports (map seen_cell_ports (reverse all.old.items)) }
-    ensures rest { map seen_cell_ports (reverse all.new.items) ≡ other_ports (map seen_cell_ports (reverse all.old.items)) }
+fn next_ports(alloc: Global, left: &mut Vec<CellPorts>) -> Vec<Option<Body>>
+    ensures ports { seen_ports result.items ≡ first_ports (map seen_cell_ports (reverse left.old.items)) }
+    ensures rest { map seen_cell_ports (reverse left.new.items) ≡ other_ports (map seen_cell_ports (reverse left.old.items)) }
 {
-    match all.pop() {
+    match left.pop() {
         Some(c) => c.ports,
         None => Vec::new(alloc),
     }
@@ -275,14 +329,14 @@ fn all_cells(
     requires long { length cells.items ≡ length (frames_of tables.now) }
     ensures { IfOk result (λ out. map seen_cell out.items ≡ made (frames_of tables.now) cells.items (map seen_cell_ports all.items)) }
 {
-    let mut cells = cells;
-    let mut all = all;
+    let mut left = cells;
+    let mut ports_left = all;
     let mut out = List::new(alloc);
-    cells.reverse();
-    all.reverse();
+    left.reverse();
+    ports_left.reverse();
     let mut here = 0;
-    while let Some(cell) = cells.pop() {
-        let ports = next_ports(alloc, &mut all);
+    while let Some(cell) = left.pop() {
+        let ports = next_ports(alloc, &mut ports_left);
         let cell = cell_of(alloc, tables.frame(here), cell.parts, ports)?;
         out.push(cell)?;
         here += 1;

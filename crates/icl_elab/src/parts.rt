@@ -3,7 +3,7 @@ ghost use Rattle.std.specs.Prelude.{◌≡◌, map};
 ghost use Rattle.icl_syntax.specs.Views.{seen_bind, seen_what};
 ghost use Rattle.icl_values.specs.Faults.{Gives};
 ghost use Rattle.icl_elab.specs.Roles.{seen_body};
-ghost use Rattle.icl_elab.specs.SecondPass.{found_at, instance_found, part_found};
+ghost use Rattle.icl_elab.specs.SecondPass.{found, instance_found, part_found};
 ghost use Rattle.icl_elab.specs.SeenParts.{seen_found, seen_resolved};
 ghost use Rattle.icl_elab.specs.Tables.{IsHere, frames_of, here_in, seen_member};
 

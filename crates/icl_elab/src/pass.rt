@@ -1,8 +1,7 @@
 // The second pass: what each part of each cell is.
 ghost use Rattle.std.specs.Prelude.{◌≡◌, map, IfOk, IfErr};
-ghost use Rattle.icl_values.specs.Faults.{Gives};
-ghost use Rattle.icl_elab.specs.Names.{members};
-ghost use Rattle.icl_elab.specs.SecondPass.{cell_found, second_pass};
+ghost use Rattle.icl_values.specs.Faults.{Gives, each};
+ghost use Rattle.icl_elab.specs.SecondPass.{cell_found, part_found, second_pass};
 ghost use Rattle.icl_elab.specs.SeenParts.{head_of_member, head_of_placed, heads_of_cells, heads_of_frame, seen_cell_parts, seen_found, seen_pass, seen_placed};
 ghost use Rattle.icl_elab.specs.Tables.{AreTables, IsHere, frames_of, here_in, seen_member};
 
@@ -52,6 +51,26 @@ fn placed_part(alloc: Global, m: &Member, found: Found) -> Result<Placed, ElabFa
     })
 }
 
+/// What these parts of this cell are.
+fn parts_found(
+    alloc: Global,
+    tables: &Tables,
+    here: u32,
+    members: &[Member],
+) -> Result<Vec<Placed>, ElabFault>
+    requires { IsHere tables.now here }
+    ensures heads { IfOk result (λ parts. map head_of_placed parts.items ≡ map head_of_member (map seen_member members.now)) }
+    ensures gives { Gives (λ parts. map seen_placed parts.items) result (each (part_found (frames_of tables.now) (here_in tables.now here)) (map seen_member members.now)) }
+{
+    let mut parts = Vec::new(alloc);
+    for m in members {
+        let found = part_found(alloc, tables, here, m)?;
+        let part = placed_part(alloc, m, found)?;
+        parts.push(part)?;
+    }
+    Ok(parts)
+}
+
 /// What the parts of this cell are, in the order of the text.
 #[tactic(auto, unfolding(crate::specs::SecondPass::cell_found))]
 fn cell_found(alloc: Global, tables: &Tables, here: u32) -> Result<CellParts, ElabFault>
@@ -59,12 +78,7 @@ fn cell_found(alloc: Global, tables: &Tables, here: u32) -> Result<CellParts, El
     ensures heads { IfOk result (λ c. map head_of_placed c.parts.items ≡ heads_of_frame (here_in tables.now here).frame) }
     ensures gives { Gives seen_cell_parts result (cell_found (frames_of tables.now) (here_in tables.now here)) }
 {
-    let mut parts = Vec::new(alloc);
-    for m in tables.members(here) {
-        let found = part_found(alloc, tables, here, m)?;
-        let part = placed_part(alloc, m, found)?;
-        parts.push(part)?;
-    }
+    let parts = parts_found(alloc, tables, here, tables.members(here))?;
     Ok(CellParts { parts })
 }
 
