@@ -18,6 +18,8 @@ use Rattle.icl_elab.specs.Placing.{made, part_with, parts_with, port_bound, port
 use Rattle.icl_elab.specs.Roles.{Role, ScanInput, ScanOutput, DataInput, DataOutput, ControlPort, AScanRegister, AScanMux, AnAliasOf, AnInstance, AnInterfaceOf, AnAccessLink, PartOf, CellOf, seen_hier}
 use Rattle.icl_elab.specs.SecondPass.{Found}
 use Rattle.icl_elab.specs.SeenParts.{PartHead, head_of_member, head_of_placed, heads_of_cell, heads_of_cells, heads_of_frame, seen_cell_parts, seen_pass, seen_placed}
+use Rattle.icl_elab.specs.Preorder.{AreInstances}
+use Rattle.icl_elab.proofs.SameCells.{hierarchies_are_preorder}
 use Rattle.icl_elab.proofs.Wiring.{hierarchies_are_wired}
 use Rattle.icl_elab.proofs.Numbers.{hierarchies_are_numbered}
 
@@ -90,3 +92,7 @@ wired_if (Err e) blocks top g = tt
 pub numbered_if : (r : Result Hier ElabFault) (blocks : List SeenModule) (top : List ℕ) → Gives seen_hier r (hierarchy blocks top) → IfOk r (λ h. AreNumbered (seen_hier h))
 numbered_if (Ok h) blocks top g = hierarchies_are_numbered blocks top (seen_hier h) g
 numbered_if (Err e) blocks top g = tt
+
+pub instances_if : (r : Result Hier ElabFault) (blocks : List SeenModule) (top : List ℕ) → Gives seen_hier r (hierarchy blocks top) → IfOk r (λ h. AreInstances blocks top (seen_hier h))
+instances_if (Ok h) blocks top g = hierarchies_are_preorder blocks top (seen_hier h) g
+instances_if (Err e) blocks top g = tt

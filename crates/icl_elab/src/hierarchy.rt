@@ -10,6 +10,7 @@ ghost use Rattle.icl_frames.specs.SeenFrames.{seen_frame};
 ghost use Rattle.icl_elab.specs.Names.{is_in};
 ghost use Rattle.icl_elab.specs.Hierarchy.{bindings_of, first_ref, hierarchy, is_this_cell, put_together};
 ghost use Rattle.icl_elab.specs.Laws.{AreNumbered, AreWired};
+ghost use Rattle.icl_elab.specs.Preorder.{AreInstances};
 ghost use Rattle.icl_elab.specs.Placing.{bound_by, cell_with, first_port, rest_ports, home_at, home_in, is_of_cell, made, parent_in, part_with, parts_with, port_of, ports_from, first_ports, other_ports, resolved, seen_cell_ports, seen_ports};
 ghost use Rattle.icl_elab.specs.Roles.{seen_body, seen_cell, seen_hier, seen_part};
 ghost use Rattle.icl_elab.specs.SeenParts.{heads_of_cells, heads_of_frame, seen_cell_parts, seen_pass};
@@ -369,6 +370,15 @@ fn resolved<'a>(alloc: Global, frames: &'a [Frame<'a>]) -> Result<Hier, ElabFaul
     put_together(alloc, &tables, cells)
 }
 
+/// The hierarchy of a design below its top module.
+#[tactic(auto, unfolding(crate::specs::Hierarchy::hierarchy))]
+fn hierarchy_of(alloc: Global, design: &Design, top: &Name) -> Result<Hier, ElabFault>
+    ensures { Gives seen_hier result (hierarchy (seen_design design.now) top.now.items) }
+{
+    let frames = first_pass(alloc, design.modules.as_slice(), top.as_slice())?;
+    resolved(alloc, &frames)
+}
+
 /// The hierarchy of a design below its top module (IEEE 1687-2014, ICL: Module, Instance, Parameter): the instances that are reached, each
 /// before those in it, with parameters and ranges as numbers and each signal as single bits. Lists of bits begin at position 0, which
 /// stands nearest to TDO.
@@ -380,12 +390,11 @@ fn resolved<'a>(alloc: Global, frames: &'a [Frame<'a>]) -> Result<Hier, ElabFaul
 /// multiplexer. A binding of a port is `NoName`, `WrongKind`, the faults of its range, `DoubleName` at a bit that is bound already, then the
 /// faults of its signals, then `WidthDiffers`; a port that is bound at some of its bits alone is `WidthDiffers` at the instance, behind its
 /// bindings. `OutOfMemory` may come at any point.
-#[tactic(auto, unfolding(crate::specs::Hierarchy::hierarchy))]
 pub fn elaborate(alloc: Global, design: &Design, top: &Name) -> Result<Hier, ElabFault>
     ensures gives { Gives seen_hier result (hierarchy (seen_design design.now) top.now.items) }
     ensures wired { IfOk result (λ h. AreWired (seen_hier h)) }
     ensures numbered { IfOk result (λ h. AreNumbered (seen_hier h)) }
+    ensures instances { IfOk result (λ h. AreInstances (seen_design design.now) top.now.items (seen_hier h)) }
 {
-    let frames = first_pass(alloc, design.modules.as_slice(), top.as_slice())?;
-    resolved(alloc, &frames)
+    hierarchy_of(alloc, design, top)
 }
