@@ -1,10 +1,8 @@
 // The bits that signals name.
-ghost use Rattle.std.specs.Prelude.{◌≡◌, ◌++◌, List as ListOf, map, IfOk, OnOk};
+ghost use Rattle.std.specs.Prelude.{◌≡◌, ◌++◌, map, IfOk, OnOk};
 ghost use Rattle.ij_text.specs.Numbers.{tern_bits};
 ghost use Rattle.icl_values.specs.Widths.{joined};
-ghost use Rattle.icl_frames.specs.FirstPass.{Frame};
 ghost use Rattle.icl_frames.specs.Ranges.{positions};
-ghost use Rattle.icl_elab.specs.Names.{Here};
 ghost use Rattle.icl_elab.specs.Roles.{seen_refs};
 ghost use Rattle.icl_elab.specs.Signals.{constants};
 
@@ -45,7 +43,7 @@ pub(crate) fn constants(
     inverted: bool,
     bits: &Tern,
 ) -> Result<List<Ref>, OutOfMemory>
-    ensures { (frames : ListOf Frame) (here : Here) → IfOk result (λ refs. refs.items ≡ constants frames here inverted (tern_bits bits.now)) }
+    ensures { IfOk result (λ refs. refs.items ≡ constants inverted (tern_bits bits.now)) }
 {
     let mut refs = List::new(alloc);
     refs.reserve(bits.len() as usize)?;

@@ -1,0 +1,7 @@
+use Rattle.icl_elab.proofs.overlaps.key_of.Goals as goal
+
+pub loop-k-preserved : goal.loop-k-preserved
+loop-k-preserved c = ?
+
+pub returns : goal.returns
+returns c = ?
