@@ -1,5 +1,6 @@
 // The bits that signals name.
 ghost use Rattle.std.specs.Prelude.{◌≡◌, ◌++◌, map, IfOk, OnOk};
+ghost use Rattle.ij_bits.specs.BitLists.{flip_if};
 ghost use Rattle.ij_text.specs.Numbers.{tern_bits};
 ghost use Rattle.icl_values.specs.Widths.{joined};
 ghost use Rattle.icl_frames.specs.Ranges.{positions};
@@ -37,6 +38,13 @@ pub(crate) fn bits_between(
     Ok(refs)
 }
 
+/// A bit, inverted or not.
+fn flip_if(inverted: bool, bit: bool) -> bool
+    ensures { result ≡ flip_if inverted bit }
+{
+    if inverted { !bit } else { bit }
+}
+
 /// The bits of a number without x, inverted or not.
 pub(crate) fn constants(
     alloc: Global,
@@ -49,7 +57,7 @@ pub(crate) fn constants(
     refs.reserve(bits.len() as usize)?;
     for k in 0..bits.len() {
         let bit = bit_at(bits, k).unwrap_or(false);
-        refs.push_reserved(Ref::Fixed(bit != inverted));
+        refs.push_reserved(Ref::Fixed(flip_if(inverted, bit)));
     }
     Ok(refs)
 }
