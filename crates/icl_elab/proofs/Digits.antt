@@ -1,5 +1,5 @@
 -- The digits of numbers, one after another.
-use Rattle.std.proofs.Common.{◌≡◌, ◌+◌, ◌<◌, ◌≤◌, ℕ, zero, suc, Bool, true, false, List, [], ◌∷◌, ◌++◌, length, map, get_or, take, drop, Option, Some, None, refl, sym, ap, ◌∙◌, arith}
+use Rattle.std.proofs.Common.{◌≡◌, ◌+◌, ◌<◌, ◌≤◌, ℕ, zero, suc, Bool, true, false, List, [], ◌∷◌, ◌++◌, length, map, min, get_or, take, drop, Option, Some, None, refl, sym, ap, ◌∙◌, arith}
 use Rattle.std.specs.Prelude.{◌&&◌}
 use Rattle.ij_bits.specs.declared.tern.Tern.{Tern}
 use Rattle.ij_text.specs.Numbers.{tern_bits}
@@ -25,3 +25,15 @@ next_digits (x ∷ as') [] k a b lt gt e f = absurd (omega (arith, gt))
 next_digits (x ∷ as') (y ∷ bs) zero a b lt gt e f = rw (e, f) refl
 next_digits (x ∷ as') (y ∷ bs) (suc k) a b lt gt e f = let n : suc k + 1 ≡ suc (k + 1) = omega arith in rw n (next_digits as' bs k a b (omega (arith, lt)) (omega (arith, gt)) e f)
 
+
+no_digit : (as' : OpenBits) → meet as' [] ≡ true
+no_digit [] = refl
+no_digit (a ∷ as') = refl
+
+pub last_digits : (as' bs : OpenBits) (k : ℕ) → min (length as') (length bs) ≤ k → meet (drop k as') (drop k bs) ≡ true
+last_digits [] bs zero le = refl
+last_digits [] bs (suc k) le = refl
+last_digits (a ∷ as') [] zero le = refl
+last_digits (a ∷ as') [] (suc k) le = no_digit (drop k as')
+last_digits (a ∷ as') (b ∷ bs) zero le = absurd (omega (arith, le))
+last_digits (a ∷ as') (b ∷ bs) (suc k) le = last_digits as' bs k (omega (arith, le))
