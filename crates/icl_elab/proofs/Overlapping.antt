@@ -5,8 +5,9 @@ use Rattle.std.specs.List.{list_any}
 use Rattle.std.specs.Str.{bytes_eq}
 use Rattle.icl_values.specs.Values.{OpenBits}
 use Rattle.icl_elab.specs.Muxes.{meet, meet_at, rows_meet, some_meet}
-use Rattle.icl_elab.specs.Overlaps.{AreWide, digit, from_left, has_key, is_closed, key_of, values_meet}
+use Rattle.icl_elab.specs.Overlaps.{AreRowsAlike, AreWide, digit, from_left, has_key, is_closed, key_of, values_meet}
 use Rattle.icl_elab.specs.Roles.{Choice}
+use Rattle.icl_frames.proofs.Answering.{all_both}
 
 -- ---- tests of lists
 
@@ -67,6 +68,9 @@ left_is values (r ∷ rows) =
 
 pub all_from_left : (rows : List Choice) → from_left [] rows ≡ some_meet rows
 all_from_left rows = left_is [] rows
+
+pub alike_next : (values : List OpenBits) (r : Choice) (rows : List Choice) → AreRowsAlike values (r ∷ rows) → AreRowsAlike (values ++ r.values) rows
+alike_next values r rows a = record { width = a.width; values_wide = all_both (λ (v : OpenBits). length v ≡ a.width) values r.values a.values_wide (a.rows_wide.0); rows_wide = a.rows_wide.1 }
 
 -- ---- values without x
 

@@ -8,6 +8,7 @@ use Rattle.icl_values.proofs.Each.{fails_along}
 use Rattle.icl_frames.specs.FirstPass.{Frame}
 use Rattle.icl_elab.specs.Names.{Here, Target, named, inside, path_from}
 use Rattle.icl_elab.specs.Targets.{child_named}
+use Rattle.icl_elab.proofs.Everywhere.{left_at}
 
 one_after_another : {A B C E : Type 0} (r : Result A E) (f : A → Result B E) (g : B → Result C E) → (r >>= λ x. f x >>= g) ≡ ((r >>= f) >>= g)
 one_after_another (Ok x) f g = refl
@@ -35,14 +36,9 @@ name_fails frames here at name names last e h = fails_along e _ _ (sym (first_na
 
 -- ---- in a loop over a path
 
-name_at : (front : List (Listed ℕ)) (i : ℕ) (x : Listed ℕ) → i < length front → x ≡ get_or front i x → map bytes_of (drop i front) ≡ x.items ∷ map bytes_of (drop (i + 1) front)
-name_at [] i x lt e = absurd (omega (arith, lt))
-name_at (y ∷ front) zero x lt e = ap (λ (z : Listed ℕ). z.items ∷ map bytes_of front) (sym e)
-name_at (y ∷ front) (suc i) x lt e = let n : suc i + 1 ≡ suc (i + 1) = omega arith in rw n (name_at front i x (omega (arith, lt)) e)
-
 pub stops_at : (frames : List Frame) (here : Here) (at : Place) (front : List (Listed ℕ)) (i : ℕ) (x : Listed ℕ) (last : List ℕ) (e : Option Fault) (whole : Answer Target)
     → i < length front → x ≡ get_or front i x → Fails e (child_named frames here at x.items) → path_from frames here at (map bytes_of (drop i front) ++ last ∷ []) ≡ whole → Fails e whole
 stops_at frames here at front i x last e whole lt is h goes_on =
     fails_along e (path_from frames here at (x.items ∷ (map bytes_of (drop (i + 1) front) ++ last ∷ []))) whole
-    (sym (ap (λ (l : List (List ℕ)). path_from frames here at (l ++ last ∷ [])) (name_at front i x lt is)) ∙ goes_on)
+    (sym (ap (λ (l : List (List ℕ)). path_from frames here at (l ++ last ∷ [])) (left_at bytes_of front i x lt is)) ∙ goes_on)
     (name_fails frames here at x.items (map bytes_of (drop (i + 1) front)) last e h)
