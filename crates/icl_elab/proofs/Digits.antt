@@ -25,7 +25,6 @@ next_digits (x ∷ as') [] k a b lt gt e f = absurd (omega (arith, gt))
 next_digits (x ∷ as') (y ∷ bs) zero a b lt gt e f = rw (e, f) refl
 next_digits (x ∷ as') (y ∷ bs) (suc k) a b lt gt e f = let n : suc k + 1 ≡ suc (k + 1) = omega arith in rw n (next_digits as' bs k a b (omega (arith, lt)) (omega (arith, gt)) e f)
 
-
 no_digit : (as' : OpenBits) → meet as' [] ≡ true
 no_digit [] = refl
 no_digit (a ∷ as') = refl

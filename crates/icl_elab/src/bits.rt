@@ -74,10 +74,7 @@ fn append(refs: &mut List<Ref>, more: &List<Ref>) -> Result<(), OutOfMemory>
 }
 
 /// Signals side by side, the leftmost first: position 0 is in the last one.
-pub(crate) fn side_by_side(
-    alloc: Global,
-    parts: &[List<Ref>],
-) -> Result<List<Ref>, OutOfMemory>
+pub(crate) fn side_by_side(alloc: Global, parts: &[List<Ref>]) -> Result<List<Ref>, OutOfMemory>
     ensures { IfOk result (λ refs. refs.items ≡ joined (map seen_refs parts.now)) }
 {
     let mut refs = List::new(alloc);

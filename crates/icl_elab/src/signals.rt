@@ -12,10 +12,10 @@ ghost use Rattle.icl_elab.specs.Targets.{seen_target};
 
 use crate::bits::{bits_between, constants, side_by_side};
 use crate::hier::Ref;
-use crate::values::number_bits;
 use crate::paths::{Target, path_from};
 use crate::sources::{is_alias_source, is_data_source, is_scan_source};
 use crate::tables::Tables;
+use crate::values::number_bits;
 use icl_frames::{Bounds, indices, is_register, named_in};
 use icl_syntax::{Expr, Range, Sig, SigWhat};
 use icl_values::{ElabFault, evaluate, place_in};
