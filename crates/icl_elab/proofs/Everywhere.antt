@@ -1,5 +1,5 @@
--- What holds at each place of a list.
-use Rattle.std.proofs.Common.{◌≡◌, ◌<◌, ℕ, zero, suc, List, [], ◌∷◌, ◌++◌, length, get_or, refl, sym, subst, arith}
+-- What holds at each place of a list, and what is left of it in a loop.
+use Rattle.std.proofs.Common.{◌≡◌, ◌+◌, ◌<◌, ℕ, zero, suc, List, [], ◌∷◌, ◌++◌, length, map, get_or, drop, refl, sym, ap, subst, arith}
 
 module _ {A : Type 0} (P : A → Type 0) where
   abbrev pub Everywhere : List A → Type 0
@@ -19,3 +19,9 @@ pub inside : {A : Type 0} (xs : List A) (i : ℕ) (d e : A) → i < length xs �
 inside [] i d e lt = absurd (omega (arith, lt))
 inside (x ∷ xs) zero d e lt = refl
 inside (x ∷ xs) (suc i) d e lt = inside xs i d e (omega (arith, lt))
+
+-- the items that are left, seen by a view
+pub left_at : {A B : Type 0} (see : A → B) (xs : List A) (i : ℕ) (x : A) → i < length xs → x ≡ get_or xs i x → map see (drop i xs) ≡ see x ∷ map see (drop (i + 1) xs)
+left_at see [] i x lt e = absurd (omega (arith, lt))
+left_at see (y ∷ xs) zero x lt e = ap (λ z. see z ∷ map see xs) (sym e)
+left_at see (y ∷ xs) (suc i) x lt e = let n : suc i + 1 ≡ suc (i + 1) = omega arith in rw n (left_at see xs i x (omega (arith, lt)) e)

@@ -55,12 +55,15 @@ module _ (name : List ℕ) where
 
   pub finds : (n : ℕ) (items : List SeenItem) (bs : List Bounds) → Finds (part_from n is_signal items name) (find is_named (members_from n (parts_in items) bs)) (members_from n (parts_in items) bs) n
   finds n [] bs = refl
-  finds n (item ∷ items) bs = by_part (is_part item.what)
+  finds n (item ∷ items) bs = by_part (is_part item.what) (finds (suc n) items (drop 1 bs)) (finds n items bs)
     where
-      by_part : (b : Bool) → Finds (cond b (cond (is_signal item.what && bytes_eq name item.name) (Some n) (part_from (suc n) is_signal items name)) (part_from n is_signal items name))
+      by_part : (b : Bool)
+          → Finds (part_from (suc n) is_signal items name) (find is_named (members_from (suc n) (parts_in items) (drop 1 bs))) (members_from (suc n) (parts_in items) (drop 1 bs)) (suc n)
+          → Finds (part_from n is_signal items name) (find is_named (members_from n (parts_in items) bs)) (members_from n (parts_in items) bs) n
+          → Finds (cond b (cond (is_signal item.what && bytes_eq name item.name) (Some n) (part_from (suc n) is_signal items name)) (part_from n is_signal items name))
           (find is_named (members_from n (cond b (item ∷ parts_in items) (parts_in items)) bs)) (members_from n (cond b (item ∷ parts_in items) (parts_in items)) bs) n
-      by_part true =
+      by_part true h g =
           let m : Member = record { part = n; item = item; bounds = get_or bs 0 one_bit } in
           let P : List Member → Type 0 = λ l. Finds (cond (is_named m) (Some n) (part_from (suc n) is_signal items name)) (find is_named l) l n in
-          subst P (sym (next_member n 0 item (parts_in items) bs)) (by_name n m (members_from (suc n) (parts_in items) (drop 1 bs)) (part_from (suc n) is_signal items name) (is_named m) refl (finds (suc n) items (drop 1 bs)))
-      by_part false = finds n items bs
+          subst P (sym (next_member n 0 item (parts_in items) bs)) (by_name n m (members_from (suc n) (parts_in items) (drop 1 bs)) (part_from (suc n) is_signal items name) (is_named m) refl h)
+      by_part false h g = g

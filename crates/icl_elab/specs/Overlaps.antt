@@ -28,23 +28,34 @@ has_key key u = is_closed u && bytes_eq key (key_of u)
 
 -- ---- what is known of the values up to here
 
-pub record IsSeen (seen : Seen) (values : List OpenBits) : Type 0 where
-  pub all : map (λ v. tern_bits v.now) seen.all.items ≡ values
-  pub with_x : map (λ v. tern_bits v.now) seen.with_x.items ≡ filter (λ v. not (is_closed v)) values
-  pub closed : (key : List ℕ) → has_entry seen.closed key ≡ list_any (has_key key) values
+abbrev pub values_of : Seen → List OpenBits
+values_of seen = map (λ v. tern_bits v.now) seen.all.items
+
+pub record IsSeen (seen : Seen) : Type 0 where
+  pub with_x : map (λ v. tern_bits v.now) seen.with_x.items ≡ filter (λ v. not (is_closed v)) (values_of seen)
+  pub closed : (key : List ℕ) → has_entry seen.closed key ≡ list_any (has_key key) (values_of seen)
 
 -- whether one of these values meets one of the others
 abbrev pub values_meet : List OpenBits → List OpenBits → Bool
 values_meet values row = list_any (λ v. list_any (λ u. meet u v) values) row
 
-abbrev pub all_values : List Choice → List OpenBits
-all_values [] = []
-all_values (r ∷ rows) = r.values ++ all_values rows
+-- whether one of these values meets one of a row's, or two of the rows overlap
+abbrev pub from_left : List OpenBits → List Choice → Bool
+from_left values [] = false
+from_left values (r ∷ rows) = values_meet values r.values || from_left (values ++ r.values) rows
 
 -- ---- widths
 
 abbrev pub AreWide : ℕ → List OpenBits → Type 0
 AreWide width values = AllByRecursion (λ v. length v ≡ width) values
 
-abbrev pub AreRowsWide : ℕ → List Choice → Type 0
-AreRowsWide width rows = AllByRecursion (λ r. AreWide width r.values) rows
+-- values and a row's of one width
+pub record AreAlike (values row : List OpenBits) : Type 0 where
+  pub width : ℕ
+  pub values_wide : AreWide width values
+  pub row_wide : AreWide width row
+
+pub record AreRowsAlike (values : List OpenBits) (rows : List Choice) : Type 0 where
+  pub width : ℕ
+  pub values_wide : AreWide width values
+  pub rows_wide : AllByRecursion (λ r. AreWide width r.values) rows

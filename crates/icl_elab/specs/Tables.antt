@@ -1,6 +1,6 @@
 -- Tables of the cells of a design, for the second pass of elaboration: the parts of each cell by number and by name, and the
 -- cells that its instances are.
-use Rattle.std.specs.Prelude.{◌≡◌, ℕ, ◌<◌, ◌^◌, ◌==◌, ◌&&◌, cond, List, [], map, length, get_or, Option, Some, None}
+use Rattle.std.specs.Prelude.{◌≡◌, ℕ, ◌<◌, ◌^◌, ◌==◌, ◌&&◌, cond, List, [], ◌∷◌, ◌++◌, map, length, get_or, Option, Some, None}
 use Rattle.std.specs.Str.{bytes_eq}
 use Rattle.std.specs.Option.{option_map}
 use Rattle.icl_syntax.specs.Views.{seen_item}
@@ -73,3 +73,7 @@ AreEmpty all = (cell : ℕ) (c : Scope) → cell < length all → c ≡ get_or a
 abbrev pub IsChildAdded : List Scope → List Scope → ℕ → List ℕ → ℕ → Type 0
 IsChildAdded old new parent name number = (cell : ℕ) (c d : Scope) → cell < length old → c ≡ get_or old cell c → d ≡ get_or new cell d
     → (n : List ℕ) → entry_of d n ≡ or_else (entry_of c n) (cond (parent == cell && bytes_eq n name) (Some number) None)
+
+-- a cell more, behind all that were there, is among the children
+abbrev pub IsFrameAdded : List Scope → List Scope → Frame → ℕ → Type 0
+IsFrameAdded old new frame number = (frames : List Frame) → AreAllChildren frames old → number ≡ length frames → AreAllChildren (frames ++ frame ∷ []) new

@@ -1,10 +1,9 @@
 // The bits that signals name.
-ghost use Rattle.std.specs.Prelude.{◌≡◌, ◌++◌, List as ListOf, map, IfOk, OnOk};
+ghost use Rattle.std.specs.Prelude.{◌≡◌, ◌++◌, map, IfOk, OnOk};
+ghost use Rattle.ij_bits.specs.BitLists.{flip_if};
 ghost use Rattle.ij_text.specs.Numbers.{tern_bits};
 ghost use Rattle.icl_values.specs.Widths.{joined};
-ghost use Rattle.icl_frames.specs.FirstPass.{Frame};
 ghost use Rattle.icl_frames.specs.Ranges.{positions};
-ghost use Rattle.icl_elab.specs.Names.{Here};
 ghost use Rattle.icl_elab.specs.Roles.{seen_refs};
 ghost use Rattle.icl_elab.specs.Signals.{constants};
 
@@ -39,19 +38,26 @@ pub(crate) fn bits_between(
     Ok(refs)
 }
 
+/// A bit, inverted or not.
+fn flip_if(inverted: bool, bit: bool) -> bool
+    ensures { result ≡ flip_if inverted bit }
+{
+    if inverted { !bit } else { bit }
+}
+
 /// The bits of a number without x, inverted or not.
 pub(crate) fn constants(
     alloc: Global,
     inverted: bool,
     bits: &Tern,
 ) -> Result<List<Ref>, OutOfMemory>
-    ensures { (frames : ListOf Frame) (here : Here) → IfOk result (λ refs. refs.items ≡ constants frames here inverted (tern_bits bits.now)) }
+    ensures { IfOk result (λ refs. refs.items ≡ constants inverted (tern_bits bits.now)) }
 {
     let mut refs = List::new(alloc);
     refs.reserve(bits.len() as usize)?;
     for k in 0..bits.len() {
         let bit = bit_at(bits, k).unwrap_or(false);
-        refs.push_reserved(Ref::Fixed(bit != inverted));
+        refs.push_reserved(Ref::Fixed(flip_if(inverted, bit)));
     }
     Ok(refs)
 }
@@ -68,10 +74,7 @@ fn append(refs: &mut List<Ref>, more: &List<Ref>) -> Result<(), OutOfMemory>
 }
 
 /// Signals side by side, the leftmost first: position 0 is in the last one.
-pub(crate) fn side_by_side(
-    alloc: Global,
-    parts: &[List<Ref>],
-) -> Result<List<Ref>, OutOfMemory>
+pub(crate) fn side_by_side(alloc: Global, parts: &[List<Ref>]) -> Result<List<Ref>, OutOfMemory>
     ensures { IfOk result (λ refs. refs.items ≡ joined (map seen_refs parts.now)) }
 {
     let mut refs = List::new(alloc);

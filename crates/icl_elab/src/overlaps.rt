@@ -1,10 +1,9 @@
 // Overlaps of the rows of a multiplexer.
-ghost use Rattle.std.specs.Prelude.{◌≡◌, ◌++◌, ◌∷◌, ℕ, [], List as ListOf, length, map, IfOk};
+ghost use Rattle.std.specs.Prelude.{◌≡◌, ◌++◌, ◌∷◌, [], length, map, IfOk};
 ghost use Rattle.std.specs.List.{list_any};
 ghost use Rattle.ij_text.specs.Numbers.{tern_bits};
-ghost use Rattle.icl_values.specs.Values.{OpenBits};
 ghost use Rattle.icl_elab.specs.Muxes.{meet, meet_at, some_meet};
-ghost use Rattle.icl_elab.specs.Overlaps.{AreRowsWide, AreWide, IsSeen, digit, key_of, values_meet};
+ghost use Rattle.icl_elab.specs.Overlaps.{AreAlike, AreRowsAlike, AreWide, IsSeen, digit, key_of, values_meet, values_of};
 ghost use Rattle.icl_elab.specs.Roles.{seen_row};
 
 use crate::hier::Ref;
@@ -86,7 +85,8 @@ fn key_of(alloc: Global, v: &Tern) -> Result<Vec<u8>, OutOfMemory>
 impl<'a> Seen<'a> {
     /// No values.
     fn new(alloc: Global) -> Seen<'a>
-        ensures { IsSeen result [] }
+        ensures seen { IsSeen result }
+        ensures none { values_of result ≡ [] }
     {
         Seen {
             all: Vec::new(alloc),
@@ -97,18 +97,25 @@ impl<'a> Seen<'a> {
 
     /// Whether one of the values, which are as wide as this one, meets it.
     fn meets(&self, alloc: Global, v: &Tern) -> Result<bool, OutOfMemory>
-        ensures { IfOk result (λ b. (values : ListOf OpenBits) → IsSeen self.now values → AreWide (length (tern_bits v.now)) values → b ≡ list_any (λ u. meet u (tern_bits v.now)) values) }
+        requires seen { IsSeen self.now }
+        requires wide { AreWide (length (tern_bits v.now)) (values_of self.now) }
+        ensures { IfOk result (λ b. b ≡ list_any (λ u. meet u (tern_bits v.now)) (values_of self.now)) }
     {
         if !is_closed(v) {
             return Ok(one_meets(&self.all, v));
         }
         let key = key_of(alloc, v)?;
-        Ok(self.closed.has(&key) || one_meets(&self.with_x, v))
+        if self.closed.has(&key) {
+            return Ok(true);
+        }
+        Ok(one_meets(&self.with_x, v))
     }
 
     /// The values with one more.
     fn with(self, alloc: Global, v: &'a Tern) -> Result<Seen<'a>, OutOfMemory>
-        ensures { IfOk result (λ next. (values : ListOf OpenBits) → IsSeen self.entry values → IsSeen next (values ++ tern_bits v.now ∷ [])) }
+        requires { IsSeen self }
+        ensures seen { IfOk result (λ next. IsSeen next) }
+        ensures all { IfOk result (λ next. values_of next ≡ values_of self.entry ++ tern_bits v.now ∷ []) }
     {
         let Seen {
             mut all,
@@ -132,7 +139,9 @@ impl<'a> Seen<'a> {
 
 /// Whether a row overlaps with one of those up to here.
 fn row_meets(alloc: Global, seen: &Seen, row: &[Tern]) -> Result<bool, OutOfMemory>
-    ensures { IfOk result (λ b. (values : ListOf OpenBits) (width : ℕ) → IsSeen seen.now values → AreWide width values → AreWide width (map tern_bits row.now) → b ≡ values_meet values (map tern_bits row.now)) }
+    requires seen { IsSeen seen.now }
+    requires alike { AreAlike (values_of seen.now) (map tern_bits row.now) }
+    ensures { IfOk result (λ b. b ≡ values_meet (values_of seen.now) (map tern_bits row.now)) }
 {
     for v in row {
         if seen.meets(alloc, v)? {
@@ -144,7 +153,9 @@ fn row_meets(alloc: Global, seen: &Seen, row: &[Tern]) -> Result<bool, OutOfMemo
 
 /// The values with those of one row more.
 fn with_row<'a>(alloc: Global, seen: Seen<'a>, row: &'a [Tern]) -> Result<Seen<'a>, OutOfMemory>
-    ensures { IfOk result (λ next. (values : ListOf OpenBits) → IsSeen seen.entry values → IsSeen next (values ++ map tern_bits row.now)) }
+    requires { IsSeen seen }
+    ensures seen { IfOk result (λ next. IsSeen next) }
+    ensures all { IfOk result (λ next. values_of next ≡ values_of seen.entry ++ map tern_bits row.now) }
 {
     let mut seen = seen;
     for v in row {
@@ -156,7 +167,8 @@ fn with_row<'a>(alloc: Global, seen: Seen<'a>, row: &'a [Tern]) -> Result<Seen<'
 /// Whether two of these rows overlap, whose values have one width. It takes time in the number of values, and of those with an x
 /// times all.
 pub(crate) fn some_meet(alloc: Global, rows: &[Row]) -> Result<bool, OutOfMemory>
-    ensures { IfOk result (λ b. (width : ℕ) → AreRowsWide width (map seen_row rows.now) → b ≡ some_meet (map seen_row rows.now)) }
+    requires { AreRowsAlike [] (map seen_row rows.now) }
+    ensures { IfOk result (λ b. b ≡ some_meet (map seen_row rows.now)) }
 {
     let mut seen = Seen::new(alloc);
     for row in rows {

@@ -1,23 +1,21 @@
 // What a signal names, bit by bit.
-ghost use Rattle.std.specs.Prelude.{◌≡◌, ◌==◌, List as ListOf, length, map, cond, Ok, Err, None};
+ghost use Rattle.std.specs.Prelude.{◌≡◌, ◌==◌, length, map, cond, Ok, Err, None};
 ghost use Rattle.std.specs.Option.{option_map};
 ghost use Rattle.icl_syntax.specs.Views.{bytes_of, seen_expr, seen_range, seen_sig, seen_sig_what};
 ghost use Rattle.icl_syntax.specs.Values.{ANumber};
 ghost use Rattle.icl_values.specs.Expressions.{same};
 ghost use Rattle.icl_values.specs.Faults.{Gives, each};
 ghost use Rattle.icl_elab.specs.Roles.{seen_refs};
-ghost use Rattle.icl_elab.specs.Names.{Here};
 ghost use Rattle.icl_elab.specs.Signals.{alias_meant, alias_path, alias_signals, as_wide, control_meant, control_signals, data_meant, data_path, data_signal, data_signals, is_scan_out_of, lone_width, register_named, scan_named, scan_path, scan_signal, select_signals};
-ghost use Rattle.icl_frames.specs.FirstPass.{Frame};
 ghost use Rattle.icl_elab.specs.Tables.{IsHere, frames_of, here_in};
 ghost use Rattle.icl_elab.specs.Targets.{seen_target};
 
 use crate::bits::{bits_between, constants, side_by_side};
 use crate::hier::Ref;
-use crate::values::number_bits;
 use crate::paths::{Target, path_from};
 use crate::sources::{is_alias_source, is_data_source, is_scan_source};
 use crate::tables::Tables;
+use crate::values::number_bits;
 use icl_frames::{Bounds, indices, is_register, named_in};
 use icl_syntax::{Expr, Range, Sig, SigWhat};
 use icl_values::{ElabFault, evaluate, place_in};
@@ -29,7 +27,7 @@ use std::alloc::Global;
 
 /// Whether these indices are those of a register as a whole, or its right one.
 fn is_scan_out_of(b: Bounds, i: Bounds) -> bool
-    ensures { (frames : ListOf Frame) (here : Here) → result ≡ is_scan_out_of frames here b i }
+    ensures { result ≡ is_scan_out_of b i }
 {
     i.right == b.right && (i.left == b.right || i.left == b.left)
 }
@@ -223,14 +221,14 @@ fn data_parts(
 
 /// The width that is wanted of a number: that of the whole list where it is alone.
 fn lone_width(width: u32, sigs: &[Sig]) -> Option<u32>
-    ensures { (frames : ListOf Frame) (here : Here) → result ≡ lone_width frames here width (map seen_sig sigs.now) }
+    ensures { result ≡ lone_width width (map seen_sig sigs.now) }
 {
     if sigs.len() == 1 { Some(width) } else { None }
 }
 
 /// Bits, if there are as many as are wanted.
 fn as_wide(holder: Place, width: u32, refs: List<Ref>) -> Result<List<Ref>, ElabFault>
-    ensures { (frames : ListOf Frame) (here : Here) → Gives seen_refs result (as_wide frames here holder width refs.items) }
+    ensures { Gives seen_refs result (as_wide holder width refs.items) }
 {
     if refs.len() == width as usize {
         Ok(refs)

@@ -1,9 +1,7 @@
 // What signals may name.
-ghost use Rattle.std.specs.Prelude.{◌≡◌, ◌||◌, List, map};
+ghost use Rattle.std.specs.Prelude.{◌≡◌, ◌||◌, map};
 ghost use Rattle.icl_syntax.specs.Views.{bytes_of, seen_what};
-ghost use Rattle.icl_frames.specs.FirstPass.{Frame};
 ghost use Rattle.icl_frames.specs.Parts.{is_data_in, is_data_out, is_data_port, is_register, is_scan_in, is_scan_out, port_that};
-ghost use Rattle.icl_elab.specs.Names.{Here};
 ghost use Rattle.icl_elab.specs.Signals.{is_data_source, is_of_child, is_own, is_scan_source};
 
 use icl_frames::{
@@ -64,7 +62,7 @@ fn is_of_child(path: &[Name]) -> bool
 
 /// Whether a scan signal may name what a path leads to: an own `ScanInPort`, a multiplexer, a register, or the `ScanOutPort` of an instance.
 pub(crate) fn is_scan_source(path: &[Name], what: &What) -> bool
-    ensures { (frames : List Frame) (here : Here) → result ≡ is_scan_source frames here (map bytes_of path.now) (seen_what what.now) }
+    ensures { result ≡ is_scan_source (map bytes_of path.now) (seen_what what.now) }
 {
     (is_own(path) && (is_register(what) || is_mux(what) || is_scan_in_port(what)))
         || (is_of_child(path) && is_scan_out_port(what))
@@ -72,7 +70,7 @@ pub(crate) fn is_scan_source(path: &[Name], what: &What) -> bool
 
 /// Whether a data signal may name what a path leads to: a register, an own `DataInPort`, or the `DataOutPort` of an instance.
 pub(crate) fn is_data_source(path: &[Name], what: &What) -> bool
-    ensures { (frames : List Frame) (here : Here) → result ≡ is_data_source frames here (map bytes_of path.now) (seen_what what.now) }
+    ensures { result ≡ is_data_source (map bytes_of path.now) (seen_what what.now) }
 {
     (is_own(path) && (is_register(what) || is_data_in_port(what)))
         || (is_of_child(path) && is_data_out_port(what))

@@ -9,7 +9,7 @@ ghost use Rattle.icl_frames.specs.Scopes.{entry_of};
 ghost use Rattle.icl_frames.specs.declared.scope.Scope.{Scope as ScopeAt};
 ghost use Rattle.icl_frames.specs.SeenFrames.{seen_frame};
 ghost use Rattle.icl_elab.specs.Names.{child_cell, inside, known_cell, members, named};
-ghost use Rattle.icl_elab.specs.Tables.{AreAllChildren, AreCellTables, AreEmpty, AreTables, IsCellTable, IsChildAdded, IsHere, frames_in, frames_of, here_in, seen_member};
+ghost use Rattle.icl_elab.specs.Tables.{AreAllChildren, AreCellTables, AreEmpty, AreTables, IsCellTable, IsChildAdded, IsFrameAdded, IsHere, frames_in, frames_of, here_in, seen_member};
 
 use icl_frames::{Bounds, Frame, Scope, is_part};
 use icl_syntax::{Item, What};
@@ -133,16 +133,33 @@ fn no_children(alloc: Global, count: usize) -> Result<Vec<Scope>, OutOfMemory>
 /// Adds a cell to the children of another one.
 fn add_child(
     alloc: Global,
-    children: &mut [Scope],
+    children: &mut Vec<Scope>,
     parent: u32,
     name: &[u8],
     number: u32,
 ) -> Result<(), OutOfMemory>
-    ensures { OnOk result (IsChildAdded children.old children.new parent name.now number) }
+    ensures long { length children.new.items ≡ length children.old.items }
+    ensures added { OnOk result (IsChildAdded children.old.items children.new.items parent name.now number) }
 {
     if (parent as usize) < children.len() {
         let table = &mut children[parent as usize];
         table.add(alloc, name, number)?;
+    }
+    Ok(())
+}
+
+/// Adds a cell to the children of the one that it stands in.
+fn add_frame(
+    alloc: Global,
+    children: &mut Vec<Scope>,
+    frame: &Frame,
+    number: u32,
+) -> Result<(), OutOfMemory>
+    ensures long { length children.new.items ≡ length children.old.items }
+    ensures added { OnOk result (IsFrameAdded children.old.items children.new.items (seen_frame frame.now) number) }
+{
+    if let Some(parent) = frame.parent {
+        add_child(alloc, children, parent, frame.name, number)?;
     }
     Ok(())
 }
@@ -156,9 +173,7 @@ fn children_of(alloc: Global, frames: &[Frame]) -> Result<Vec<Scope>, OutOfMemor
     let mut all = no_children(alloc, frames.len())?;
     let mut number = 0;
     for frame in frames {
-        if let Some(parent) = frame.parent {
-            add_child(alloc, &mut all, parent, frame.name, number)?;
-        }
+        add_frame(alloc, &mut all, frame, number)?;
         number += 1;
     }
     Ok(all)

@@ -1,12 +1,10 @@
 // Numbers in place of data signals.
-ghost use Rattle.std.specs.Prelude.{◌≡◌, List};
+ghost use Rattle.std.specs.Prelude.{◌≡◌};
 ghost use Rattle.std.specs.List.{list_all};
 ghost use Rattle.std.specs.Prelude.{is_some};
 ghost use Rattle.ij_text.specs.Numbers.{tern_bits};
 ghost use Rattle.icl_values.specs.Faults.{Gives};
 ghost use Rattle.icl_values.specs.Values.{seen_value};
-ghost use Rattle.icl_frames.specs.FirstPass.{Frame};
-ghost use Rattle.icl_elab.specs.Names.{Here};
 ghost use Rattle.icl_elab.specs.Signals.{free_number, number_bits, sized_number};
 
 use icl_values::{ElabFault, Value, bit_at, free_in, integer_bits, sized_in};
@@ -34,7 +32,7 @@ fn free_number(
     wanted: Option<u32>,
     bits: Tern,
 ) -> Result<Tern, ElabFault>
-    ensures { (frames : List Frame) (here : Here) → Gives tern_bits result (free_number frames here holder at wanted (tern_bits bits)) }
+    ensures { Gives tern_bits result (free_number holder at wanted (tern_bits bits)) }
 {
     match wanted {
         Some(width) => free_in(alloc, bits, width, holder),
@@ -49,7 +47,7 @@ fn sized_number(
     wanted: Option<u32>,
     bits: Tern,
 ) -> Result<Tern, ElabFault>
-    ensures { (frames : List Frame) (here : Here) → Gives tern_bits result (sized_number frames here holder wanted (tern_bits bits)) }
+    ensures { Gives tern_bits result (sized_number holder wanted (tern_bits bits)) }
 {
     match wanted {
         Some(width) => sized_in(alloc, bits, width, holder),
@@ -65,7 +63,7 @@ pub(crate) fn number_bits(
     wanted: Option<u32>,
     value: Value,
 ) -> Result<Tern, ElabFault>
-    ensures { (frames : List Frame) (here : Here) → Gives tern_bits result (number_bits frames here holder at wanted (seen_value value)) }
+    ensures { Gives tern_bits result (number_bits holder at wanted (seen_value value)) }
 {
     match value {
         Value::Integer(n) => {

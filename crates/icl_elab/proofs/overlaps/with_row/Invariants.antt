@@ -1,8 +1,10 @@
-use Rattle.std.proofs.Common.{List, ◌++◌, map, take}
+use Rattle.std.proofs.Common.{◌≡◌, ◌++◌, map, take}
 use Rattle.ij_text.specs.Numbers.{tern_bits}
-use Rattle.icl_values.specs.Values.{OpenBits}
-use Rattle.icl_elab.specs.Overlaps.{IsSeen}
+use Rattle.icl_elab.specs.Overlaps.{IsSeen, values_of}
 use Rattle.icl_elab.proofs.overlaps.with_row.Given as goal
 
 abbrev pub invariant-loop-v : goal.invariant-loop-v
-invariant-loop-v l = (values : List OpenBits) → IsSeen l.fn.seen values → IsSeen l.seen (values ++ map tern_bits (take l.v-index l.row))
+invariant-loop-v l = record {
+  seen : IsSeen l.seen;
+  all : values_of l.seen ≡ values_of l.fn.seen ++ map tern_bits (take l.v-index l.row);
+}
