@@ -5,24 +5,28 @@ ghost use Rattle.icl_frames.specs.Parts.{is_scan_in, is_scan_out, is_data_in, is
 
 use icl_syntax::{PortKind, Prop, What};
 
+/// A `ScanInPort`.
 pub fn is_scan_in(kind: PortKind) -> bool
     ensures { result ≡ is_scan_in kind }
 {
     matches!(kind, PortKind::ScanInPort)
 }
 
+/// A `ScanOutPort`.
 pub fn is_scan_out(kind: PortKind) -> bool
     ensures { result ≡ is_scan_out kind }
 {
     matches!(kind, PortKind::ScanOutPort)
 }
 
+/// A `DataInPort`.
 pub fn is_data_in(kind: PortKind) -> bool
     ensures { result ≡ is_data_in kind }
 {
     matches!(kind, PortKind::DataInPort)
 }
 
+/// A `DataOutPort`.
 pub fn is_data_out(kind: PortKind) -> bool
     ensures { result ≡ is_data_out kind }
 {
@@ -53,18 +57,21 @@ pub fn is_input(kind: PortKind) -> bool
     is_scan_in(kind) || is_data_in(kind) || is_control_in(kind)
 }
 
+/// A `ScanRegister`.
 pub fn is_register(what: &What) -> bool
     ensures { result ≡ is_register (seen_what what.now) }
 {
     matches!(what, What::Register { .. })
 }
 
+/// A `ScanMux`.
 pub fn is_mux(what: &What) -> bool
     ensures { result ≡ is_mux (seen_what what.now) }
 {
     matches!(what, What::Mux { .. })
 }
 
+/// An `Instance`.
 pub fn is_child(what: &What) -> bool
     ensures { result ≡ is_child (seen_what what.now) }
 {
@@ -85,24 +92,28 @@ pub fn is_signal(what: &What) -> bool
     }
 }
 
+/// A `ScanInterface`.
 pub fn is_interface(what: &What) -> bool
     ensures { result ≡ is_interface (seen_what what.now) }
 {
     matches!(what, What::Interface { .. })
 }
 
+/// An `AccessLink`.
 pub fn is_link(what: &What) -> bool
     ensures { result ≡ is_link (seen_what what.now) }
 {
     matches!(what, What::Link { .. })
 }
 
+/// An `Enum`.
 pub fn is_enum(what: &What) -> bool
     ensures { result ≡ is_enum (seen_what what.now) }
 {
     matches!(what, What::Words { .. })
 }
 
+/// A `Parameter`, or a `LocalParameter`.
 pub fn is_parameter(what: &What) -> bool
     ensures { result ≡ is_parameter (seen_what what.now) }
 {

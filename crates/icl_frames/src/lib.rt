@@ -19,6 +19,10 @@ pub use counts::{Counts, count_instrument, count_part, is_data_port, is_instrume
 pub use frames::{Added, Passed, Request, pass_items};
 pub use icl_values::ElabFault;
 pub use instances::{block_named, bound_parameters, is_open, known_block};
+pub use kinds::{
+    is_child, is_data_in, is_data_out, is_enum, is_input, is_interface, is_link, is_mux, is_part,
+    is_register, is_scan_in, is_scan_out, is_signal,
+};
 pub use laws::frames_are_preorder;
 pub use naming::new_names;
 pub use params::parameters;

@@ -19,15 +19,15 @@ pub struct Scope {
 }
 
 impl Scope {
-    /// The number of the part of this name, if there is one. Takes no memory.
+    /// The number of this name, as that of a part, if there is one. Takes no memory.
     pub fn find(&self, name: &[u8]) -> Option<u32>
         ensures { result ≡ entry_of self.now name.now }
     {
         self.parts.get(name).copied()
     }
 
-    /// Adds a part, unless one of this name is there.
-    fn add(&mut self, alloc: Global, name: &[u8], part: u32) -> Result<(), OutOfMemory>
+    /// Adds a name with a number, unless the name is there. After want of memory the names are as they were.
+    pub fn add(&mut self, alloc: Global, name: &[u8], part: u32) -> Result<(), OutOfMemory>
         ensures ok { OnOk result (IsAdded self.old self.new name.now part) }
         ensures err { OnErr result (IsKept self.old self.new) }
     {
