@@ -1,12 +1,12 @@
 // The commands of the grammar.
-ghost use Rattle.std.specs.Prelude.{◌≡◌, ◌<◌, false, codes, length, option_map, Some, None, IfSome};
+ghost use Rattle.std.specs.Prelude.{◌≡◌, ◌<◌, ◌∷◌, false, codes, length, option_map, Some, None, IfSome};
 ghost use Rattle.std.specs.List.{list_all};
 ghost use Rattle.svf_reader.specs.Commands.{put_part_once, with_part, behind_hex, one_part, parts, no_parts, scan, state, cycles, run_test, in_real, is_frequency, is_trst, no_effect_if, parsed_by, command_of_words};
 ghost use Rattle.svf_reader.specs.Reading.{words_of};
 ghost use Rattle.svf_reader.specs.Seen.{digits_of, seen_parts, seen_parsed};
 
 use crate::parsed::{Parsed, PartTexts, Register};
-use crate::pieces::next_word;
+use crate::pieces::{Piece, next_word};
 use crate::words::{all_hex, is_close, is_one_of, is_open, is_word, number, words_are};
 
 /// The text behind one or more hexadecimal digits and the `)`.
@@ -87,6 +87,33 @@ struct PartsThen<'a> {
     rest: &'a [u8],
 }
 
+/// The digits of a hexadecimal text, with what stands among them, and the text behind its `)`.
+#[derive(Clone, Copy)]
+struct HexText<'a> {
+    digits: &'a [u8],
+    rest: &'a [u8],
+}
+
+/// One or more hexadecimal digits and the `)` at the front of a text. Digits that stand together come alone.
+fn hex_text(text: &[u8]) -> Option<HexText<'_>>
+    ensures rest { option_map (λ x. words_of x.rest.now) result ≡ behind_hex false (words_of text.now) }
+    ensures digits { IfSome result (λ x. digits_of x.digits.now ≡ digits_of text.now) }
+{
+    let first = next_word(text)?;
+    if !all_hex(first.piece) {
+        return None;
+    }
+    let end = next_word(first.rest)?;
+    if is_close(end.piece) {
+        return Some(HexText {
+            digits: first.piece,
+            rest: end.rest,
+        });
+    }
+    let rest = behind_hex(text)?;
+    Some(HexText { digits: text, rest })
+}
+
 /// The parts with one more, of which this is the text behind the name.
 #[tactic(auto, unfolding(crate::specs::Commands::one_part))]
 fn one_part<'a>(parts: PartTexts<'a>, name: &[u8], text: &'a [u8]) -> Option<PartsThen<'a>>
@@ -96,9 +123,12 @@ fn one_part<'a>(parts: PartTexts<'a>, name: &[u8], text: &'a [u8]) -> Option<Par
     if !is_open(open.piece) {
         return None;
     }
-    let parts = with_part(name, open.rest, parts)?;
-    let rest = behind_hex(open.rest)?;
-    Some(PartsThen { parts, rest })
+    let hex = hex_text(open.rest)?;
+    let parts = with_part(name, hex.digits, parts)?;
+    Some(PartsThen {
+        parts,
+        rest: hex.rest,
+    })
 }
 
 /// At most four parts, and nothing else.
@@ -243,11 +273,10 @@ fn parsed_by<'a>(word: &[u8], text: &'a [u8]) -> Option<Parsed<'a>>
     }
 }
 
-/// What a command says, if it is one of the grammar.
+/// What a command with this first word says, if it is one of the grammar.
 #[tactic(auto, unfolding(crate::specs::Commands::command_of_words))]
-pub(crate) fn command_of_words(text: &[u8]) -> Option<Parsed<'_>>
-    ensures { option_map seen_parsed result ≡ command_of_words (words_of text.now) }
+pub(crate) fn command_of_words<'a>(first: Piece<'a>) -> Option<Parsed<'a>>
+    ensures { option_map seen_parsed result ≡ command_of_words (first.entry.piece.now ∷ words_of first.entry.rest.now) }
 {
-    let word = next_word(text)?;
-    parsed_by(word.piece, word.rest)
+    parsed_by(first.piece, first.rest)
 }

@@ -9,7 +9,7 @@ ghost use Rattle.svf_reader.specs.Seen.{digits_of};
 
 use crate::fault::SvfCause;
 use crate::pieces::next_word;
-use crate::words::is_close;
+use crate::words::{all_hex, is_close};
 use ij_bits::{Bits, OutOfMemory};
 use ij_text::hex_value;
 use std::alloc::Global;
@@ -121,18 +121,6 @@ fn digits_bits(alloc: Global, len: u32, digits: &[u8]) -> Result<Bits, SvfCause>
     Ok(bits)
 }
 
-/// The digits of a hexadecimal text up to its `)`, if they stand together.
-fn lone_word(text: &[u8]) -> Option<&[u8]>
-    ensures { IfSome result (λ digits. digits.now ≡ digits_of text.now) }
-{
-    let word = next_word(text)?;
-    let end = next_word(word.rest)?;
-    if is_close(word.piece) || !is_close(end.piece) {
-        return None;
-    }
-    Some(word.piece)
-}
-
 /// The digits of a hexadecimal text up to its `)`.
 fn gathered(alloc: Global, text: &[u8]) -> Result<Vec<u8>, OutOfMemory>
     ensures { IfOk result (λ digits. digits.items ≡ digits_of text.now) }
@@ -149,12 +137,12 @@ fn gathered(alloc: Global, text: &[u8]) -> Result<Vec<u8>, OutOfMemory>
     Ok(digits)
 }
 
-/// The bits of a hexadecimal text up to its `)`, of which the last digit has position 0.
+/// The bits of a hexadecimal text up to its `)`, or of digits alone, of which the last has position 0.
 pub(crate) fn text_bits(alloc: Global, len: u32, text: &[u8]) -> Result<Bits, SvfCause>
     ensures { Gives (λ bits. bits.items) result (hex_value len (digits_of text.now)) }
 {
-    if let Some(digits) = lone_word(text) {
-        return digits_bits(alloc, len, digits);
+    if all_hex(text) {
+        return digits_bits(alloc, len, text);
     }
     let digits = gathered(alloc, text)?;
     digits_bits(alloc, len, &digits)

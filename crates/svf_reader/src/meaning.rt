@@ -12,6 +12,7 @@ use crate::grammar::command_of_words;
 use crate::hex::text_bits;
 use crate::left_out::left_out;
 use crate::parsed::{Parsed, PartTexts, Register};
+use crate::pieces::next_word;
 use crate::so_far::ReadSoFar;
 use ij_bits::Bits;
 use ij_text::{CLOCK_LIMIT, SCAN_LIMIT, name_of};
@@ -210,13 +211,16 @@ pub(crate) fn read_command(
 ) -> Result<Outcome, SvfCause>
     ensures { Gives seen_step result (read_command kept ended (plain text.now)) }
 {
-    if let Some(word) = left_out(text) {
+    let Some(first) = next_word(text) else {
+        return Err(SvfCause::SvfSyntax);
+    };
+    if let Some(word) = left_out(first) {
         return Err(SvfCause::LeftOut(name_of(alloc, word)?));
     }
     if !ended {
         return Err(SvfCause::SvfSyntax);
     }
-    match command_of_words(text) {
+    match command_of_words(first) {
         None => Err(SvfCause::SvfSyntax),
         Some(parsed) => effect_of(alloc, kept, parsed),
     }
