@@ -1,11 +1,11 @@
 -- A text of hexadecimal digits alone is one word.
 use Rattle.std.proofs.Common.{◌≡◌, ℕ, Bool, true, false, List, [], ◌∷◌, ◌++◌, Option, Some, None, refl, ap, sym, ◌∙◌, arith, append-nil}
-use Rattle.std.specs.Prelude.{◌==◌, ◌&&◌, ◌||◌, not, cond}
+use Rattle.std.specs.Prelude.{◌&&◌, cond}
 use Rattle.std.specs.List.{list_all}
 use Rattle.std.specs.Char.{is_ascii_hexdigit}
 use Rattle.std.proofs.lemmas.Bool.Decides.{nat_tests}
 use Rattle.ij_text.specs.Bytes.{is_blank}
-use Rattle.svf_reader.specs.Texts.{first, opens, in_comment, plain_from, plain, is_mark, words}
+use Rattle.svf_reader.specs.Texts.{first, opens, plain_from, plain, is_mark, words}
 use Rattle.svf_reader.specs.Commands.{is_close, behind_hex, hex_digits}
 use Rattle.svf_reader.specs.Reading.{words_of}
 use Rattle.svf_reader.specs.Seen.{digits_of}

@@ -16,9 +16,9 @@ pub(crate) struct PartTexts<'a> {
     pub smask: Option<&'a [u8]>,
 }
 
+/// What a command other than a scan says.
 #[derive(Clone, Copy)]
-pub(crate) enum Parsed<'a> {
-    Scan(Register, u64, PartTexts<'a>),
+pub(crate) enum Parsed {
     Reset,
     Idle,
     Run(u64),

@@ -1,4 +1,4 @@
-use Rattle.std.proofs.Common.{ap, sym, ◌∙◌, ◌∷◌, true}
+use Rattle.std.proofs.Common.{ap, sym, ◌∙◌, ◌∷◌}
 use Rattle.svf_reader.specs.Commands.{hex_digits}
 use Rattle.svf_reader.specs.Reading.{words_of}
 use Rattle.svf_reader.proofs.Lone.{hex_alone}
