@@ -1,10 +1,10 @@
 // The walk of a controller through its states, and the clocks of a play.
-ghost use Rattle.std.specs.Prelude.{◌≡◌, length, IfOk};
+ghost use Rattle.std.specs.Prelude.{◌≡◌, length, IfOk, IsSomeAnd};
 
 use ij_bits::{Bits, OutOfMemory};
 use std::alloc::Global;
 use std::test::Fail;
-use svf_writer::{Command, Commands, Scan};
+use svf_writer::{Command, Commands, Part, Scan};
 use tap_machine::{Pins, Player, Stable, Tap, TapState};
 
 #[test]
@@ -42,22 +42,13 @@ fn a_controller_walks_to_reset_and_through_a_data_scan(rt: HostRuntime) {
 }
 
 /// Two bits, position 0 first.
-fn two(alloc: Global, a: bool, b: bool) -> Result<Bits, OutOfMemory>
-    ensures { IfOk result (λ bits. length bits.items ≡ 2) }
+fn two(alloc: Global, a: bool, b: bool) -> Result<Part, OutOfMemory>
+    ensures { IfOk result (λ part. IsSomeAnd part (λ bits. length bits ≡ 2)) }
 {
     let mut bits = Bits::zeros(alloc, 2)?;
     bits.set(0, a);
     bits.set(1, b);
-    Ok(bits)
-}
-
-/// One bit.
-fn one(alloc: Global, a: bool) -> Result<Bits, OutOfMemory>
-    ensures { IfOk result (λ bits. length bits.items ≡ 1) }
-{
-    let mut bits = Bits::zeros(alloc, 1)?;
-    bits.set(0, a);
-    Ok(bits)
+    Part::of_bits(alloc, bits)
 }
 
 /// The clock that shifts a bit.
@@ -77,24 +68,24 @@ fn tdi_and_mask_hold_up_to_a_new_length(rt: HostRuntime) -> Result<(), Fail> {
     let mut commands = Commands::new(alloc);
     commands.push(Command::Sdr(Scan {
         len: 2,
-        tdi: Some(two(alloc, true, false)?),
-        tdo: Some(two(alloc, false, true)?),
-        mask: Some(two(alloc, false, true)?),
-        smask: None,
+        tdi: Part::of_number(2, 0b01),
+        tdo: two(alloc, false, true)?,
+        mask: two(alloc, false, true)?,
+        smask: Part::absent(),
     }))?;
     commands.push(Command::Sdr(Scan {
         len: 2,
-        tdi: None,
-        tdo: Some(two(alloc, true, false)?),
-        mask: None,
-        smask: None,
+        tdi: Part::absent(),
+        tdo: Part::of_number(2, 0b01),
+        mask: Part::absent(),
+        smask: Part::absent(),
     }))?;
     commands.push(Command::Sdr(Scan {
         len: 1,
-        tdi: Some(one(alloc, true)?),
-        tdo: Some(one(alloc, true)?),
-        mask: None,
-        smask: None,
+        tdi: Part::of_number(1, 1),
+        tdo: Part::of_number(1, 1),
+        mask: Part::absent(),
+        smask: Part::absent(),
     }))?;
     commands.push(Command::Run(3))?;
     commands.push(Command::Reset)?;

@@ -1,11 +1,10 @@
 // SVF texts, and the commands or the refusals that they have.
 
-use ij_bits::Bits;
 use ij_text::Place;
 use std::alloc::Global;
 use std::test::Fail;
 use svf_reader::{SvfFault, read_svf};
-use svf_writer::{Command, Scan};
+use svf_writer::{Command, Part, Scan};
 
 /// A refusal with its place, and its word in front where it has one.
 fn refusal(alloc: Global, variant: &str, word: &[u8], at: Place) -> Result<String, Fail> {
@@ -21,14 +20,18 @@ fn refusal(alloc: Global, variant: &str, word: &[u8], at: Place) -> Result<Strin
 }
 
 /// A part of a scan, by its lowest hexadecimal digit.
-fn part(alloc: Global, name: &str, bits: &Option<Bits>) -> Result<String, Fail> {
-    match bits {
-        Some(bits) if !bits.is_empty() => {
-            let digit = char::from(bits.hex_digit(0));
-            Ok(format!(in alloc; " {name} {digit}")?)
-        }
-        _ => Ok(String::new(alloc)),
+fn part(alloc: Global, name: &str, part: &Part) -> Result<String, Fail> {
+    if !part.is_given() {
+        return Ok(String::new(alloc));
     }
+    let mut digit = 0u8;
+    for k in 0..part.len().min(4) {
+        if part.get(k) {
+            digit |= 1 << k;
+        }
+    }
+    let digit = char::from(b"0123456789ABCDEF"[usize::from(digit % 16)]);
+    Ok(format!(in alloc; " {name} {digit}")?)
 }
 
 /// A scan, with the lowest hexadecimal digit of each part that stands in it.
@@ -78,7 +81,7 @@ fn outcome(alloc: Global, text: &[u8]) -> Result<String, Fail> {
 #[test]
 fn texts_have_commands_or_a_refusal(rt: HostRuntime) -> Result<(), Fail> {
     let alloc = rt.alloc();
-    let rows: [(&[u8], &str); 24] = [
+    let rows: [(&[u8], &str); 28] = [
         (b"", ""),
         (b"SDR 4 TDI (5", "SvfSyntax 1:1"),
         (b"SDR 4 TDI (1F);", "HexWide 1:1"),
@@ -95,6 +98,10 @@ fn texts_have_commands_or_a_refusal(rt: HostRuntime) -> Result<(), Fail> {
         (b"SDR 0 TDI (0);", "SvfSyntax 1:1"),
         (b"SDR 65537 TDI (0);", "SvfLimit 1:1"),
         (b"SDR 65536 TDI (0);", "SDR 65536 TDI 0;"),
+        (b"SDR 64 TDI (008000000000000001);", "SDR 64 TDI 1;"),
+        (b"SDR 64 TDI (10000000000000001);", "HexWide 1:1"),
+        (b"SDR 65 TDI (10000000000000001);", "SDR 65 TDI 1;"),
+        (b"SDR 65 TDI (20000000000000001);", "HexWide 1:1"),
         (b"RUNTEST 1000000000 TCK;", "SvfLimit 1:1"),
         (b"RUNTEST 999999999 TCK;", "RUN 999999999;"),
         (

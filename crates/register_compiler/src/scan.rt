@@ -1,11 +1,11 @@
 // The scan of one iApply (Serial Vector Format, revision E: SDR).
-ghost use Rattle.std.specs.Prelude.{◌≡◌, IfOk, None, true, length, replicate, option_map};
+ghost use Rattle.std.specs.Prelude.{◌≡◌, IfOk, None, Some, true, length, replicate, option_map};
 ghost use Rattle.svf_writer.specs.SeenCommands.{seen_scan};
 ghost use Rattle.register_compiler.specs.Svf.{scan_of};
 
 use ij_bits::{Bits, OutOfMemory};
 use std::alloc::Global;
-use svf_writer::Scan;
+use svf_writer::{Part, Scan};
 
 /// The scan that shifts these bits in, position 0 first, and compares each bit that comes out with that of `expect`,
 /// or none without it. TDI, TDO and MASK take memory.
@@ -18,24 +18,27 @@ pub(crate) fn make_scan(
 {
     let len = tdi.len();
     let (tdo, mask) = match expect {
-        Some(expect) => (Some(copy(alloc, expect)?), Some(ones(alloc, len)?)),
-        None => (None, None),
+        Some(expect) => (
+            copy(alloc, expect)?,
+            Part::of_bits(alloc, ones(alloc, len)?)?,
+        ),
+        None => (Part::absent(), Part::absent()),
     };
-    let tdi = Some(copy(alloc, tdi)?);
+    let tdi = copy(alloc, tdi)?;
     Ok(Scan {
         len,
         tdi,
         tdo,
         mask,
-        smask: None,
+        smask: Part::absent(),
     })
 }
 
 /// The same bits once more.
-fn copy(alloc: Global, bits: &Bits) -> Result<Bits, OutOfMemory>
-    ensures { IfOk result (λ copy. copy.items ≡ bits.now.items) }
+fn copy(alloc: Global, bits: &Bits) -> Result<Part, OutOfMemory>
+    ensures { IfOk result (λ copy. copy ≡ Some bits.now.items) }
 {
-    bits.slice(alloc, 0, bits.len())
+    Part::of_bits(alloc, bits.slice(alloc, 0, bits.len())?)
 }
 
 /// So many bits, each of them 1.

@@ -92,7 +92,7 @@ abbrev pub squeezed : List ℕ → List ℕ
 squeezed [] = []
 squeezed (b ∷ bs) = cond (b == 10) (squeezed bs) (b ∷ squeezed bs)
 
-no_close : (b : ℕ) (bs : List ℕ) → is_mark b ≡ false → is_close (b ∷ bs) ≡ false
+pub no_close : (b : ℕ) (bs : List ℕ) → is_mark b ≡ false → is_close (b ∷ bs) ≡ false
 no_close b bs h = cases (b == 40) (b == 41) h
   where
     cases : (p q : Bool) → (p || q) ≡ false → (q && bytes_eq bs []) ≡ false

@@ -1,11 +1,13 @@
--- Commands that aren't left out.
-use Rattle.std.proofs.Common.{◌≡◌, ℕ, Bool, true, false, cond, nat_le, List, [], ◌∷◌, length, Option, Some, None, ap, refl, codes, bytes_eq}
+-- Commands that aren't left out, and texts without a word.
+use Rattle.std.proofs.Common.{◌≡◌, ℕ, Bool, true, false, cond, nat_le, List, [], ◌∷◌, length, Option, Some, None, Result, Err, ap, ◌∙◌, refl, codes, bytes_eq}
 use Rattle.std.specs.Prelude.{◌||◌}
 use Rattle.std.specs.List.{list_any}
 use Rattle.std.specs.Str.{str_to_ascii_lowercase}
 use Rattle.std.proofs.lemmas.Slice.Eq.{bytes_eq-Decides}
-use Rattle.svf_reader.specs.Texts.{words, runs}
-use Rattle.svf_reader.specs.Commands.{is_word, is_one_of, begins_with_length, begins_with_on, headers, end_states, left_out_names, any_is_one_of, is_left_out, left_out}
+use Rattle.svf_reader.specs.declared.so_far.ReadSoFar.{ReadSoFar}
+use Rattle.svf_reader.specs.Texts.{words, runs, behind_word}
+use Rattle.svf_reader.specs.Meaning.{Cause, SvfSyntax, Step, if_parsed, unless_left_out, read_command}
+use Rattle.svf_reader.specs.Commands.{is_word, is_one_of, begins_with_length, begins_with_on, headers, end_states, left_out_names, any_is_one_of, is_left_out, left_out, command_of_words}
 
 bytes_are : (xs ys : List ℕ) → bytes_eq xs ys ≡ true → xs ≡ ys
 bytes_are xs ys e = (bytes_eq-Decides xs ys).0 e
@@ -29,3 +31,15 @@ pub scan_kept : (w rest : List ℕ) (ws : List (List ℕ)) → is_one_of (codes 
 unfolding is_left_out left_out
 scan_kept w rest ws is =
     ap (λ k. cond k (Some w) (let o : Option (List ℕ) = None in o)) (scan_lower w rest (is_word (codes "SDR") w) (is_word (codes "SIR") w) refl refl is)
+
+-- a text without a word is no command
+pub nothing_read : (kept : ReadSoFar) (ended : Bool) (t : List ℕ) → words t ≡ [] → read_command kept ended t ≡ Err SvfSyntax
+unfolding left_out command_of_words read_command
+nothing_read kept ended t none =
+    ap (λ ws. unless_left_out kept ended t (left_out ws (behind_word t))) none
+    ∙ ap (λ ws. cond ended (if_parsed kept (command_of_words ws)) (let e : Result Step Cause = Err SvfSyntax in e)) none
+    ∙ cases ended
+  where
+    cases : (b : Bool) → cond b (let e : Result Step Cause = Err SvfSyntax in e) (Err SvfSyntax) ≡ Err SvfSyntax
+    cases true = refl
+    cases false = refl

@@ -13,3 +13,4 @@ pub mod Few
 pub mod Following
 pub mod Packing
 pub mod Keeping
+pub mod Lone

@@ -5,7 +5,7 @@ use Rattle.std.proofs.lemmas.Bool.Decides.{nat_tests}
 use Rattle.std.proofs.Math.Nat.{pow-suc, zero-div, div-div-eq-div-mul}
 use Rattle.std.proofs.lemmas.List.{drop_at, drop-drop, drop-append-le}
 use Rattle.ij_bits.specs.BitLists.{bits_of, number_of}
-use Rattle.svf_reader.specs.Values.{hex_bits, has_one, fitted}
+use Rattle.svf_reader.specs.Values.{hex_bits, has_one, fitted, is_wide}
 use Rattle.svf_reader.proofs.Putting.{hex_bits-append, hex_length}
 use Rattle.svf_reader.proofs.Digits.{padded, padded_split, bits_again, high_bits}
 
@@ -135,7 +135,7 @@ number_drop (suc n) (b ∷ bs) = number_drop n bs ∙ ap (λ k. k / 2 ^ n) (sym 
 above : (n : ℕ) (bs : List Bool) → has_one (drop n bs) ≡ not (number_of bs / 2 ^ n == 0)
 above n bs = sym (number_zero (drop n bs)) ∙ ap (λ k. not (k == 0)) (number_drop n bs)
 
-wide_at : (n : ℕ) (digits front last : List ℕ) (t : Bool) → nat_lt (length last) 16 ≡ t → InParts digits front last → n < 64 → has_one (drop n (hex_bits digits)) ≡ (has_one (drop n (hex_bits last)) || has_one (hex_bits front))
+wide_at : (n : ℕ) (digits front last : List ℕ) (t : Bool) → nat_lt (length last) 16 ≡ t → InParts digits front last → n ≤ 64 → has_one (drop n (hex_bits digits)) ≡ (has_one (drop n (hex_bits last)) || has_one (hex_bits front))
 wide_at n digits front last true e parts few =
     let none = parts.lone (grind (arith, nat_tests)) in
     ap (λ (l : List ℕ). has_one (drop n (hex_bits l))) (parts.all ∙ ap (λ (l : List ℕ). l ++ last) none)
@@ -153,7 +153,7 @@ wide_at n digits front last false e parts few =
     ∙ has_one-append (drop n (hex_bits last)) (hex_bits front)
 
 -- a 1 behind the last bits stands in the last part's number, or in the front
-pub wide_is : (k n : ℕ) (all : List Bool) (digits front last : List ℕ) → InParts digits front last → n < 64 → drop k all ≡ hex_bits digits → has_one (drop (k + n) all) ≡ (not (number_of (hex_bits last) / 2 ^ n == 0) || has_one (hex_bits front))
+pub wide_is : (k n : ℕ) (all : List Bool) (digits front last : List ℕ) → InParts digits front last → n ≤ 64 → drop k all ≡ hex_bits digits → has_one (drop (k + n) all) ≡ (not (number_of (hex_bits last) / 2 ^ n == 0) || has_one (hex_bits front))
 wide_is k n all digits front last parts few is =
     ap has_one (sym (drop-drop n k all) ∙ ap (drop n) is)
     ∙ wide_at n digits front last (nat_lt (length last) 16) refl parts few
@@ -162,3 +162,11 @@ wide_is k n all digits front last parts few is =
 pub length_bits : (n v : ℕ) → length (bits_of n v) ≡ n
 length_bits zero v = refl
 length_bits (suc n) v = ap suc (length_bits n (v / 2))
+
+-- the same of all bits
+pub word_wide : (n : ℕ) (digits front last : List ℕ) → InParts digits front last → n ≤ 64 → is_wide n (hex_bits digits) ≡ (not (number_of (hex_bits last) / 2 ^ n == 0) || has_one (hex_bits front))
+unfolding is_wide
+word_wide n digits front last parts few =
+    let all : n ≡ 0 + n = omega arith in
+    ap (λ m. has_one (drop m (hex_bits digits))) all
+    ∙ wide_is 0 n (hex_bits digits) digits front last parts few refl

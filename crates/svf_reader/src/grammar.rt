@@ -1,11 +1,11 @@
 // The commands of the grammar.
-ghost use Rattle.std.specs.Prelude.{◌≡◌, ◌<◌, false, codes, length, option_map, Some, None, IfSome};
+ghost use Rattle.std.specs.Prelude.{MatchBool, MatchOption, ◌≡◌, ◌<◌, ◌∷◌, false, codes, length, option_map, Some, None, IfSome};
 ghost use Rattle.std.specs.List.{list_all};
-ghost use Rattle.svf_reader.specs.Commands.{put_part_once, with_part, behind_hex, one_part, parts, no_parts, scan, state, cycles, run_test, in_real, is_frequency, is_trst, no_effect_if, parsed_by, command_of_words};
+ghost use Rattle.svf_reader.specs.Commands.{is_word, with_part, behind_hex, one_part, parts, no_parts, state, cycles, run_test, in_real, is_frequency, is_trst, no_effect_if, parsed_by};
 ghost use Rattle.svf_reader.specs.Reading.{words_of};
 ghost use Rattle.svf_reader.specs.Seen.{digits_of, seen_parts, seen_parsed};
 
-use crate::parsed::{Parsed, PartTexts, Register};
+use crate::parsed::{Parsed, PartTexts};
 use crate::pieces::next_word;
 use crate::words::{all_hex, is_close, is_one_of, is_open, is_word, number, words_are};
 
@@ -28,81 +28,76 @@ fn behind_hex(text: &[u8]) -> Option<&[u8]>
     None
 }
 
-/// These parts, if a part doesn't stand there yet.
-fn put_part_once<'a>(part: Option<&'a [u8]>, filled: PartTexts<'a>) -> Option<PartTexts<'a>>
-    ensures { option_map seen_parts result ≡ put_part_once (option_map (λ t. digits_of t.now) part.entry) (seen_parts filled.entry) }
+/// Puts a part to the others, if it doesn't stand there yet.
+fn with_part<'a>(name: &[u8], text: &'a [u8], parts: &mut PartTexts<'a>) -> bool
+    ensures { MatchBool result (with_part name.now (digits_of text.now) (seen_parts parts.old) ≡ Some (seen_parts parts.new)) (with_part name.now (digits_of text.now) (seen_parts parts.old) ≡ None) }
 {
-    match part {
-        Some(_) => None,
-        None => Some(filled),
-    }
-}
-
-/// The parts with one more, if it doesn't stand there yet.
-fn with_part<'a>(name: &[u8], text: &'a [u8], parts: PartTexts<'a>) -> Option<PartTexts<'a>>
-    ensures { option_map seen_parts result ≡ with_part name.now (digits_of text.now) (seen_parts parts.entry) }
-{
-    let digits = Some(text);
     if is_word(name, b"TDI") {
-        put_part_once(
-            parts.tdi,
-            PartTexts {
-                tdi: digits,
-                ..parts
-            },
-        )
+        let free = parts.tdi.is_none();
+        parts.tdi = Some(text);
+        free
     } else if is_word(name, b"TDO") {
-        put_part_once(
-            parts.tdo,
-            PartTexts {
-                tdo: digits,
-                ..parts
-            },
-        )
+        let free = parts.tdo.is_none();
+        parts.tdo = Some(text);
+        free
     } else if is_word(name, b"MASK") {
-        put_part_once(
-            parts.mask,
-            PartTexts {
-                mask: digits,
-                ..parts
-            },
-        )
+        let free = parts.mask.is_none();
+        parts.mask = Some(text);
+        free
     } else if is_word(name, b"SMASK") {
-        put_part_once(
-            parts.smask,
-            PartTexts {
-                smask: digits,
-                ..parts
-            },
-        )
+        let free = parts.smask.is_none();
+        parts.smask = Some(text);
+        free
     } else {
-        None
+        false
     }
 }
 
-/// Parts of a scan, and the text behind them.
+/// The digits of a hexadecimal text, with what stands among them, and the text behind its `)`.
 #[derive(Clone, Copy)]
-struct PartsThen<'a> {
-    parts: PartTexts<'a>,
+struct HexText<'a> {
+    digits: &'a [u8],
     rest: &'a [u8],
 }
 
-/// The parts with one more, of which this is the text behind the name.
+/// One or more hexadecimal digits and the `)` at the front of a text. Digits that stand together come alone.
+fn hex_text(text: &[u8]) -> Option<HexText<'_>>
+    ensures rest { option_map (λ x. words_of x.rest.now) result ≡ behind_hex false (words_of text.now) }
+    ensures digits { IfSome result (λ x. digits_of x.digits.now ≡ digits_of text.now) }
+{
+    let first = next_word(text)?;
+    if !all_hex(first.piece) {
+        return None;
+    }
+    let end = next_word(first.rest)?;
+    if is_close(end.piece) {
+        return Some(HexText {
+            digits: first.piece,
+            rest: end.rest,
+        });
+    }
+    let rest = behind_hex(text)?;
+    Some(HexText { digits: text, rest })
+}
+
+/// Puts one more part to the others, of which this is the text behind the name. The text behind it.
 #[tactic(auto, unfolding(crate::specs::Commands::one_part))]
-fn one_part<'a>(parts: PartTexts<'a>, name: &[u8], text: &'a [u8]) -> Option<PartsThen<'a>>
-    ensures { option_map (λ x. (seen_parts x.parts, words_of x.rest.now)) result ≡ one_part (seen_parts parts.entry) name.now (words_of text.now) }
+fn one_part<'a>(parts: &mut PartTexts<'a>, name: &[u8], text: &'a [u8]) -> Option<&'a [u8]>
+    ensures { MatchOption result (one_part (seen_parts parts.old) name.now (words_of text.now) ≡ None) (λ rest. one_part (seen_parts parts.old) name.now (words_of text.now) ≡ Some (seen_parts parts.new, words_of rest.now)) }
 {
     let open = next_word(text)?;
     if !is_open(open.piece) {
         return None;
     }
-    let parts = with_part(name, open.rest, parts)?;
-    let rest = behind_hex(open.rest)?;
-    Some(PartsThen { parts, rest })
+    let hex = hex_text(open.rest)?;
+    if !with_part(name, hex.digits, parts) {
+        return None;
+    }
+    Some(hex.rest)
 }
 
-/// At most four parts, and nothing else.
-fn parts(text: &[u8]) -> Option<PartTexts<'_>>
+/// At most four parts of a scan, and nothing else.
+pub(crate) fn parts(text: &[u8]) -> Option<PartTexts<'_>>
     ensures { option_map seen_parts result ≡ parts 4 no_parts (words_of text.now) }
 {
     let mut parts = PartTexts {
@@ -116,9 +111,7 @@ fn parts(text: &[u8]) -> Option<PartTexts<'_>>
         let Some(name) = next_word(text) else {
             return Some(parts);
         };
-        let more = one_part(parts, name.piece, name.rest)?;
-        parts = more.parts;
-        text = more.rest;
+        text = one_part(&mut parts, name.piece, name.rest)?;
     }
     if next_word(text).is_some() {
         return None;
@@ -126,23 +119,9 @@ fn parts(text: &[u8]) -> Option<PartTexts<'_>>
     Some(parts)
 }
 
-/// What is behind `SIR` or `SDR`.
-#[tactic(auto, unfolding(crate::specs::Commands::scan))]
-fn scan(register: Register, text: &[u8]) -> Option<Parsed<'_>>
-    ensures { option_map seen_parsed result ≡ scan register (words_of text.now) }
-{
-    let word = next_word(text)?;
-    let len = number(word.piece)?;
-    let parts = parts(word.rest)?;
-    if len == 0 {
-        return None;
-    }
-    Some(Parsed::Scan(register, len, parts))
-}
-
 /// What is behind `STATE`.
 #[tactic(auto, unfolding(crate::specs::Commands::state))]
-fn state(text: &[u8]) -> Option<Parsed<'_>>
+fn state(text: &[u8]) -> Option<Parsed>
     ensures { option_map seen_parsed result ≡ state (words_of text.now) }
 {
     if words_are(text, &[b"RESET"]) {
@@ -156,7 +135,7 @@ fn state(text: &[u8]) -> Option<Parsed<'_>>
 
 /// What is behind `RUNTEST` and, if it stands there, `IDLE`.
 #[tactic(auto, unfolding(crate::specs::Commands::cycles))]
-fn cycles(text: &[u8]) -> Option<Parsed<'_>>
+fn cycles(text: &[u8]) -> Option<Parsed>
     ensures { option_map seen_parsed result ≡ cycles (words_of text.now) }
 {
     let word = next_word(text)?;
@@ -169,7 +148,7 @@ fn cycles(text: &[u8]) -> Option<Parsed<'_>>
 
 /// What is behind `RUNTEST`.
 #[tactic(auto, unfolding(crate::specs::Commands::run_test))]
-fn run_test(text: &[u8]) -> Option<Parsed<'_>>
+fn run_test(text: &[u8]) -> Option<Parsed>
     ensures { option_map seen_parsed result ≡ run_test (words_of text.now) }
 {
     let word = next_word(text)?;
@@ -211,22 +190,20 @@ fn is_trst(text: &[u8]) -> bool
     words_are(text, &[b"OFF"]) || words_are(text, &[b"ABSENT"]) || words_are(text, &[b"Z"])
 }
 
-fn no_effect_if<'a>(so: bool) -> Option<Parsed<'a>>
+fn no_effect_if(so: bool) -> Option<Parsed>
     ensures { option_map seen_parsed result ≡ no_effect_if so }
 {
     if so { Some(Parsed::Nothing) } else { None }
 }
 
-/// What a command with this first word says.
+/// What a command other than a scan says, by its first word and the text behind it.
 #[tactic(auto, unfolding(crate::specs::Commands::parsed_by))]
-fn parsed_by<'a>(word: &[u8], text: &'a [u8]) -> Option<Parsed<'a>>
+pub(crate) fn parsed_by(word: &[u8], text: &[u8]) -> Option<Parsed>
+    requires sir { is_word (codes "SIR") word.now ≡ false }
+    requires sdr { is_word (codes "SDR") word.now ≡ false }
     ensures { option_map seen_parsed result ≡ parsed_by word.now (words_of text.now) }
 {
-    if is_word(word, b"SIR") {
-        scan(Register::Instruction, text)
-    } else if is_word(word, b"SDR") {
-        scan(Register::Data, text)
-    } else if is_one_of(word, &[b"HDR", b"HIR", b"TDR", b"TIR"]) {
+    if is_one_of(word, &[b"HDR", b"HIR", b"TDR", b"TIR"]) {
         no_effect_if(words_are(text, &[b"0"]))
     } else if is_word(word, b"STATE") {
         state(text)
@@ -241,13 +218,4 @@ fn parsed_by<'a>(word: &[u8], text: &'a [u8]) -> Option<Parsed<'a>>
     } else {
         None
     }
-}
-
-/// What a command says, if it is one of the grammar.
-#[tactic(auto, unfolding(crate::specs::Commands::command_of_words))]
-pub(crate) fn command_of_words(text: &[u8]) -> Option<Parsed<'_>>
-    ensures { option_map seen_parsed result ≡ command_of_words (words_of text.now) }
-{
-    let word = next_word(text)?;
-    parsed_by(word.piece, word.rest)
 }

@@ -1,18 +1,19 @@
 // Hexadecimal texts as bits.
-ghost use Rattle.std.specs.Prelude.{◌≡◌, ◌+◌, ◌^◌, ◌/◌, ◌%◌, ◌<◌, ◌≤◌, ◌==◌, not, [], ◌++◌, length, drop, IfOk, IfSome};
+ghost use Rattle.std.specs.Prelude.{◌≡◌, ◌+◌, ◌^◌, ◌/◌, ◌%◌, ◌<◌, ◌≤◌, ◌==◌, not, [], ◌++◌, length, drop, Some, IfOk};
 ghost use Rattle.ij_bits.specs.BitLists.{number_of};
 ghost use Rattle.ij_text.specs.Numbers.{hex_value as digit_value};
-ghost use Rattle.svf_reader.specs.Answers.{Gives};
+ghost use Rattle.svf_reader.specs.Answers.{Gives, part_value};
 ghost use Rattle.svf_reader.specs.Values.{hex_bits, has_one, fitted, is_wide};
 ghost use Rattle.svf_reader.specs.Meaning.{hex_value};
 ghost use Rattle.svf_reader.specs.Seen.{digits_of};
 
 use crate::fault::SvfCause;
 use crate::pieces::next_word;
-use crate::words::is_close;
+use crate::words::{all_hex, is_close};
 use ij_bits::{Bits, OutOfMemory};
 use ij_text::hex_value;
 use std::alloc::Global;
+use svf_writer::Part;
 
 /// A digit's value, found without asking whether it is a letter; 16 is as 0.
 fn digit_value(b: u8) -> u8
@@ -51,10 +52,10 @@ fn have_one(digits: &[u8]) -> bool
 
 /// Whether a number has a 1 at a place or above.
 fn has_one_above(value: u64, place: u32) -> bool
-    requires { place < 64 }
+    requires { place ≤ 64 }
     ensures { result ≡ not (value / 2 ^ place == 0) }
 {
-    value >> place != 0
+    place < 64 && value >> place != 0
 }
 
 /// Digits in two parts.
@@ -121,18 +122,6 @@ fn digits_bits(alloc: Global, len: u32, digits: &[u8]) -> Result<Bits, SvfCause>
     Ok(bits)
 }
 
-/// The digits of a hexadecimal text up to its `)`, if they stand together.
-fn lone_word(text: &[u8]) -> Option<&[u8]>
-    ensures { IfSome result (λ digits. digits.now ≡ digits_of text.now) }
-{
-    let word = next_word(text)?;
-    let end = next_word(word.rest)?;
-    if is_close(word.piece) || !is_close(end.piece) {
-        return None;
-    }
-    Some(word.piece)
-}
-
 /// The digits of a hexadecimal text up to its `)`.
 fn gathered(alloc: Global, text: &[u8]) -> Result<Vec<u8>, OutOfMemory>
     ensures { IfOk result (λ digits. digits.items ≡ digits_of text.now) }
@@ -149,13 +138,48 @@ fn gathered(alloc: Global, text: &[u8]) -> Result<Vec<u8>, OutOfMemory>
     Ok(digits)
 }
 
-/// The bits of a hexadecimal text up to its `)`, of which the last digit has position 0.
-pub(crate) fn text_bits(alloc: Global, len: u32, text: &[u8]) -> Result<Bits, SvfCause>
-    ensures { Gives (λ bits. bits.items) result (hex_value len (digits_of text.now)) }
+/// A part of at most 64 bits.
+#[tactic(auto, unfolding(crate::specs::Answers::part_value))]
+fn word_part(len: u32, digits: &[u8]) -> Result<Part, SvfCause>
+    requires { len ≤ 64 }
+    ensures { Gives (λ p. p) result (part_value len (Some digits.now)) }
 {
-    if let Some(digits) = lone_word(text) {
-        return digits_bits(alloc, len, digits);
+    let parts = split_last(digits);
+    let value = digits_number(parts.last);
+    if has_one_above(value, len) | have_one(parts.front) {
+        return Err(SvfCause::HexWide);
+    }
+    Ok(Part::of_number(len, value))
+}
+
+/// A part of any number of bits.
+#[tactic(auto, unfolding(crate::specs::Answers::part_value, crate::specs::Meaning::hex_value))]
+fn list_part(alloc: Global, len: u32, digits: &[u8]) -> Result<Part, SvfCause>
+    ensures { Gives (λ p. p) result (part_value len (Some digits.now)) }
+{
+    let bits = digits_bits(alloc, len, digits)?;
+    Ok(Part::of_bits(alloc, bits)?)
+}
+
+/// The part of some digits, of which the last has position 0.
+fn digits_part(alloc: Global, len: u32, digits: &[u8]) -> Result<Part, SvfCause>
+    ensures { Gives (λ p. p) result (part_value len (Some digits.now)) }
+{
+    if len <= 64 {
+        word_part(len, digits)
+    } else {
+        list_part(alloc, len, digits)
+    }
+}
+
+/// The part of a hexadecimal text up to its `)`, or of digits alone, of which the last has position 0.
+#[inline(never)]
+pub(crate) fn text_part(alloc: Global, len: u32, text: &[u8]) -> Result<Part, SvfCause>
+    ensures { Gives (λ p. p) result (part_value len (Some (digits_of text.now))) }
+{
+    if all_hex(text) {
+        return digits_part(alloc, len, text);
     }
     let digits = gathered(alloc, text)?;
-    digits_bits(alloc, len, &digits)
+    digits_part(alloc, len, &digits)
 }

@@ -1,10 +1,10 @@
 // Commands of SVF that are left out.
-ghost use Rattle.std.specs.Prelude.{◌≡◌, nat_le, length, option_map};
+ghost use Rattle.std.specs.Prelude.{◌≡◌, ◌∷◌, nat_le, length, option_map};
 ghost use Rattle.svf_reader.specs.Commands.{begins_with_length, begins_with_on, is_left_out, left_out, left_out_names, headers, any_is_one_of};
 ghost use Rattle.svf_reader.specs.Reading.{words_of, runs_of};
-ghost use Rattle.svf_reader.specs.Texts.{plain, behind_word};
+ghost use Rattle.svf_reader.specs.Texts.{plain};
 
-use crate::pieces::{next_run, next_word};
+use crate::pieces::{Piece, next_run, next_word};
 use crate::words::{any_is_one_of, is_one_of, is_word, number};
 
 /// Whether a length that isn't 0 stands at the front.
@@ -63,18 +63,17 @@ fn is_left_out(word: &[u8], text: &[u8]) -> bool
     }
 }
 
-/// The first word of a command that is left out.
+/// The first word of a command, if the command is left out.
 #[tactic(auto, unfolding(crate::specs::Commands::left_out))]
-pub(crate) fn left_out(text: &[u8]) -> Option<&[u8]>
-    ensures { option_map (λ word. word.now) result ≡ left_out (words_of text.now) (behind_word (plain text.now)) }
+pub(crate) fn left_out<'a>(first: Piece<'a>) -> Option<&'a [u8]>
+    ensures { option_map (λ word. word.now) result ≡ left_out (first.entry.piece.now ∷ words_of first.entry.rest.now) (plain first.entry.rest.now) }
 {
-    let word = next_word(text)?;
     // most commands
-    if is_one_of(word.piece, &[b"SDR", b"SIR"]) {
+    if is_one_of(first.piece, &[b"SDR", b"SIR"]) {
         return None;
     }
-    if is_left_out(word.piece, word.rest) {
-        Some(word.piece)
+    if is_left_out(first.piece, first.rest) {
+        Some(first.piece)
     } else {
         None
     }

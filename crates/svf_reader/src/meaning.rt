@@ -1,44 +1,40 @@
 // What commands do.
-ghost use Rattle.std.specs.Prelude.{◌≡◌, ◌+◌, ◌^◌, ◌<◌, option_map};
+ghost use Rattle.std.specs.Prelude.{◌≡◌, ◌+◌, ◌^◌, ◌<◌, ◌∷◌, option_map};
 ghost use Rattle.svf_writer.specs.SeenCommands.{seen_scan, seen_command};
 ghost use Rattle.svf_reader.specs.Answers.{Gives, part_value, scan_value};
-ghost use Rattle.svf_reader.specs.Commands.{Runs};
-ghost use Rattle.svf_reader.specs.Meaning.{last_length, with_length, other_length, tdi_missing, scan_clocks, with_leaving_clock, within_clock_limit, scan_command, scanned, effect_of, read_command};
-ghost use Rattle.svf_reader.specs.Seen.{digits_of, seen_parts, seen_parsed, seen_step};
+ghost use Rattle.svf_reader.specs.Commands.{Runs, command_of_words, scan};
+ghost use Rattle.svf_reader.specs.Reading.{words_of};
+ghost use Rattle.svf_reader.specs.Meaning.{last_length, with_length, other_length, tdi_missing, scan_clocks, with_leaving_clock, within_clock_limit, scan_command, scanned, effect_of, if_parsed, read_command};
+ghost use Rattle.svf_reader.specs.Seen.{Leaves, digits_of, seen_parts, seen_parsed};
 ghost use Rattle.svf_reader.specs.Texts.{plain};
 
 use crate::fault::SvfCause;
-use crate::grammar::command_of_words;
-use crate::hex::text_bits;
+use crate::grammar::{parsed_by, parts};
+use crate::hex::text_part;
 use crate::left_out::left_out;
 use crate::parsed::{Parsed, PartTexts, Register};
+use crate::pieces::{Piece, next_word};
 use crate::so_far::ReadSoFar;
-use ij_bits::Bits;
+use crate::words::{is_word, number};
 use ij_text::{CLOCK_LIMIT, SCAN_LIMIT, name_of};
 use std::alloc::Global;
-use svf_writer::{Command, Scan};
+use svf_writer::{Command, Part, Scan};
 
-/// What a command comes to: the command, if it acts on the controller, and what is kept behind it.
-#[derive(Drop)]
-pub(crate) struct Outcome {
-    pub command: Option<Command>,
-    pub kept: ReadSoFar,
-}
-
+#[inline(always)]
 #[tactic(auto, unfolding(crate::specs::Answers::part_value, crate::specs::Meaning::hex_value))]
-fn part_of(alloc: Global, len: u32, text: Option<&[u8]>) -> Result<Option<Bits>, SvfCause>
-    ensures { Gives (λ o. option_map (λ bits. bits.items) o) result (part_value len (option_map (λ t. digits_of t.now) text.entry)) }
+fn part_of(alloc: Global, len: u32, text: Option<&[u8]>) -> Result<Part, SvfCause>
+    ensures { Gives (λ p. p) result (part_value len (option_map (λ t. digits_of t.now) text.entry)) }
 {
     match text {
-        None => Ok(None),
-        Some(text) => Ok(Some(text_bits(alloc, len, text)?)),
+        None => Ok(Part::absent()),
+        Some(text) => text_part(alloc, len, text),
     }
 }
 
 /// The scan of a length with these parts.
 #[tactic(auto, unfolding(crate::specs::Answers::scan_value))]
-fn scan_with(alloc: Global, len: u32, parts: PartTexts) -> Result<Scan, SvfCause>
-    ensures { Gives seen_scan result (scan_value len (seen_parts parts.entry)) }
+fn scan_with(alloc: Global, len: u32, parts: &PartTexts<'_>) -> Result<Scan, SvfCause>
+    ensures { Gives seen_scan result (scan_value len (seen_parts parts.now)) }
 {
     let tdi = part_of(alloc, len, parts.tdi)?;
     let tdo = part_of(alloc, len, parts.tdo)?;
@@ -83,8 +79,8 @@ fn other_length(last: Option<u32>, len: u32) -> bool
 }
 
 /// Whether a scan has no TDI of its own, and none to take.
-fn tdi_missing(last: Option<u32>, len: u32, parts: PartTexts) -> bool
-    ensures { result ≡ tdi_missing last len (seen_parts parts.entry) }
+fn tdi_missing(last: Option<u32>, len: u32, parts: &PartTexts<'_>) -> bool
+    ensures { result ≡ tdi_missing last len (seen_parts parts.now) }
 {
     parts.tdi.is_none() && other_length(last, len)
 }
@@ -115,28 +111,28 @@ fn scan_command(register: Register, scan: Scan) -> Command
     }
 }
 
-/// A command behind so many more clocks.
+/// Leaves a command behind so many more clocks.
+#[inline(always)]
 fn within_clock_limit(
     kept: ReadSoFar,
     in_reset: bool,
     n: u64,
     command: Command,
-) -> Result<Outcome, SvfCause>
+    out: &mut Option<Command>,
+) -> Result<ReadSoFar, SvfCause>
     requires { n < 2 ^ 61 }
-    ensures { Gives seen_step result (within_clock_limit kept in_reset n (seen_command command)) }
+    ensures { Leaves out.new result (within_clock_limit kept in_reset n (seen_command command)) }
 {
     let clocks = u64::from(kept.clocks) + n;
     if clocks > u64::from(CLOCK_LIMIT) {
         return Err(SvfCause::SvfLimit);
     }
+    *out = Some(command);
     let clocks = clocks as u32;
-    Ok(Outcome {
-        command: Some(command),
-        kept: ReadSoFar {
-            in_reset,
-            clocks,
-            ..kept
-        },
+    Ok(ReadSoFar {
+        in_reset,
+        clocks,
+        ..kept
     })
 }
 
@@ -147,9 +143,10 @@ fn scanned(
     kept: ReadSoFar,
     register: Register,
     len: u64,
-    parts: PartTexts,
-) -> Result<Outcome, SvfCause>
-    ensures { Gives seen_step result (scanned kept register len (seen_parts parts.entry)) }
+    parts: &PartTexts<'_>,
+    out: &mut Option<Command>,
+) -> Result<ReadSoFar, SvfCause>
+    ensures { Leaves out.new result (scanned kept register len (seen_parts parts.now)) }
 {
     if len > u64::from(SCAN_LIMIT) {
         return Err(SvfCause::SvfLimit);
@@ -165,59 +162,107 @@ fn scanned(
         false,
         clocks,
         scan_command(register, scan),
+        out,
     )
 }
 
 #[tactic(auto, unfolding(crate::specs::Meaning::effect_of))]
-fn run(kept: ReadSoFar, cycles: u64) -> Result<Outcome, SvfCause>
-    ensures { Gives seen_step result (effect_of kept (Runs cycles)) }
+fn run(kept: ReadSoFar, cycles: u64, out: &mut Option<Command>) -> Result<ReadSoFar, SvfCause>
+    ensures { Leaves out.new result (effect_of kept (Runs cycles)) }
 {
     if cycles > u64::from(CLOCK_LIMIT) {
         return Err(SvfCause::SvfLimit);
     }
-    within_clock_limit(
-        kept,
-        false,
-        with_leaving_clock(kept, cycles),
-        Command::Run(cycles as u32),
-    )
+    let clocks = with_leaving_clock(kept, cycles);
+    within_clock_limit(kept, false, clocks, Command::Run(cycles as u32), out)
 }
 
-/// What a command of the grammar does.
-#[tactic(auto, unfolding(crate::specs::Meaning::effect_of))]
-fn effect_of(alloc: Global, kept: ReadSoFar, parsed: Parsed) -> Result<Outcome, SvfCause>
-    ensures { Gives seen_step result (effect_of kept (seen_parsed parsed.entry)) }
+/// What a scan comes to, of which this is the text behind the first word.
+#[tactic(auto, unfolding(crate::specs::Commands::scan, crate::specs::Meaning::effect_of))]
+fn scan(
+    alloc: Global,
+    kept: ReadSoFar,
+    register: Register,
+    text: &[u8],
+    out: &mut Option<Command>,
+) -> Result<ReadSoFar, SvfCause>
+    ensures { Leaves out.new result (if_parsed kept (scan register (words_of text.now))) }
 {
-    match parsed {
-        Parsed::Scan(register, len, parts) => scanned(alloc, kept, register, len, parts),
-        Parsed::Reset => within_clock_limit(kept, true, 5, Command::Reset),
-        Parsed::Idle => within_clock_limit(kept, false, with_leaving_clock(kept, 0), Command::Idle),
-        Parsed::Run(cycles) => run(kept, cycles),
-        Parsed::Nothing => Ok(Outcome {
-            command: None,
-            kept,
-        }),
+    let Some(word) = next_word(text) else {
+        return Err(SvfCause::SvfSyntax);
+    };
+    let len = number(word.piece).unwrap_or(0);
+    match &parts(word.rest) {
+        Some(parts) if len > 0 => scanned(alloc, kept, register, len, parts, out),
+        _ => Err(SvfCause::SvfSyntax),
     }
 }
 
-/// What a command comes to, of which this is the text, and whether its `;` is there.
+/// What a command other than a scan does.
+#[tactic(auto, unfolding(crate::specs::Meaning::effect_of))]
+fn effect_of(
+    kept: ReadSoFar,
+    parsed: Parsed,
+    out: &mut Option<Command>,
+) -> Result<ReadSoFar, SvfCause>
+    ensures { Leaves out.new result (effect_of kept (seen_parsed parsed)) }
+{
+    match parsed {
+        Parsed::Reset => within_clock_limit(kept, true, 5, Command::Reset, out),
+        Parsed::Idle => {
+            let clocks = with_leaving_clock(kept, 0);
+            within_clock_limit(kept, false, clocks, Command::Idle, out)
+        }
+        Parsed::Run(cycles) => run(kept, cycles, out),
+        Parsed::Nothing => {
+            *out = None;
+            Ok(kept)
+        }
+    }
+}
+
+/// What a command comes to, by its first word and the text behind it.
+#[tactic(auto, unfolding(crate::specs::Commands::command_of_words, crate::specs::Commands::parsed_by))]
+fn command_of_words(
+    alloc: Global,
+    kept: ReadSoFar,
+    first: Piece<'_>,
+    out: &mut Option<Command>,
+) -> Result<ReadSoFar, SvfCause>
+    ensures { Leaves out.new result (if_parsed kept (command_of_words (first.entry.piece.now ∷ words_of first.entry.rest.now))) }
+{
+    if is_word(first.piece, b"SIR") {
+        scan(alloc, kept, Register::Instruction, first.rest, out)
+    } else if is_word(first.piece, b"SDR") {
+        scan(alloc, kept, Register::Data, first.rest, out)
+    } else {
+        match parsed_by(first.piece, first.rest) {
+            None => Err(SvfCause::SvfSyntax),
+            Some(parsed) => effect_of(kept, parsed, out),
+        }
+    }
+}
+
+/// What a command comes to, of which this is the text, and whether its `;` is there: what is kept behind it, and in
+/// `out` the command, if it acts on the controller.
 #[tactic(auto, unfolding(crate::specs::Meaning::read_command, crate::specs::Reading::words_of))]
 pub(crate) fn read_command(
     alloc: Global,
     kept: ReadSoFar,
     ended: bool,
     text: &[u8],
-) -> Result<Outcome, SvfCause>
-    ensures { Gives seen_step result (read_command kept ended (plain text.now)) }
+    out: &mut Option<Command>,
+) -> Result<ReadSoFar, SvfCause>
+    ensures { Leaves out.new result (read_command kept ended (plain text.now)) }
 {
-    if let Some(word) = left_out(text) {
+    let Some(first) = next_word(text) else {
+        return Err(SvfCause::SvfSyntax);
+    };
+    if let Some(word) = left_out(first) {
         return Err(SvfCause::LeftOut(name_of(alloc, word)?));
     }
     if !ended {
         return Err(SvfCause::SvfSyntax);
     }
-    match command_of_words(text) {
-        None => Err(SvfCause::SvfSyntax),
-        Some(parsed) => effect_of(alloc, kept, parsed),
-    }
+    command_of_words(alloc, kept, first, out)
 }

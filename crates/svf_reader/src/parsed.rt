@@ -7,7 +7,7 @@ pub(crate) enum Register {
     Data,
 }
 
-/// The parts that stand in a scan, each as the text behind its `(`.
+/// The parts that stand in a scan, each as its digits alone or as the text behind its `(`.
 #[derive(Clone, Copy)]
 pub(crate) struct PartTexts<'a> {
     pub tdi: Option<&'a [u8]>,
@@ -16,9 +16,9 @@ pub(crate) struct PartTexts<'a> {
     pub smask: Option<&'a [u8]>,
 }
 
+/// What a command other than a scan says.
 #[derive(Clone, Copy)]
-pub(crate) enum Parsed<'a> {
-    Scan(Register, u64, PartTexts<'a>),
+pub(crate) enum Parsed {
     Reset,
     Idle,
     Run(u64),

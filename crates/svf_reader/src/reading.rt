@@ -15,7 +15,7 @@ use crate::meaning::read_command;
 use crate::pieces::{Piece, next_word};
 use crate::so_far::ReadSoFar;
 use ij_bits::OutOfMemory;
-use ij_text::{Place, place_at};
+use ij_text::{Place, SVF_LIMIT, place_at};
 use std::alloc::Global;
 use svf_writer::{Command, Commands};
 
@@ -48,7 +48,7 @@ fn refused_at(refused: SvfCause, at: Place) -> SvfFault
 
 /// The place of the first byte of a command, of which this is the text, and from which on so many bytes are left.
 fn command_place(src: &[u8], left: usize, text: &[u8]) -> Place
-    requires short { length src.now ≤ 134217728 }
+    requires short { length src.now ≤ SVF_LIMIT }
     requires within { left ≤ length src.now }
     requires part { length text.now ≤ left }
     ensures { result ≡ place_at src.now (length src.now - left + blanks (plain text.now)) }
@@ -56,12 +56,12 @@ fn command_place(src: &[u8], left: usize, text: &[u8]) -> Place
     place_at(src, src.len() - left + run_len(text, Class::Gap))
 }
 
-/// Adds a command, if there is one.
-fn add(commands: &mut Commands, command: Option<Command>) -> Result<(), OutOfMemory>
-    requires { AreFit (commands.old ++ listed (option_map seen_command command)) }
-    ensures ok { OnOk result (commands.new ≡ commands.old ++ listed (option_map seen_command command)) }
+/// Moves a command to the end of the list, if there is one.
+fn add(commands: &mut Commands, out: &mut Option<Command>) -> Result<(), OutOfMemory>
+    requires { AreFit (commands.old ++ listed (option_map seen_command out.old)) }
+    ensures ok { OnOk result (commands.new ≡ commands.old ++ listed (option_map seen_command out.old)) }
 {
-    if let Some(command) = command {
+    if let Some(command) = out.take() {
         commands.push(command)?;
     }
     Ok(())
@@ -69,7 +69,7 @@ fn add(commands: &mut Commands, command: Option<Command>) -> Result<(), OutOfMem
 
 /// The commands of a text, or its refusal.
 fn read(alloc: Global, src: &[u8]) -> Result<Commands, SvfFault>
-    requires { length src.now ≤ 134217728 }
+    requires { length src.now ≤ SVF_LIMIT }
     ensures ok { IfOk result (λ commands. svf src.now ≡ Ok commands) }
     ensures fault { IfErr result (λ fault. Refuses src.now fault) }
 {
@@ -80,22 +80,22 @@ fn read(alloc: Global, src: &[u8]) -> Result<Commands, SvfFault>
         in_reset: true,
         clocks: 0,
     };
+    let mut command = None;
     let mut rest = src;
     while let Some(next) = next_text(rest) {
-        let outcome = match read_command(alloc, kept, true, next.piece) {
-            Ok(outcome) => outcome,
+        kept = match read_command(alloc, kept, true, next.piece, &mut command) {
+            Ok(kept) => kept,
             Err(refused) => {
                 let at = command_place(src, rest.len(), next.piece);
                 return Err(refused_at(refused, at));
             }
         };
-        kept = outcome.kept;
-        add(&mut commands, outcome.command)?;
+        add(&mut commands, &mut command)?;
         rest = next.rest;
     }
     match next_word(rest) {
         None => Ok(commands),
-        Some(_) => match read_command(alloc, kept, false, rest) {
+        Some(_) => match read_command(alloc, kept, false, rest, &mut command) {
             Ok(_) => Ok(commands),
             Err(refused) => {
                 let at = command_place(src, rest.len(), rest);
@@ -119,7 +119,7 @@ fn read(alloc: Global, src: &[u8]) -> Result<Commands, SvfFault>
 ///
 /// The text has at most 134,217,728 bytes, as an SVF file may have here; a longer one must not be given.
 pub fn read_svf(alloc: Global, src: &[u8]) -> Result<Commands, SvfFault>
-    requires { length src.now ≤ 134217728 }
+    requires { length src.now ≤ SVF_LIMIT }
     ensures ok { IfOk result (λ commands. svf src.now ≡ Ok commands) }
     ensures refused { (refusal : Refusal) → svf src.now ≡ Err refusal → IsErr result }
     ensures left_out { (at : Place) (word : Listed ℕ) → IsErrOf result (SvfFault.LeftOut at word) → IsRefused src.now (LeftOut word.items) at }

@@ -1,7 +1,6 @@
 -- What is left of a play: the pins still to come, and the state in which they leave the controller.
 use Rattle.std.specs.Prelude.{◌≡◌, ◌<◌, ◌^◌, ◌+◌, ◌*◌, ℕ, Bool, true, false, List, [], ◌∷◌, ◌++◌, length, replicate, map, drop, Option, Some, None, option_map, unwrap_or}
 use Rattle.std.specs.Borrow.{Bor}
-use Rattle.ij_bits.specs.Room.{Listed}
 use Rattle.svf_writer.specs.Fits.{HasLength, AreFitAfter}
 use Rattle.tap_machine.specs.declared.Pins.{Pins}
 use Rattle.tap_machine.specs.declared.Stable.{Stable}
@@ -19,8 +18,8 @@ pub record Remaining : Type 0 where
   pub rests : Stable
 
 -- bits that were lent
-abbrev pub lent : Option (Bor (Listed Bool)) → Option (List Bool)
-lent bits = option_map (λ b. b.now.items) bits
+abbrev pub lent : Option (Bor (Option (List Bool))) → Option (List Bool)
+lent bits = option_map (λ b. unwrap_or b.now []) bits
 
 -- what is kept of the last scan of a kind, by what it was taken from
 abbrev pub seen_held : HeldBits → LastScan

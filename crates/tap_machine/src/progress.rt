@@ -6,16 +6,15 @@ ghost use Rattle.tap_machine.specs.Remaining.{lent, seen_held, last_length, AreH
 ghost use Rattle.tap_machine.specs.Play.{no_shift, after_scan, expected, mask_now};
 
 use crate::{Pins, Stable};
-use ij_bits::Bits;
-use svf_writer::{Command, Commands, Scan};
+use svf_writer::{Command, Commands, Part, Scan};
 
 /// The length of the last scan of a kind, and the bits of the commands that it took its TDI and MASK from. Without
 /// MASK each bit is compared.
 #[derive(Clone, Copy)]
 pub(crate) struct HeldBits<'a> {
     pub len: u32,
-    pub tdi: Option<&'a Bits>,
-    pub mask: Option<&'a Bits>,
+    pub tdi: Option<&'a Part>,
+    pub mask: Option<&'a Part>,
 }
 
 /// What is left of the command at hand.
@@ -50,7 +49,7 @@ pub(crate) struct Progress<'a> {
     pub scans: u32,
     pub phase: Phase,
     pub scan: HeldBits<'a>,
-    pub tdo: Option<&'a Bits>,
+    pub tdo: Option<&'a Part>,
     pub ir: HeldBits<'a>,
     pub dr: HeldBits<'a>,
 }
@@ -63,7 +62,7 @@ pub(crate) fn held_for<'a>(kept: HeldBits<'a>, scan: &'a Scan) -> HeldBits<'a>
     ensures sound { AreHeldBits result }
     ensures last { last_length result ≡ Some scan.now.len }
 {
-    let mask = match &scan.mask {
+    let mask = match lend(&scan.mask) {
         Some(mask) => Some(mask),
         None => if kept.len == scan.len {
             kept.mask
@@ -71,7 +70,7 @@ pub(crate) fn held_for<'a>(kept: HeldBits<'a>, scan: &'a Scan) -> HeldBits<'a>
             None
         },
     };
-    let tdi = match &scan.tdi {
+    let tdi = match lend(&scan.tdi) {
         Some(tdi) => Some(tdi),
         None => kept.tdi,
     };
@@ -82,11 +81,11 @@ pub(crate) fn held_for<'a>(kept: HeldBits<'a>, scan: &'a Scan) -> HeldBits<'a>
     }
 }
 
-/// A part of a scan, lent.
-fn lend(bits: &Option<Bits>) -> Option<&Bits>
-    ensures { lent result ≡ option_map (λ b. b.items) bits.now }
+/// A part of a scan, lent where it stands in the command.
+fn lend(part: &Part) -> Option<&Part>
+    ensures { lent result ≡ part.now }
 {
-    bits.as_ref()
+    if part.is_given() { Some(part) } else { None }
 }
 
 /// A clock that shifts nothing.
@@ -214,10 +213,10 @@ impl<'a> Progress<'a> {
     }
 
     /// Makes this the scan at hand.
-    fn begin_scan(&mut self, phase: Phase, scan: HeldBits<'a>, tdo: &'a Option<Bits>)
+    fn begin_scan(&mut self, phase: Phase, scan: HeldBits<'a>, tdo: &'a Part)
         requires more { self.old.at + 1 < 2 ^ 64 }
         requires few { self.old.scans + 1 < 2 ^ 32 }
-        ensures tdo { lent self.new.tdo ≡ option_map (λ b. b.items) tdo.now }
+        ensures tdo { lent self.new.tdo ≡ tdo.now }
         ensures others { self.new ≡ record self.old { phase = phase; scan = scan.entry; tdo = self.new.tdo; scans = self.old.scans + 1; at = self.old.at + 1 } }
     {
         self.phase = phase;

@@ -1,4 +1,4 @@
-use Rattle.std.proofs.Common.{◌≡◌, ◌<◌, ◌≤◌, ◌+◌, ◌-◌, ◌/◌, ◌^◌, ◌++◌, Bool, not, List, length, drop, arith, ap, sym, ◌∙◌}
+use Rattle.std.proofs.Common.{◌≡◌, ◌≤◌, ◌+◌, ◌-◌, ◌/◌, ◌^◌, ◌++◌, Bool, not, List, length, drop, arith, ap, sym, ◌∙◌}
 use Rattle.std.specs.Prelude.{◌==◌, ◌||◌}
 use Rattle.ij_bits.specs.BitLists.{bits_of, number_of}
 use Rattle.svf_reader.specs.Values.{hex_bits, has_one, fitted, is_wide}
@@ -34,7 +34,7 @@ returns-clause-wide c =
     let last = c.split_last-parts.result.last.now in
     let parts : InParts rest front last = record { all = c.split_last-parts.ensures.all; few = c.split_last-parts.ensures.few; lone = c.split_last-parts.ensures.front } in
     let n = c.args.len - c.len.result in
-    let few : n < 64 = omega (arith, c.len.ensures, c.put_words-rest.ensures.near) in
+    let few : n ≤ 64 = omega (arith, c.len.ensures, c.put_words-rest.ensures.near) in
     let sum : k + n ≡ c.args.len = omega (arith, c.len.ensures, c.put_words-rest.ensures.within) in
     ap (λ (b : Bool). b || c.have_one.result) (c.has_one_above.ensures ∙ ap (λ v. not ((v / 2 ^ n) == 0)) c.digits_number-value.ensures)
     ∙ ap (λ (b : Bool). not ((number_of (hex_bits last) / 2 ^ n) == 0) || b) c.have_one.ensures

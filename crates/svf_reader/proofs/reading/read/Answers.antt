@@ -1,10 +1,10 @@
 use Rattle.std.proofs.Common.{◌≡◌, ◌+◌, ◌-◌, ◌++◌, [], ℕ, suc, false, true, List, length, arith, ap, sym, ◌∙◌, subst, append-nil, append_assoc}
-use Rattle.svf_writer.specs.SeenCommands.{SeenCommand}
+use Rattle.std.specs.Option.{option_map}
+use Rattle.svf_writer.specs.SeenCommands.{SeenCommand, seen_command}
 use Rattle.svf_writer.specs.Fits.{AreFit, AreFitAfter}
 use Rattle.svf_reader.specs.Texts.{plain, texts, blanks}
-use Rattle.svf_reader.specs.Meaning.{listed, in_front_of, read_from, read_command}
+use Rattle.svf_reader.specs.Meaning.{Step, listed, in_front_of, read_from, read_command}
 use Rattle.svf_reader.specs.Reading.{words_of}
-use Rattle.svf_reader.specs.Seen.{seen_step}
 use Rattle.svf_reader.proofs.Cuts.{plain_length}
 use Rattle.svf_reader.proofs.Fitting.{comes_follows}
 use Rattle.svf_reader.proofs.Whole.{from_first, refused_here, next_here, end_none, end_refused, refuses, words_of_is}
@@ -31,7 +31,7 @@ returns-in-Err-clause-fault c =
 
 pub add-requires : goal.add-requires
 add-requires c =
-    let step = seen_step c.in-Ok.outcome in
+    let step : Step = (option_map seen_command c.read_command.new.out, c.in-Ok.kept) in
     let follows = comes_follows c.loop-next.kept true (plain c.in-Some.next.piece.now) step c.in-Ok.ensures [] tt in
     c.loop-next.invariant.fit (listed step.0) (subst (λ (l : List SeenCommand). AreFitAfter c.loop-next.kept.ir c.loop-next.kept.dr l) (append-nil (listed step.0)) follows)
 
@@ -40,15 +40,15 @@ loop-next-preserved c =
     let src = c.args.src.now in
     let at = length src - length c.loop-next.rest.now in
     let t = plain c.in-Some.next.piece.now in
-    let step = seen_step c.in-Ok.outcome in
+    let step : Step = (option_map seen_command c.read_command.new.out, c.in-Ok.kept) in
     let long : length t ≡ length c.in-Some.next.piece.now = plain_length false c.in-Some.next.piece.now in
     let next : suc (at + length t) ≡ length src - length c.in-Some.next.rest.now = omega (arith, long, c.in-Some.ensures.lengths, c.loop-next.invariant.within) in
     let all = next_here src c.loop-next.commands c.loop-next.kept at (texts (plain c.loop-next.rest.now)) c.loop-next.invariant.so_far t (plain c.in-Some.next.rest.now) step c.in-Some.ensures.value c.in-Ok.ensures in
     let added : c.add.new.commands ≡ c.loop-next.commands ++ listed step.0 = c.in_ok-add.ensures.ok in
     record {
       within = omega (arith, c.in-Some.ensures.lengths, c.loop-next.invariant.within);
-      so_far = ap (λ (cs : List SeenCommand). in_front_of cs (read_from c.in-Ok.outcome.kept (length src - length c.in-Some.next.rest.now) (texts (plain c.in-Some.next.rest.now)))) added
-          ∙ ap (λ (n : ℕ). in_front_of (c.loop-next.commands ++ listed step.0) (read_from c.in-Ok.outcome.kept n (texts (plain c.in-Some.next.rest.now)))) (sym next)
+      so_far = ap (λ (cs : List SeenCommand). in_front_of cs (read_from c.in-Ok.kept (length src - length c.in-Some.next.rest.now) (texts (plain c.in-Some.next.rest.now)))) added
+          ∙ ap (λ (n : ℕ). in_front_of (c.loop-next.commands ++ listed step.0) (read_from c.in-Ok.kept n (texts (plain c.in-Some.next.rest.now)))) (sym next)
           ∙ all;
       fit = λ more h.
           subst (λ (cs : List SeenCommand). AreFit (cs ++ more)) (sym added)

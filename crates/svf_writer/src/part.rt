@@ -1,0 +1,115 @@
+// The bits of a part of a scan.
+ghost use Rattle.std.specs.Prelude.{◌==◌, ◌≡◌, ◌↔◌, ◌^◌, ◌<◌, ◌≤◌, false, [], length, slice_index_or, unwrap_or, None, Some, IfOk, IsSome, IsTrue};
+ghost use Rattle.std.specs.Int.{bit_at};
+ghost use Rattle.ij_bits.specs.BitLists.{bits_of};
+
+use ij_bits::{Bits, OutOfMemory};
+use std::alloc::Global;
+use std::marker::Model;
+
+/// Where the bits of a part lie.
+#[derive(Drop)]
+pub(crate) enum Stored {
+    /// The part doesn't stand in the command.
+    Absent,
+    /// At most 64 bits, in one number, position 0 the lowest.
+    Word { count: u32, bits: u64 },
+    /// Any number of bits.
+    List(Box<Bits>),
+}
+
+/// A part of a scan: its bits, where it stands in the command. Position 0 is the bit that is shifted first, so the one
+/// nearest TDO. At most 64 bits lie in the value itself.
+///
+/// Contracts see an optional list of bits.
+#[derive(Drop)]
+pub struct Part {
+    pub(crate) stored: Stored,
+}
+
+impl Model for Part {
+    ghost use Rattle.std.specs.Prelude.{Option, List, Bool};
+    ghost use Rattle.svf_writer.specs.Stored.{bits_code, seen_part, IsStored};
+
+    ghost Value = { Option (List Bool) };
+
+    ghost coded = { bits_code };
+
+    ghost view = { λ p. seen_part p.stored };
+
+    ghost invariant = { λ p. IsStored p.stored };
+}
+
+/// The bit of a number at a place.
+fn bit_of_number(n: u64, k: u32) -> bool
+    requires { k < 64 }
+    ensures { result ≡ (bit_at n k == 1) }
+{
+    (n >> k) & 1 == 1
+}
+
+impl Part {
+    /// A part that doesn't stand in the command. Takes no memory.
+    pub fn absent() -> Part
+        ensures { result ≡ None }
+    {
+        Part {
+            stored: Stored::Absent,
+        }
+    }
+
+    /// The lowest bits of a number, at most 64, of which no further ones are 1. Takes no memory.
+    pub fn of_number(count: u32, bits: u64) -> Part
+        requires word { count ≤ 64 }
+        requires fits { bits < 2 ^ count }
+        ensures { result ≡ Some (bits_of count bits) }
+    {
+        Part {
+            stored: Stored::Word { count, bits },
+        }
+    }
+
+    /// These bits; `OutOfMemory` where there is no memory for a list.
+    pub fn of_bits(alloc: Global, bits: Bits) -> Result<Part, OutOfMemory>
+        ensures { IfOk result (λ part. part ≡ Some bits.items) }
+    {
+        let list = Box::new(alloc, bits)?;
+        Ok(Part {
+            stored: Stored::List(list),
+        })
+    }
+
+    /// Whether the part stands in the command. Takes no memory.
+    pub fn is_given(&self) -> bool
+        ensures { IsTrue result ↔ IsSome self.now }
+    {
+        match &self.stored {
+            Stored::Absent => false,
+            Stored::Word { .. } => true,
+            Stored::List(_) => true,
+        }
+    }
+
+    /// The bit at a position. Takes no memory.
+    pub fn get(&self, k: u32) -> bool
+        requires { k < length (unwrap_or self.now []) }
+        ensures { result ≡ slice_index_or (unwrap_or self.now []) k false }
+    {
+        match &self.stored {
+            Stored::Absent => false,
+            Stored::Word { bits, .. } => bit_of_number(*bits, k),
+            Stored::List(bits) => bits.get(k),
+        }
+    }
+
+    /// How many bits it has, 0 where it doesn't stand in the command. Takes no memory.
+    pub fn len(&self) -> u32
+        ensures { result ≡ length (unwrap_or self.now []) }
+    {
+        match &self.stored {
+            Stored::Absent => 0,
+            Stored::Word { count, .. } => *count,
+            Stored::List(bits) => bits.len(),
+        }
+    }
+}
