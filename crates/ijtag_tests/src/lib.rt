@@ -18,6 +18,8 @@ mod host_files;
 #[cfg(test)]
 mod icl_designs;
 #[cfg(test)]
+mod icl_hierarchies;
+#[cfg(test)]
 mod icl_printed;
 #[cfg(test)]
 mod icl_tokens;
