@@ -574,3 +574,96 @@ fn faults_come_where_they_stand(rt: HostRuntime) -> Result<(), Fail> {
     }
     Ok(())
 }
+
+/// Modules `m0` up to `m70`: `m0` has these items, and each other one so many instances of the one before it.
+fn nested(alloc: Global, items: &str, instances: usize) -> Result<String, Fail> {
+    let mut text = format!(in alloc; "Module m0 {{ {items} }}\n")?;
+    for k in 1..71usize {
+        let mut inside = String::new(alloc);
+        for i in 0..instances {
+            let instance = format!(in alloc; " Instance i{i} Of m{};", k - 1)?;
+            inside.push_str(instance.as_str())?;
+        }
+        let module_text = format!(in alloc; "Module m{k} {{{inside} }}\n")?;
+        text.push_str(module_text.as_str())?;
+    }
+    Ok(text)
+}
+
+/// How many cells there are, or the refusal.
+fn count(alloc: Global, text: &str, top: &str) -> Result<String, Fail> {
+    match below(alloc, text.as_bytes(), top.as_bytes())? {
+        Ok(hier) => Ok(format!(in alloc; "{}", hier.cells.len())?),
+        Err(fault) => Ok(refusal(alloc, &fault)?),
+    }
+}
+
+/// Each limit is accepted, and the next number is refused.
+#[test]
+fn limits_are_the_last_that_are_taken(rt: HostRuntime) -> Result<(), Fail> {
+    let alloc = rt.alloc();
+    let rows: [(&str, usize, &str, &str); 10] = [
+        ("", 1, "m64", "65"),
+        ("", 1, "m65", "Limit Hierarchy 64"),
+        ("", 2, "m12", "8191"),
+        ("", 2, "m13", "Limit Cells 8192"),
+        ("DataInPort d;", 2, "m8", "511"),
+        ("DataInPort d;", 2, "m9", "Limit Instruments 256"),
+        (
+            "ScanInPort i; ScanMux m SelectedBy 1'b0 { 0 : i; }",
+            2,
+            "m10",
+            "2047",
+        ),
+        (
+            "ScanInPort i; ScanMux m SelectedBy 1'b0 { 0 : i; }",
+            2,
+            "m11",
+            "Limit Muxes 1024",
+        ),
+        (
+            "ScanInPort i; ScanRegister r[31:0] { ScanInSource i; }",
+            2,
+            "m7",
+            "255",
+        ),
+        (
+            "ScanInPort i; ScanRegister r[31:0] { ScanInSource i; }",
+            2,
+            "m8",
+            "Limit ScanBits 4096",
+        ),
+    ];
+    for (items, instances, top, wanted) in rows {
+        let text = nested(alloc, items, instances)?;
+        assert_eq!(rt; count(alloc, text.as_str(), top)?.as_str(), wanted);
+    }
+    Ok(())
+}
+
+/// The ports of an instrument, of which the top is none.
+#[test]
+fn instruments_have_few_ports(rt: HostRuntime) -> Result<(), Fail> {
+    let alloc = rt.alloc();
+    let rows: [(&str, &str, &str); 6] = [
+        ("DataInPort d[63:0];", "c", "2"),
+        ("DataInPort d[64:0];", "c", "Limit PortBits 64"),
+        ("DataInPort d[64:0];", "i", "1"),
+        ("DataOutPort d[1:65];", "c", "Limit PortBits 64"),
+        (
+            "DataInPort a; DataInPort b; DataInPort c; DataInPort d; DataInPort e; DataInPort f; DataInPort g; DataInPort h; DataInPort i; DataInPort j; DataInPort k; DataInPort l; DataInPort m; DataInPort n; DataInPort o; DataInPort p; DataOutPort q;",
+            "c",
+            "2",
+        ),
+        (
+            "DataInPort a; DataInPort b; DataInPort c; DataInPort d; DataInPort e; DataInPort f; DataInPort g; DataInPort h; DataInPort i; DataInPort j; DataInPort k; DataInPort l; DataInPort m; DataInPort n; DataInPort o; DataInPort p; DataInPort q[64:0];",
+            "c",
+            "Limit Ports 16",
+        ),
+    ];
+    for (items, top, wanted) in rows {
+        let text = format!(in alloc; "Module i {{ {items} }} Module c {{ Instance i Of i; }}")?;
+        assert_eq!(rt; count(alloc, text.as_str(), top)?.as_str(), wanted);
+    }
+    Ok(())
+}
