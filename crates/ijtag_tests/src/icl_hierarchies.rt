@@ -263,7 +263,8 @@ fn outcome(alloc: Global, text: &str, top: &str) -> Result<String, Fail> {
 
 /// What stands in front of the items of a row: an instrument, a segment, parameters, and the parts of `chip` up to number 5. The
 /// items stand in line 2, and the next part has number 6.
-const FRONT: &str = "Module Ins { DataInPort d[3:0]; DataOutPort q[3:0]; } Module Seg { ScanInPort SI; ScanOutPort SO { Source S; } ScanRegister S[1:0] { ScanInSource SI; } ScanInterface client { Port SI; Port SO; } } Module Par { Parameter P = 1; LocalParameter L = 2; DataInPort p[$P+$L:0]; } Module chip { ScanInPort SI; DataInPort D[3:0]; ScanRegister R[3:0] { ScanInSource SI; } Instance s Of Seg { InputPort SI = R; } Instance i Of Ins; SelectPort En;";
+const FRONT: &str =
+    "Module Ins { DataInPort d[3:0]; DataOutPort q[3:0]; } Module Seg { ScanInPort SI; ScanOutPort SO { Source S; } ScanRegister S[1:0] { ScanInSource SI; } ScanInterface client { Port SI; Port SO; } } Module Par { Parameter P = 1; LocalParameter L = 2; DataInPort p[$P+$L:0]; } Module chip { ScanInPort SI; DataInPort D[3:0]; ScanRegister R[3:0] { ScanInSource SI; } Instance s Of Seg { InputPort SI = R; } Instance i Of Ins; SelectPort En;";
 
 /// A part of the design with these items, or its refusal.
 fn part_with(alloc: Global, items: &str, cell: usize, part: usize) -> Result<String, Fail> {
@@ -409,7 +410,12 @@ fn signals_and_values_are_bits(rt: HostRuntime) -> Result<(), Fail> {
             6,
             "O[3:0] data out 0 1 1 1",
         ),
-        ("ScanOutPort O { Source M; } ScanMux M SelectedBy D[0] { 1'b0 : SI; }", 0, 6, "O[0:0] scan out 0.7.0"),
+        (
+            "ScanOutPort O { Source M; } ScanMux M SelectedBy D[0] { 1'b0 : SI; }",
+            0,
+            6,
+            "O[0:0] scan out 0.7.0",
+        ),
         (
             "Instance j Of Ins { InputPort d[3] = R[0]; InputPort d[2:0] = ~D[2:0]; }",
             3,
@@ -466,22 +472,80 @@ fn signals_and_values_are_bits(rt: HostRuntime) -> Result<(), Fail> {
 }
 
 #[test]
-fn faults_come_where_they_stand(rt: HostRuntime) -> Result<(), Fail> {
+fn names_are_known_and_differ(rt: HostRuntime) -> Result<(), Fail> {
     let alloc = rt.alloc();
-    let rows: [(&str, &str); 99] = [
+    let rows: [(&str, &str); 18] = [
         ("Instance a Of nope;", "NoModule nope"),
         ("DataInPort R;", "DoubleName 2:1 R"),
         ("Alias x = R[0]; Instance x Of Ins;", "DoubleName 2:17 x"),
-        ("ScanInterface c { Port SI; } ScanInterface c { Port D; }", "DoubleName 2:30 c"),
-        ("Enum e { a = 1'b0; } Enum e { a = 1'b0; }", "DoubleName 2:22 e"),
-        ("Parameter p = 1; LocalParameter p = 2;", "DoubleName 2:18 p"),
-        ("Enum e { a = 1'b0; b = 1'b1; a = 1'b0; }", "DoubleName 2:1 a"),
-        ("Instance p Of Par { Parameter P = 1; Parameter P = $x; }", "DoubleName 2:38 P"),
+        (
+            "ScanInterface c { Port SI; } ScanInterface c { Port D; }",
+            "DoubleName 2:30 c",
+        ),
+        (
+            "Enum e { a = 1'b0; } Enum e { a = 1'b0; }",
+            "DoubleName 2:22 e",
+        ),
+        (
+            "Parameter p = 1; LocalParameter p = 2;",
+            "DoubleName 2:18 p",
+        ),
+        (
+            "Enum e { a = 1'b0; b = 1'b1; a = 1'b0; }",
+            "DoubleName 2:1 a",
+        ),
+        (
+            "Instance p Of Par { Parameter P = 1; Parameter P = $x; }",
+            "DoubleName 2:38 P",
+        ),
         ("Instance p Of Par { Parameter Q = $x; }", "NoName 2:21 Q"),
         ("Instance p Of Par { Parameter L = 1; }", "NoName 2:21 L"),
+        ("ScanInterface c { Port y; }", "NoName 2:1 y"),
+        ("ScanInterface c { Port R; }", "WrongKind 2:1"),
+        (
+            "AccessLink l Of STD_1149_1_2013 { BSDLEntity e; a { ScanInterface { y.client; } } }",
+            "NoName 2:1 y",
+        ),
+        (
+            "AccessLink l Of STD_1149_1_2013 { BSDLEntity e; a { ScanInterface { R.client; } } }",
+            "WrongKind 2:1",
+        ),
+        (
+            "AccessLink l Of STD_1149_1_2013 { BSDLEntity e; a { ScanInterface { s.host; } } }",
+            "NoName 2:1 host",
+        ),
+        (
+            "AccessLink l Of STD_1149_1_2013 { BSDLEntity e; a { ScanInterface { s.client; } } a { ScanInterface { s.client; } } }",
+            "DoubleName 2:1 a",
+        ),
+        (
+            "ScanRegister x { ScanInSource y; } Parameter p = 1 / 0;",
+            "DivideByZero 2:52",
+        ),
+        (
+            "ScanRegister x { ScanInSource y; } DataInPort R;",
+            "DoubleName 2:36 R",
+        ),
+    ];
+    for (items, wanted) in rows {
+        assert_eq!(rt; part_with(alloc, items, 0, 0)?.as_str(), wanted);
+    }
+    Ok(())
+}
+
+#[test]
+fn numbers_and_ranges_suit(rt: HostRuntime) -> Result<(), Fail> {
+    let alloc = rt.alloc();
+    let rows: [(&str, &str); 19] = [
         ("Parameter p = $q; Parameter q = 1;", "NoParameter 2:15 q"),
-        ("ScanRegister x[$v:0] { ScanInSource SI; }", "NoParameter 2:16 v"),
-        ("Instance p Of Par { Parameter P = $v; }", "NoParameter 2:35 v"),
+        (
+            "ScanRegister x[$v:0] { ScanInSource SI; }",
+            "NoParameter 2:16 v",
+        ),
+        (
+            "Instance p Of Par { Parameter P = $v; }",
+            "NoParameter 2:35 v",
+        ),
         ("Parameter p = $v'b0;", "NoParameter 2:1 v"),
         ("Parameter p = 1 % 0;", "DivideByZero 2:17"),
         ("DataInPort x[1 / (2 - 2):0];", "DivideByZero 2:16"),
@@ -491,13 +555,30 @@ fn faults_come_where_they_stand(rt: HostRuntime) -> Result<(), Fail> {
         ("Parameter p = 4097'b0;", "BadNumber 2:1"),
         ("Parameter p = 4'b10000;", "BadNumber 2:1"),
         ("Parameter p = 4'b2;", "BadNumber 2:1"),
-        ("Parameter p = 'd340282366920938463463374607431768211456;", "BadNumber 2:1"),
+        (
+            "Parameter p = 'd340282366920938463463374607431768211456;",
+            "BadNumber 2:1",
+        ),
         ("Parameter p = 4'bx; DataInPort x[$p:0];", "BadNumber 2:34"),
         ("DataInPort x['h1_0000_0000:0];", "BadNumber 2:13"),
         ("Parameter p = \"t\" + 1;", "WrongKind 2:1"),
         ("Parameter p = \"t\"; DataInPort x[$p:0];", "WrongKind 2:33"),
         ("DataInPort x[65536:0];", "Limit Width 65536"),
-        ("ScanRegister x[4094:0] { ScanInSource SI; }", "Limit ScanBits 4096"),
+        (
+            "ScanRegister x[4094:0] { ScanInSource SI; }",
+            "Limit ScanBits 4096",
+        ),
+    ];
+    for (items, wanted) in rows {
+        assert_eq!(rt; part_with(alloc, items, 0, 0)?.as_str(), wanted);
+    }
+    Ok(())
+}
+
+#[test]
+fn scan_signals_are_refused(rt: HostRuntime) -> Result<(), Fail> {
+    let alloc = rt.alloc();
+    let rows: [(&str, &str); 14] = [
         ("ScanRegister x { ScanInSource y; }", "NoName 2:31 y"),
         ("ScanRegister x { ScanInSource s.SX; }", "NoName 2:31 SX"),
         ("ScanRegister x { ScanInSource ~SI; }", "WrongKind 2:31"),
@@ -510,39 +591,150 @@ fn faults_come_where_they_stand(rt: HostRuntime) -> Result<(), Fail> {
         ("ScanRegister x { ScanInSource R[9]; }", "WrongKind 2:31"),
         ("ScanRegister x { ScanInSource SI[1]; }", "BadRange 2:33"),
         ("ScanRegister x { ScanInSource SI[0:1]; }", "BadRange 2:33"),
-        ("ScanRegister x { ScanInSource R[$v]; }", "NoParameter 2:33 v"),
+        (
+            "ScanRegister x { ScanInSource R[$v]; }",
+            "NoParameter 2:33 v",
+        ),
         ("ScanOutPort x { Source y; }", "NoName 2:24 y"),
-        ("ScanRegister x[3:0] { ScanInSource SI; CaptureSource y; }", "NoName 2:54 y"),
-        ("ScanRegister x { ScanInSource SI; CaptureSource SI; }", "WrongKind 2:49"),
-        ("ScanRegister x { ScanInSource SI; CaptureSource i.d[0]; }", "WrongKind 2:49"),
-        ("ScanRegister x { ScanInSource SI; CaptureSource s.S[0]; }", "WrongKind 2:49"),
-        ("ScanRegister x[1:0] { ScanInSource SI; CaptureSource R[0:1]; }", "BadRange 2:55"),
-        ("ScanRegister x[1:0] { ScanInSource SI; CaptureSource R[4:3]; }", "BadRange 2:55"),
-        ("ScanRegister x[1:0] { ScanInSource SI; CaptureSource R; }", "WidthDiffers 2:1"),
-        ("ScanRegister x[1:0] { ScanInSource SI; CaptureSource R[0]; }", "WidthDiffers 2:1"),
-        ("ScanRegister x[1:0] { ScanInSource SI; CaptureSource 4; }", "WidthDiffers 2:1"),
-        ("ScanRegister x[1:0] { ScanInSource SI; CaptureSource 3'b000; }", "WidthDiffers 2:1"),
-        ("ScanRegister x[1:0] { ScanInSource SI; CaptureSource 2'b0x; }", "BadNumber 2:54"),
-        ("ScanRegister x[1:0] { ScanInSource SI; CaptureSource R[0], 1; }", "WrongKind 2:60"),
-        ("ScanRegister x[1:0] { ScanInSource SI; CaptureSource $v; }", "NoParameter 2:54 v"),
-        ("Parameter t = \"t\"; ScanRegister x[1:0] { ScanInSource SI; CaptureSource $t; }", "WrongKind 2:73"),
+    ];
+    for (items, wanted) in rows {
+        assert_eq!(rt; part_with(alloc, items, 0, 0)?.as_str(), wanted);
+    }
+    Ok(())
+}
+
+#[test]
+fn data_signals_are_refused(rt: HostRuntime) -> Result<(), Fail> {
+    let alloc = rt.alloc();
+    let rows: [(&str, &str); 18] = [
+        (
+            "ScanRegister x[3:0] { ScanInSource SI; CaptureSource y; }",
+            "NoName 2:54 y",
+        ),
+        (
+            "ScanRegister x { ScanInSource SI; CaptureSource SI; }",
+            "WrongKind 2:49",
+        ),
+        (
+            "ScanRegister x { ScanInSource SI; CaptureSource i.d[0]; }",
+            "WrongKind 2:49",
+        ),
+        (
+            "ScanRegister x { ScanInSource SI; CaptureSource s.S[0]; }",
+            "WrongKind 2:49",
+        ),
+        (
+            "ScanRegister x[1:0] { ScanInSource SI; CaptureSource R[0:1]; }",
+            "BadRange 2:55",
+        ),
+        (
+            "ScanRegister x[1:0] { ScanInSource SI; CaptureSource R[4:3]; }",
+            "BadRange 2:55",
+        ),
+        (
+            "ScanRegister x[1:0] { ScanInSource SI; CaptureSource R; }",
+            "WidthDiffers 2:1",
+        ),
+        (
+            "ScanRegister x[1:0] { ScanInSource SI; CaptureSource R[0]; }",
+            "WidthDiffers 2:1",
+        ),
+        (
+            "ScanRegister x[1:0] { ScanInSource SI; CaptureSource 4; }",
+            "WidthDiffers 2:1",
+        ),
+        (
+            "ScanRegister x[1:0] { ScanInSource SI; CaptureSource 3'b000; }",
+            "WidthDiffers 2:1",
+        ),
+        (
+            "ScanRegister x[1:0] { ScanInSource SI; CaptureSource 2'b0x; }",
+            "BadNumber 2:54",
+        ),
+        (
+            "ScanRegister x[1:0] { ScanInSource SI; CaptureSource R[0], 1; }",
+            "WrongKind 2:60",
+        ),
+        (
+            "ScanRegister x[1:0] { ScanInSource SI; CaptureSource $v; }",
+            "NoParameter 2:54 v",
+        ),
+        (
+            "Parameter t = \"t\"; ScanRegister x[1:0] { ScanInSource SI; CaptureSource $t; }",
+            "WrongKind 2:73",
+        ),
         ("DataOutPort x { Source y; }", "NoName 2:24 y"),
         ("DataOutPort x { Source R; }", "WidthDiffers 2:1"),
         ("ToSelectPort x { Source y; }", "NoName 2:25 y"),
         ("ToSelectPort x { Source R.y; }", "WrongKind 2:25"),
-        ("ScanRegister x[1:0] { ScanInSource SI; ResetValue 4; }", "WidthDiffers 2:1"),
-        ("ScanRegister x[1:0] { ScanInSource SI; ResetValue 2'b01, 1'b0; }", "WidthDiffers 2:1"),
-        ("ScanRegister x[1:0] { ScanInSource SI; ResetValue 1, 1'b0; }", "WrongKind 2:1"),
-        ("ScanRegister x[1:0] { ScanInSource SI; ResetValue 2'b3; }", "BadNumber 2:1"),
-        ("ScanRegister x { ScanInSource SI; RefEnum e; }", "NoName 2:1 e"),
-        ("Enum e { a = 2'b10; } ScanRegister x { ScanInSource SI; RefEnum e; }", "WidthDiffers 2:23"),
-        ("Enum e { a = $v; } ScanRegister x { ScanInSource SI; RefEnum e; }", "NoParameter 2:14 v"),
+    ];
+    for (items, wanted) in rows {
+        assert_eq!(rt; part_with(alloc, items, 0, 0)?.as_str(), wanted);
+    }
+    Ok(())
+}
+
+#[test]
+fn values_and_rows_are_refused(rt: HostRuntime) -> Result<(), Fail> {
+    let alloc = rt.alloc();
+    let rows: [(&str, &str); 13] = [
+        (
+            "ScanRegister x[1:0] { ScanInSource SI; ResetValue 4; }",
+            "WidthDiffers 2:1",
+        ),
+        (
+            "ScanRegister x[1:0] { ScanInSource SI; ResetValue 2'b01, 1'b0; }",
+            "WidthDiffers 2:1",
+        ),
+        (
+            "ScanRegister x[1:0] { ScanInSource SI; ResetValue 1, 1'b0; }",
+            "WrongKind 2:1",
+        ),
+        (
+            "ScanRegister x[1:0] { ScanInSource SI; ResetValue 2'b3; }",
+            "BadNumber 2:1",
+        ),
+        (
+            "ScanRegister x { ScanInSource SI; RefEnum e; }",
+            "NoName 2:1 e",
+        ),
+        (
+            "Enum e { a = 2'b10; } ScanRegister x { ScanInSource SI; RefEnum e; }",
+            "WidthDiffers 2:23",
+        ),
+        (
+            "Enum e { a = $v; } ScanRegister x { ScanInSource SI; RefEnum e; }",
+            "NoParameter 2:14 v",
+        ),
         ("ScanMux x SelectedBy y { 1'b0 : SI; }", "NoName 2:22 y"),
         ("ScanMux x SelectedBy 1 { 1'b0 : SI; }", "WrongKind 2:22"),
-        ("ScanMux x SelectedBy R[1:0] { 2'b0 : SI; 4 : R; }", "WidthDiffers 2:1"),
-        ("ScanMux x SelectedBy R[1:0] { 2'b0 : D; 4 : R; }", "WrongKind 2:38"),
-        ("ScanMux x SelectedBy R[1:0] { 2'b0x : SI; 2'b1x | 2'b00 : R; }", "RowsOverlap 2:1"),
-        ("ScanMux x SelectedBy R[1:0] { 2'b01 : SI; 2'b10 : R; 1 : s.SO; }", "RowsOverlap 2:1"),
+        (
+            "ScanMux x SelectedBy R[1:0] { 2'b0 : SI; 4 : R; }",
+            "WidthDiffers 2:1",
+        ),
+        (
+            "ScanMux x SelectedBy R[1:0] { 2'b0 : D; 4 : R; }",
+            "WrongKind 2:38",
+        ),
+        (
+            "ScanMux x SelectedBy R[1:0] { 2'b0x : SI; 2'b1x | 2'b00 : R; }",
+            "RowsOverlap 2:1",
+        ),
+        (
+            "ScanMux x SelectedBy R[1:0] { 2'b01 : SI; 2'b10 : R; 1 : s.SO; }",
+            "RowsOverlap 2:1",
+        ),
+    ];
+    for (items, wanted) in rows {
+        assert_eq!(rt; part_with(alloc, items, 0, 0)?.as_str(), wanted);
+    }
+    Ok(())
+}
+
+#[test]
+fn aliases_and_bindings_are_refused(rt: HostRuntime) -> Result<(), Fail> {
+    let alloc = rt.alloc();
+    let rows: [(&str, &str); 17] = [
         ("Alias x = y;", "NoName 2:11 y"),
         ("Alias x = s.y;", "NoName 2:11 y"),
         ("Alias x = ~R[0];", "WrongKind 2:11"),
@@ -553,21 +745,31 @@ fn faults_come_where_they_stand(rt: HostRuntime) -> Result<(), Fail> {
         ("Alias x[1:0] = R[2:0];", "WidthDiffers 2:1"),
         ("Instance x Of Ins { InputPort y = R; }", "NoName 2:21 y"),
         ("Instance x Of Ins { InputPort q = R; }", "WrongKind 2:21"),
-        ("Instance x Of Ins { InputPort d[4] = R[0]; }", "BadRange 2:32"),
-        ("Instance x Of Ins { InputPort d[1:0] = R[1:0]; InputPort d[1] = y; }", "DoubleName 2:48 d"),
+        (
+            "Instance x Of Ins { InputPort d[4] = R[0]; }",
+            "BadRange 2:32",
+        ),
+        (
+            "Instance x Of Ins { InputPort d[1:0] = R[1:0]; InputPort d[1] = y; }",
+            "DoubleName 2:48 d",
+        ),
         ("Instance x Of Ins { InputPort d = y; }", "NoName 2:35 y"),
-        ("Instance x Of Ins { InputPort d = R[2:0]; }", "WidthDiffers 2:21"),
-        ("Instance x Of Ins { InputPort d[3:1] = R[3:1]; }", "WidthDiffers 2:1"),
-        ("Instance x Of Seg { InputPort SI = R, s.SO; }", "WidthDiffers 2:21"),
-        ("Instance x Of Seg { InputPort SI = D[0]; }", "WrongKind 2:36"),
-        ("ScanInterface c { Port y; }", "NoName 2:1 y"),
-        ("ScanInterface c { Port R; }", "WrongKind 2:1"),
-        ("AccessLink l Of STD_1149_1_2013 { BSDLEntity e; a { ScanInterface { y.client; } } }", "NoName 2:1 y"),
-        ("AccessLink l Of STD_1149_1_2013 { BSDLEntity e; a { ScanInterface { R.client; } } }", "WrongKind 2:1"),
-        ("AccessLink l Of STD_1149_1_2013 { BSDLEntity e; a { ScanInterface { s.host; } } }", "NoName 2:1 host"),
-        ("AccessLink l Of STD_1149_1_2013 { BSDLEntity e; a { ScanInterface { s.client; } } a { ScanInterface { s.client; } } }", "DoubleName 2:1 a"),
-        ("ScanRegister x { ScanInSource y; } Parameter p = 1 / 0;", "DivideByZero 2:52"),
-        ("ScanRegister x { ScanInSource y; } DataInPort R;", "DoubleName 2:36 R"),
+        (
+            "Instance x Of Ins { InputPort d = R[2:0]; }",
+            "WidthDiffers 2:21",
+        ),
+        (
+            "Instance x Of Ins { InputPort d[3:1] = R[3:1]; }",
+            "WidthDiffers 2:1",
+        ),
+        (
+            "Instance x Of Seg { InputPort SI = R, s.SO; }",
+            "WidthDiffers 2:21",
+        ),
+        (
+            "Instance x Of Seg { InputPort SI = D[0]; }",
+            "WrongKind 2:36",
+        ),
     ];
     for (items, wanted) in rows {
         assert_eq!(rt; part_with(alloc, items, 0, 0)?.as_str(), wanted);
