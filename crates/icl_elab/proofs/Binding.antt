@@ -1,9 +1,9 @@
 -- A binding of a port, in two steps: what it binds, and the bindings with it.
-use Rattle.std.proofs.Common.{◌≡◌, ◌++◌, ◌∷◌, [], ℕ, Bool, not, List, Option, Ok, refl}
+use Rattle.std.proofs.Common.{◌≡◌, ◌++◌, ◌∷◌, [], ℕ, not, List, Option, Ok, refl}
 use Rattle.std.specs.List.{list_any}
 use Rattle.ij_text.specs.declared.Place.{Place}
 use Rattle.icl_syntax.specs.Values.{SeenRange, SeenSig, ABoundPort}
-use Rattle.icl_values.specs.Faults.{Answer, ◌>>=◌, refuse_if, DoubleName, WrongKind}
+use Rattle.icl_values.specs.Faults.{◌>>=◌, refuse_if, DoubleName, WrongKind}
 use Rattle.icl_frames.specs.FirstPass.{Frame}
 use Rattle.icl_frames.specs.Parts.{is_input, port_that}
 use Rattle.icl_frames.specs.Ranges.{positions, named_in}

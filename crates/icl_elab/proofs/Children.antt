@@ -1,5 +1,5 @@
 -- The cells that the instances of a cell are.
-use Rattle.std.proofs.Common.{◌≡◌, ◌+◌, ◌<◌, ◌==◌, ℕ, zero, suc, Bool, true, false, cond, List, [], ◌∷◌, ◌++◌, length, get_or, Option, Some, None, refl, sym, ap, subst, ◌∙◌, arith}
+use Rattle.std.proofs.Common.{◌≡◌, ◌+◌, ◌<◌, ◌==◌, ℕ, zero, suc, Bool, true, false, cond, List, [], ◌∷◌, ◌++◌, length, get_or, Option, Some, None, refl, sym, ap, ◌∙◌, arith}
 use Rattle.std.specs.Prelude.{◌&&◌, find, slice_get, Ok, Err}
 use Rattle.std.specs.List.{enumerate_from}
 use Rattle.std.specs.Option.{option_map}
@@ -7,9 +7,9 @@ use Rattle.std.specs.Str.{bytes_eq}
 use Rattle.ij_text.specs.declared.Place.{Place}
 use Rattle.icl_values.specs.Faults.{Answer, WrongKind}
 use Rattle.icl_frames.specs.FirstPass.{Frame}
-use Rattle.icl_frames.specs.Scopes.{entry_of, or_else}
+use Rattle.icl_frames.specs.Scopes.{or_else}
 use Rattle.icl_frames.specs.declared.scope.Scope.{Scope}
-use Rattle.icl_elab.specs.Names.{Here, here_of, is_in, is_child_cell, child_cell, known_cell}
+use Rattle.icl_elab.specs.Names.{Here, is_in, is_child_cell, child_cell, known_cell}
 use Rattle.icl_elab.specs.Tables.{AreAllChildren, AreEmpty, IsChildAdded, here_at, no_frame}
 use Rattle.icl_elab.proofs.Everywhere.{inside}
 use Rattle.icl_elab.proofs.Targets.{child_there}

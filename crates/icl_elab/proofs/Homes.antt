@@ -1,5 +1,5 @@
 -- Where each cell's instance stands.
-use Rattle.std.proofs.Common.{◌≡◌, ◌+◌, ◌<◌, ℕ, zero, suc, Bool, true, false, cond, eqb, ◌&&◌, List, [], ◌∷◌, length, map, get_or, drop, Option, Some, None, refl, sym, ap, ◌∙◌, arith}
+use Rattle.std.proofs.Common.{◌≡◌, ◌+◌, ◌<◌, ℕ, zero, suc, Bool, true, false, cond, eqb, ◌&&◌, List, [], ◌∷◌, map, get_or, Option, Some, None, refl, sym, ap, ◌∙◌, arith}
 use Rattle.std.specs.Prelude.{find, slice_get}
 use Rattle.std.specs.Option.{option_map}
 use Rattle.std.specs.List.{position_from}
@@ -12,7 +12,7 @@ use Rattle.icl_elab.specs.Hierarchy.{bindings_of, bound_at, is_this_cell}
 use Rattle.icl_elab.specs.Names.{is_in}
 use Rattle.icl_elab.specs.Placing.{bound_by, bound_of, home_in, is_of_cell, parts_of}
 use Rattle.icl_elab.specs.SecondPass.{Found}
-use Rattle.icl_elab.specs.SeenParts.{seen_cell_parts, seen_pass, seen_placed}
+use Rattle.icl_elab.specs.SeenParts.{seen_pass, seen_placed}
 use Rattle.icl_elab.proofs.Bound.{first_get, none_found}
 
 -- ---- one part more, one cell more

@@ -1,22 +1,22 @@
 -- What a name is found at in the tables of a cell.
-use Rattle.std.proofs.Common.{◌≡◌, ◌+◌, ◌<◌, ℕ, zero, suc, List, [], ◌∷◌, length, map, get_or, Option, Some, None, Ok, Err, refl, sym, ap, subst, ◌∙◌, arith}
-use Rattle.std.specs.Prelude.{find, slice_get}
+use Rattle.std.proofs.Common.{◌≡◌, ◌<◌, ℕ, zero, suc, List, [], ◌∷◌, length, map, get_or, Option, Some, None, Ok, Err, sym, ap, subst, ◌∙◌, arith}
+use Rattle.std.specs.Prelude.{slice_get}
 use Rattle.std.proofs.lemmas.List.{get_or-map, length-map}
 use Rattle.ij_text.specs.declared.Place.{Place}
 use Rattle.icl_syntax.specs.Values.{SeenItem}
 use Rattle.icl_syntax.specs.Views.{seen_item}
-use Rattle.icl_values.specs.Faults.{Answer, NoName}
+use Rattle.icl_values.specs.Faults.{NoName}
 use Rattle.icl_frames.specs.FirstPass.{Frame}
 use Rattle.icl_frames.specs.Parts.{is_signal}
-use Rattle.icl_frames.specs.Scopes.{entry_of, part_from}
+use Rattle.icl_frames.specs.Scopes.{entry_of}
 use Rattle.icl_frames.specs.SeenFrames.{seen_frame}
 use Rattle.icl_elab.specs.declared.tables.Member.{Member as MemberAt}
 use Rattle.icl_elab.specs.declared.tables.CellTable.{CellTable}
 use Rattle.icl_elab.specs.declared.tables.Tables.{Tables}
-use Rattle.icl_elab.specs.Names.{Here, Member, members, member_that, known_member, named}
+use Rattle.icl_elab.specs.Names.{Member, members, member_that, known_member, named}
 use Rattle.icl_elab.specs.Tables.{IsCellTable, IsHere, here_in, no_frame, seen_member}
 use Rattle.icl_elab.proofs.Members.{Finds, IsFound, finds}
-use Rattle.icl_elab.proofs.Targets.{IsMember, member_there}
+use Rattle.icl_elab.proofs.Targets.{member_there}
 
 -- a part that is there has a number below the count
 below : {A : Type 0} (xs : List A) (n : ℕ) (x : A) → slice_get xs n ≡ Some x → n < length xs

@@ -1,11 +1,11 @@
 -- Rows that overlap, found by comparing each with those before it.
-use Rattle.std.proofs.Common.{◌≡◌, ℕ, zero, suc, Bool, true, false, cond, List, [], ◌∷◌, ◌++◌, length, Option, Some, None, refl, sym, ap, ◌∙◌, arith}
+use Rattle.std.proofs.Common.{◌≡◌, Bool, true, false, cond, List, [], ◌∷◌, ◌++◌, length, Some, None, refl, sym, ap, ◌∙◌, arith}
 use Rattle.std.specs.Prelude.{not, ◌&&◌, ◌||◌, filter}
 use Rattle.std.specs.List.{list_any}
 use Rattle.std.specs.Str.{bytes_eq}
 use Rattle.icl_values.specs.Values.{OpenBits}
-use Rattle.icl_elab.specs.Muxes.{meet, meet_at, rows_meet, some_meet}
-use Rattle.icl_elab.specs.Overlaps.{AreRowsAlike, AreWide, digit, from_left, has_key, is_closed, key_of, values_meet}
+use Rattle.icl_elab.specs.Muxes.{meet, rows_meet, some_meet}
+use Rattle.icl_elab.specs.Overlaps.{AreRowsAlike, AreWide, from_left, has_key, is_closed, key_of, values_meet}
 use Rattle.icl_elab.specs.Roles.{Choice}
 use Rattle.icl_frames.proofs.Answering.{all_both}
 

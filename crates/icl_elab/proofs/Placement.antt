@@ -1,5 +1,5 @@
 -- Each cell gets what its instance binds.
-use Rattle.std.proofs.Common.{◌≡◌, ◌+◌, ◌++◌, ℕ, List, [], ◌∷◌, length, map, Option, Some, None, Ok, Err, Result, refl, sym, ap, ◌∙◌}
+use Rattle.std.proofs.Common.{◌≡◌, ◌+◌, ℕ, List, [], ◌∷◌, map, Ok, Err, Result, refl, ap, ◌∙◌}
 use Rattle.std.specs.Prelude.{zip, unwrap_or, IfOk}
 use Rattle.std.specs.List.{enumerate_from}
 use Rattle.icl_syntax.specs.Values.{SeenModule}
@@ -11,13 +11,13 @@ use Rattle.icl_elab.specs.declared.hier.Hier.{Hier}
 use Rattle.icl_elab.specs.declared.pass.Placed.{Placed}
 use Rattle.icl_elab.specs.declared.pass.CellParts.{CellParts}
 use Rattle.icl_elab.specs.Bindings.{Bound}
-use Rattle.icl_elab.specs.Hierarchy.{bindings_of, with_bound, part_in, cell_in, put_together, hierarchy}
+use Rattle.icl_elab.specs.Hierarchy.{bindings_of, with_bound, part_in, cell_in, hierarchy}
 use Rattle.icl_elab.specs.Laws.{AreNumbered, AreWired}
 use Rattle.icl_elab.specs.Names.{Member, here_of, members}
-use Rattle.icl_elab.specs.Placing.{made, part_with, parts_with, port_bound, port_of, ports_from, cell_with}
+use Rattle.icl_elab.specs.Placing.{made, part_with, parts_with, port_bound, port_of, ports_from}
 use Rattle.icl_elab.specs.Roles.{Role, ScanInput, ScanOutput, DataInput, DataOutput, ControlPort, AScanRegister, AScanMux, AnAliasOf, AnInstance, AnInterfaceOf, AnAccessLink, PartOf, CellOf, seen_hier}
 use Rattle.icl_elab.specs.SecondPass.{Found}
-use Rattle.icl_elab.specs.SeenParts.{PartHead, head_of_member, head_of_placed, heads_of_cell, heads_of_cells, heads_of_frame, seen_cell_parts, seen_pass, seen_placed}
+use Rattle.icl_elab.specs.SeenParts.{PartHead, head_of_member, head_of_placed, heads_of_cells, heads_of_frame, seen_cell_parts, seen_placed}
 use Rattle.icl_elab.specs.Preorder.{AreInstances}
 use Rattle.icl_elab.proofs.SameCells.{hierarchies_are_preorder}
 use Rattle.icl_elab.proofs.Wiring.{hierarchies_are_wired}

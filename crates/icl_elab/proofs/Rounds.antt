@@ -1,10 +1,9 @@
 -- Going over a list, one item more, where the outcomes are values.
 use Rattle.std.proofs.Common.{◌≡◌, ◌<◌, ◌+◌, ℕ, zero, suc, List, [], ◌∷◌, ◌++◌, length, map, get_or, drop, Option, Some, None, Result, Ok, Err, refl, sym, ap, subst, ◌∙◌, arith}
-use Rattle.std.proofs.lemmas.List.{map-append}
 use Rattle.std.specs.Prelude.{IfOk, IfErr}
 use Rattle.icl_values.specs.declared.fault.ElabFault.{ElabFault}
 use Rattle.icl_values.specs.declared.fault.ElabFault.TheVariants as fault
-use Rattle.icl_values.specs.Faults.{◌>>=◌, Answer, each, over, Fault, Fails, Gives, seen_fault}
+use Rattle.icl_values.specs.Faults.{◌>>=◌, Answer, Fault, Fails, Gives, seen_fault}
 use Rattle.icl_values.proofs.Each.{more, more_next, more_fails, fails_along}
 
 pub split_at : {X : Type 0} (xs : List X) (i : ℕ) (x : X) → i < length xs → x ≡ get_or xs i x → drop i xs ≡ x ∷ drop (i + 1) xs

@@ -1,6 +1,5 @@
 -- The values of rows are as wide as the select.
-use Rattle.std.proofs.Common.{◌≡◌, ℕ, List, [], length, Ok, ap, sym, subst}
-use Rattle.std.specs.List.{AllByRecursion}
+use Rattle.std.proofs.Common.{◌≡◌, ℕ, List, [], length, Ok, subst}
 use Rattle.ij_text.specs.declared.Place.{Place}
 use Rattle.icl_syntax.specs.Values.{SeenRow}
 use Rattle.icl_values.specs.Faults.{each}

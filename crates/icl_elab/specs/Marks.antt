@@ -1,10 +1,9 @@
 -- The bindings of an instance, and a table of the bits that they bind: for each part and position the number of its binding.
-use Rattle.std.specs.Prelude.{◌≡◌, ℕ, nat_lt, nat_le, ◌==◌, Bool, not, ◌&&◌, ◌||◌, List, [], ◌∷◌, ◌++◌, length, slice_index_or, Option, None, Ok}
+use Rattle.std.specs.Prelude.{◌≡◌, ℕ, nat_lt, ◌==◌, Bool, not, ◌||◌, List, [], length, slice_index_or, Option, None, Ok}
 use Rattle.std.specs.List.{list_any, list_all, position_from, range_with_len}
-use Rattle.icl_syntax.specs.Values.{SeenRange, SeenSig, SeenWhat}
+use Rattle.icl_syntax.specs.Values.{SeenRange, SeenSig}
 use Rattle.ij_text.specs.declared.Place.{Place}
 use Rattle.icl_values.specs.Faults.{Answer, ◌>>=◌, refuse_if, DoubleName, WrongKind}
-use Rattle.icl_frames.specs.declared.ranges.Stretch.{Stretch}
 use Rattle.icl_frames.specs.FirstPass.{Frame}
 use Rattle.icl_frames.specs.Parts.{is_input, port_that}
 use Rattle.icl_frames.specs.Ranges.{positions, named_in, width}

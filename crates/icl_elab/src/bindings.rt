@@ -76,13 +76,7 @@ impl Bindings {
         let Bindings { bounds, rows } = self;
         let mut bounds = bounds;
         let mut rows = rows;
-        note(
-            alloc,
-            &mut rows,
-            bound.part,
-            bound.stretch,
-            bounds.len(),
-        )?;
+        note(alloc, &mut rows, bound.part, bound.stretch, bounds.len())?;
         bounds.push(bound)?;
         Ok(Bindings { bounds, rows })
     }

@@ -146,11 +146,7 @@ fn bound_in_parent<'a>(
 // ---- what ports are bound to
 
 /// What a port is, which is bound so; none for every other part.
-fn port_bound(
-    alloc: Global,
-    bindings: &Bindings,
-    p: &Placed,
-) -> Result<Option<Body>, ElabFault>
+fn port_bound(alloc: Global, bindings: &Bindings, p: &Placed) -> Result<Option<Body>, ElabFault>
     ensures ok { IfOk result (λ body. option_map seen_body body ≡ port_of bindings.now p.now) }
     ensures told { IfErr result (λ e. e ≡ ElabFault.OutOfMemory) }
 {
@@ -346,11 +342,7 @@ fn all_cells(
 }
 
 /// The hierarchy of cells whose parts are known.
-fn put_together(
-    alloc: Global,
-    tables: &Tables,
-    cells: Vec<CellParts>,
-) -> Result<Hier, ElabFault>
+fn put_together(alloc: Global, tables: &Tables, cells: Vec<CellParts>) -> Result<Hier, ElabFault>
     requires tables { AreTables tables.now }
     requires heads { heads_of_cells cells.items ≡ map heads_of_frame (frames_of tables.now) }
     ensures ok { IfOk result (λ h. seen_hier h ≡ put_together (frames_of tables.now) (seen_pass cells.items)) }

@@ -58,14 +58,7 @@ fn register_prop(
         }
         Prop::CaptureSource(sigs) => {
             let wide = width_of(m.bounds)?;
-            let capture = Some(data_signals(
-                alloc,
-                tables,
-                here,
-                at,
-                wide,
-                sigs.as_slice(),
-            )?);
+            let capture = Some(data_signals(alloc, tables, here, at, wide, sigs.as_slice())?);
             Ok(RegisterParts {
                 scan,
                 capture,
@@ -75,13 +68,7 @@ fn register_prop(
         }
         Prop::ResetValue(value) => {
             let wide = width_of(m.bounds)?;
-            let reset = Some(value_in(
-                alloc,
-                tables.params(here),
-                value.as_slice(),
-                wide,
-                at,
-            )?);
+            let reset = Some(value_in(alloc, tables.params(here), value.as_slice(), wide, at)?);
             Ok(RegisterParts {
                 scan,
                 capture,

@@ -6,6 +6,8 @@ mod device_files;
 #[cfg(test)]
 mod icl_designs;
 #[cfg(test)]
+mod icl_hierarchies;
+#[cfg(test)]
 mod icl_printed;
 #[cfg(test)]
 mod icl_tokens;

@@ -1,4 +1,3 @@
-use Rattle.std.proofs.Common.{◌∙◌}
 use Rattle.std.proofs.lemmas.Result.{err_from_is_err_and}
 use Rattle.icl_syntax.specs.Views.{seen_bind}
 use Rattle.icl_values.specs.Faults.{seen_fault}

@@ -1,4 +1,4 @@
-use Rattle.std.proofs.Common.{ℕ, Bool, Option, false, Some, List, ◌++◌, ◌∷◌, [], map, take, sym, ap, ◌∙◌, arith}
+use Rattle.std.proofs.Common.{Bool, Option, false, Some, List, ◌++◌, ◌∷◌, [], map, take, sym, ap, ◌∙◌, arith}
 use Rattle.std.proofs.lemmas.List.{take_all}
 use Rattle.std.specs.Prelude.{unwrap_or}
 use Rattle.ij_bits.specs.BitLists.{flip_if}

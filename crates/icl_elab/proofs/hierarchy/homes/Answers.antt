@@ -1,4 +1,4 @@
-use Rattle.std.proofs.Common.{◌∙◌, ◌≡◌, length, ap}
+use Rattle.std.proofs.Common.{◌∙◌, ap}
 use Rattle.icl_frames.specs.Scopes.{or_else}
 use Rattle.icl_elab.specs.Placing.{parent_in}
 use Rattle.icl_elab.specs.Tables.{frames_of}

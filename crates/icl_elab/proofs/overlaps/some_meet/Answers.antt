@@ -1,9 +1,9 @@
-use Rattle.std.proofs.Common.{◌≡◌, ◌+◌, ◌++◌, ◌∷◌, Bool, List, [], false, map, drop, sym, ap, subst, ◌∙◌}
+use Rattle.std.proofs.Common.{◌≡◌, ◌+◌, ◌++◌, Bool, List, false, map, drop, sym, ap, subst, ◌∙◌}
 use Rattle.std.specs.Prelude.{◌||◌}
 use Rattle.ij_text.specs.Numbers.{tern_bits}
 use Rattle.icl_values.specs.Values.{OpenBits}
 use Rattle.icl_elab.specs.Overlaps.{AreRowsAlike, from_left, values_meet, values_of}
-use Rattle.icl_elab.specs.Roles.{Choice, seen_row}
+use Rattle.icl_elab.specs.Roles.{seen_row}
 use Rattle.icl_elab.proofs.Everywhere.{left_at}
 use Rattle.icl_elab.proofs.Overlapping.{alike_next, all_from_left}
 use Rattle.icl_elab.proofs.overlaps.some_meet.Goals as goal

@@ -1,4 +1,4 @@
-use Rattle.std.proofs.Common.{List, ℕ, ap, subst}
+use Rattle.std.proofs.Common.{List, ℕ, subst}
 use Rattle.std.proofs.lemmas.Result.{err_from_is_err_and}
 use Rattle.icl_values.specs.Faults.{Fails, seen_fault}
 use Rattle.icl_elab.specs.Tables.{frames_of, here_in}

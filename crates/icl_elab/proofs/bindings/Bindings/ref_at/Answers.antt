@@ -1,12 +1,8 @@
-use Rattle.std.proofs.Common.{◌≡◌, ◌∙◌, ◌+◌, ◌≤◌, ℕ, Bool, false, true, List, [], ◌∷◌, ◌++◌, ◌||◌, cond, map, length, get_or, Some, None, sym, ap, arith, refl, eqb, ltb}
-use Rattle.std.proofs.lemmas.List.{get_or-map, length-map, map-append, get_or_past}
-use Rattle.std.proofs.lemmas.Bool.Decides.{nat_tests}
-use Rattle.std.specs.Prelude.{is_some, find}
-use Rattle.std.specs.List.{list_any, position_from}
-use Rattle.icl_frames.specs.Scopes.{or_else}
-use Rattle.icl_elab.proofs.Bound.{any_position, position_push, none_found, first_at, first_within, any_push}
-use Rattle.icl_elab.specs.Bindings.{Bound, binds_bit, is_bound, ref_in}
-use Rattle.icl_elab.specs.Marks.{seen_bound, has_marks, mark_at, row_at}
+use Rattle.std.proofs.Common.{◌∙◌, List, length, get_or, Some, sym, ap, arith}
+use Rattle.std.proofs.lemmas.List.{get_or-map, length-map}
+use Rattle.icl_elab.proofs.Bound.{none_found, first_at, first_within}
+use Rattle.icl_elab.specs.Bindings.{Bound, binds_bit, ref_in}
+use Rattle.icl_elab.specs.Marks.{seen_bound}
 use Rattle.icl_elab.proofs.bindings.Bindings.ref_at.Goals as goal
 
 pub index-requires : goal.index-requires
@@ -24,8 +20,8 @@ returns-in-Some c =
     let long = ap length c.self.view_is in
     let there = get_or-map seen_bound items c.in-Some.number x (seen_bound x) (omega (arith, within, long, length-map items seen_bound)) in
     let found = first_at p c.in-Some.number c.args.self.now (seen_bound x) (sym c.in-Some.ensures)
-        ∙ ap (λ (bs : List Bound). Some (get_or bs c.in-Some.number (seen_bound x))) (sym c.self.view_is)
-        ∙ ap (λ (b : Bound). Some b) (there ∙ ap seen_bound (sym c.index.ensures)) in
+    ∙ ap (λ (bs : List Bound). Some (get_or bs c.in-Some.number (seen_bound x))) (sym c.self.view_is)
+    ∙ ap (λ (b : Bound). Some b) (there ∙ ap seen_bound (sym c.index.ensures)) in
     c.ref_in.ensures ∙ sym (ap (ref_in c.args.pos) found)
 
 pub returns-in-None : goal.returns-in-None

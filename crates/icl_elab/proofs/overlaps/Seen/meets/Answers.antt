@@ -1,4 +1,4 @@
-use Rattle.std.proofs.Common.{◌≡◌, ℕ, Bool, List, true, false, map, sym, ap, ◌∙◌}
+use Rattle.std.proofs.Common.{ℕ, List, map, sym, ap, ◌∙◌}
 use Rattle.std.specs.List.{list_any}
 use Rattle.ij_text.specs.Numbers.{tern_bits}
 use Rattle.icl_frames.specs.Taken.{has_entry}

@@ -1,5 +1,4 @@
-use Rattle.std.proofs.Common.{◌≡◌, ◌<◌, List, ℕ, length, Err, sym, ap, subst, ◌∙◌, arith}
-use Rattle.ij_text.specs.declared.Place.{Place}
+use Rattle.std.proofs.Common.{◌<◌, List, ℕ, length, Err, sym, ap, subst, ◌∙◌, arith}
 use Rattle.icl_values.specs.Faults.{Answer, NoName}
 use Rattle.icl_frames.specs.FirstPass.{Frame}
 use Rattle.icl_elab.specs.Names.{Member, members, named}

@@ -1,0 +1,871 @@
+// The hierarchies of designs, and the refusals of designs that have none.
+
+use icl_elab::{Body, Cell, ElabFault, Hier, Part, Ref, elaborate};
+use icl_lexer::lex;
+use icl_parser::parse;
+use icl_syntax::Design;
+use ij_bits::{List, Tern};
+use ij_text::{Name, Place, Which, name_of};
+use std::alloc::{AllocError, Global};
+use std::test::Fail;
+
+// ---- texts
+
+/// The bytes of a name as a text.
+fn word(alloc: Global, name: &Name) -> Result<String, AllocError> {
+    let mut told = String::new(alloc);
+    for b in name.as_slice() {
+        told.push(char::from(*b))?;
+    }
+    Ok(told)
+}
+
+fn placed(alloc: Global, variant: &str, at: Place) -> Result<String, AllocError> {
+    format!(in alloc; "{variant} {}:{}", at.line, at.col)
+}
+
+fn named(alloc: Global, variant: &str, at: Place, name: &Name) -> Result<String, AllocError> {
+    let name = word(alloc, name)?;
+    format!(in alloc; "{variant} {}:{} {name}", at.line, at.col)
+}
+
+fn limit(which: Which) -> &'static str {
+    match which {
+        Which::Hierarchy => "Hierarchy",
+        Which::Cells => "Cells",
+        Which::ScanBits => "ScanBits",
+        Which::Muxes => "Muxes",
+        Which::Instruments => "Instruments",
+        Which::Ports => "Ports",
+        Which::PortBits => "PortBits",
+        Which::Width => "Width",
+        _ => "another",
+    }
+}
+
+/// A refusal: its variant, its place and its name, as far as it has them.
+fn refusal(alloc: Global, fault: &ElabFault) -> Result<String, AllocError> {
+    match fault {
+        ElabFault::OutOfMemory => format!(in alloc; "OutOfMemory"),
+        ElabFault::NoModule { name } => {
+            let name = word(alloc, name)?;
+            format!(in alloc; "NoModule {name}")
+        }
+        ElabFault::NoName { at, name } => named(alloc, "NoName", *at, name),
+        ElabFault::DoubleName { at, name } => named(alloc, "DoubleName", *at, name),
+        ElabFault::NoParameter { at, name } => named(alloc, "NoParameter", *at, name),
+        ElabFault::DivideByZero { at } => placed(alloc, "DivideByZero", *at),
+        ElabFault::BadNumber { at } => placed(alloc, "BadNumber", *at),
+        ElabFault::BadRange { at } => placed(alloc, "BadRange", *at),
+        ElabFault::WidthDiffers { at } => placed(alloc, "WidthDiffers", *at),
+        ElabFault::WrongKind { at } => placed(alloc, "WrongKind", *at),
+        ElabFault::RowsOverlap { at } => placed(alloc, "RowsOverlap", *at),
+        ElabFault::InstanceLoop { at } => placed(alloc, "InstanceLoop", *at),
+        ElabFault::Limit { which, number } => {
+            format!(in alloc; "Limit {} {number}", limit(*which))
+        }
+    }
+}
+
+/// A bit: its cell, part and position, behind `~` where it is inverted; or its value.
+fn put_ref(told: &mut String, alloc: Global, r: Ref) -> Result<(), AllocError> {
+    let text = match r {
+        Ref::Fixed(false) => format!(in alloc; "0")?,
+        Ref::Fixed(true) => format!(in alloc; "1")?,
+        Ref::Bit {
+            cell,
+            part,
+            pos,
+            inverted,
+        } => {
+            let mark = if inverted { "~" } else { "" };
+            format!(in alloc; "{mark}{cell}.{part}.{pos}")?
+        }
+    };
+    told.push_str(text.as_str())
+}
+
+/// Bits, position 0 first.
+fn put_refs(told: &mut String, alloc: Global, refs: &[Ref]) -> Result<(), AllocError> {
+    for r in refs {
+        told.push(' ')?;
+        put_ref(told, alloc, *r)?;
+    }
+    Ok(())
+}
+
+/// Digits, position 0 first.
+fn put_digits(told: &mut String, digits: &Tern) -> Result<(), AllocError> {
+    for k in 0..digits.len() {
+        let digit = match digits.get(k) {
+            Some(true) => '1',
+            Some(false) => '0',
+            None => 'x',
+        };
+        told.push(digit)?;
+    }
+    Ok(())
+}
+
+fn put_row(told: &mut String, alloc: Global, row: &(List<Tern>, Ref)) -> Result<(), AllocError> {
+    for value in row.0.as_slice() {
+        told.push(' ')?;
+        put_digits(told, value)?;
+    }
+    told.push(':')?;
+    put_ref(told, alloc, row.1)
+}
+
+/// What a part is: a word, and what it names.
+fn put_body(told: &mut String, alloc: Global, body: &Body) -> Result<(), AllocError> {
+    match body {
+        Body::ScanIn { bound } => {
+            told.push_str(" scan in")?;
+            if let Some(r) = bound {
+                put_refs(told, alloc, &[*r])?;
+            }
+        }
+        Body::ScanOut { source } => {
+            told.push_str(" scan out")?;
+            if let Some(r) = source {
+                put_refs(told, alloc, &[*r])?;
+            }
+        }
+        Body::DataIn { bound } => {
+            told.push_str(" data in")?;
+            if let Some(refs) = bound {
+                put_refs(told, alloc, refs.as_slice())?;
+            }
+        }
+        Body::DataOut { source } => {
+            told.push_str(" data out")?;
+            if let Some(refs) = source {
+                put_refs(told, alloc, refs.as_slice())?;
+            }
+        }
+        Body::Control => told.push_str(" control")?,
+        Body::Register {
+            scan,
+            capture,
+            reset,
+        } => {
+            told.push_str(" register")?;
+            if let Some(r) = scan {
+                put_refs(told, alloc, &[*r])?;
+            }
+            if let Some(refs) = capture {
+                told.push_str(" capture")?;
+                put_refs(told, alloc, refs.as_slice())?;
+            }
+            if let Some(value) = reset {
+                told.push_str(" reset ")?;
+                put_digits(told, value)?;
+            }
+        }
+        Body::Mux { select, rows } => {
+            told.push_str(" mux")?;
+            put_refs(told, alloc, select.as_slice())?;
+            told.push_str(" rows")?;
+            for row in rows.as_slice() {
+                put_row(told, alloc, row)?;
+            }
+        }
+        Body::Alias { refs } => {
+            told.push_str(" alias")?;
+            put_refs(told, alloc, refs.as_slice())?;
+        }
+        Body::Child { cell } => {
+            let text = format!(in alloc; " cell {cell}")?;
+            told.push_str(text.as_str())?;
+        }
+        Body::Interface { ports } => {
+            told.push_str(" interface")?;
+            for port in ports.as_slice() {
+                let text = format!(in alloc; " {port}")?;
+                told.push_str(text.as_str())?;
+            }
+        }
+        Body::Link { instrs } => {
+            told.push_str(" link")?;
+            for instr in instrs.as_slice() {
+                let name = word(alloc, &instr.0)?;
+                let text = format!(in alloc; " {name}={}.{}", instr.1, instr.2)?;
+                told.push_str(text.as_str())?;
+            }
+        }
+    }
+    Ok(())
+}
+
+fn part_text(alloc: Global, part: &Part) -> Result<String, AllocError> {
+    let name = word(alloc, &part.name)?;
+    let mut told = format!(in alloc; "{name}[{}:{}]", part.left, part.right)?;
+    put_body(&mut told, alloc, &part.body)?;
+    for w in part.words.as_slice() {
+        let name = word(alloc, &w.0)?;
+        told.push(' ')?;
+        told.push_str(name.as_str())?;
+        told.push('=')?;
+        put_digits(&mut told, &w.1)?;
+    }
+    Ok(told)
+}
+
+/// The cells: each its name, the module behind `:`, and the cell that it stands in behind `<`.
+fn cells_text(alloc: Global, cells: &[Cell]) -> Result<String, AllocError> {
+    let mut told = String::new(alloc);
+    for cell in cells {
+        if !told.is_empty() {
+            told.push(' ')?;
+        }
+        let name = word(alloc, &cell.name)?;
+        let module_name = word(alloc, &cell.module)?;
+        let text = match cell.parent {
+            Some(parent) => format!(in alloc; "{name}:{module_name}<{parent}")?,
+            None => format!(in alloc; "{name}:{module_name}")?,
+        };
+        told.push_str(text.as_str())?;
+    }
+    Ok(told)
+}
+
+// ---- designs
+
+/// The design of a text.
+fn read(alloc: Global, text: &[u8]) -> Result<Design, Fail> {
+    if text.len() > 1_000_000 {
+        return Err(Fail::new("the text is too long"));
+    }
+    let Ok(tokens) = lex(alloc, text) else {
+        return Err(Fail::new("the text is not cut"));
+    };
+    match parse(alloc, text, &tokens) {
+        Ok(design) => Ok(design),
+        Err(_) => Err(Fail::new("the text is no design")),
+    }
+}
+
+fn below(alloc: Global, text: &[u8], top: &[u8]) -> Result<Result<Hier, ElabFault>, Fail> {
+    let design = read(alloc, text)?;
+    let Ok(top) = name_of(alloc, top) else {
+        return Err(Fail::new("no memory"));
+    };
+    Ok(elaborate(alloc, &design, &top))
+}
+
+/// The cells of a text, or its refusal.
+fn outcome(alloc: Global, text: &str, top: &str) -> Result<String, Fail> {
+    match below(alloc, text.as_bytes(), top.as_bytes())? {
+        Ok(hier) => Ok(cells_text(alloc, hier.cells.as_slice())?),
+        Err(fault) => Ok(refusal(alloc, &fault)?),
+    }
+}
+
+/// What stands in front of the items of a row: an instrument, a segment, parameters, and the parts of `chip` up to number 5. The
+/// items stand in line 2, and the next part has number 6.
+const FRONT: &str =
+    "Module Ins { DataInPort d[3:0]; DataOutPort q[3:0]; } Module Seg { ScanInPort SI; ScanOutPort SO { Source S; } ScanRegister S[1:0] { ScanInSource SI; } ScanInterface client { Port SI; Port SO; } } Module Par { Parameter P = 1; LocalParameter L = 2; DataInPort p[$P+$L:0]; } Module chip { ScanInPort SI; DataInPort D[3:0]; ScanRegister R[3:0] { ScanInSource SI; } Instance s Of Seg { InputPort SI = R; } Instance i Of Ins; SelectPort En;";
+
+/// A part of the design with these items, or its refusal.
+fn part_with(alloc: Global, items: &str, cell: usize, part: usize) -> Result<String, Fail> {
+    let text = format!(in alloc; "{FRONT}\n{items}\n}}")?;
+    match below(alloc, text.as_bytes(), b"chip")? {
+        Ok(hier) => {
+            let cells = hier.cells.as_slice();
+            if cell >= cells.len() {
+                return Err(Fail::new("no such cell"));
+            }
+            let parts = cells[cell].parts.as_slice();
+            if part >= parts.len() {
+                return Err(Fail::new("no such part"));
+            }
+            Ok(part_text(alloc, &parts[part])?)
+        }
+        Err(fault) => Ok(refusal(alloc, &fault)?),
+    }
+}
+
+// ---- tests
+
+#[test]
+fn instances_are_cells_in_preorder(rt: HostRuntime) -> Result<(), Fail> {
+    let alloc = rt.alloc();
+    let rows: [(&str, &str, &str); 12] = [
+        ("Module chip { }", "chip", ":chip"),
+        (
+            "Module a { Instance x Of b; Instance y Of c; } Module b { Instance z Of c; } Module c { }",
+            "a",
+            ":a x:b<0 z:c<1 y:c<0",
+        ),
+        ("Module a { Instance x Of b; } Module b { }", "b", ":b"),
+        ("Module a { }", "b", "NoModule b"),
+        (
+            "Module a { Instance x Of b; }\nModule a { }",
+            "b",
+            "DoubleName 2:1 a",
+        ),
+        (
+            "Module chip { LocalParameter Z = 4 / 0; }",
+            "chip",
+            "DivideByZero 1:36",
+        ),
+        (
+            "Module chip { Instance a Of chip; }",
+            "chip",
+            "InstanceLoop 1:15",
+        ),
+        (
+            "Module a { Instance x Of b; }\nModule b { Instance y Of c; }\nModule c { Instance z Of b; }",
+            "a",
+            "InstanceLoop 3:12",
+        ),
+        (
+            "Module chip { ScanRegister R[$V:0] { ScanInSource SI; } }",
+            "chip",
+            "NoParameter 1:30 V",
+        ),
+        // The second pass comes behind the first one over all cells.
+        (
+            "Module a { ScanOutPort SO { Source x; } Instance b Of b; }\nModule b { Parameter p = 1 % 0; }",
+            "a",
+            "DivideByZero 2:28",
+        ),
+        // A cell comes before those in it.
+        (
+            "Module a { Instance b Of b; ScanOutPort SO { Source x; } }\nModule b { ScanOutPort SO { Source y; } }",
+            "a",
+            "NoName 1:53 x",
+        ),
+        (
+            "Module a { Instance b Of b { Parameter P = 2; } } Module b { Parameter P = 1 / 0; DataInPort d[1 / ($P - 1):0]; }",
+            "a",
+            ":a b:b<0",
+        ),
+    ];
+    for (text, top, wanted) in rows {
+        assert_eq!(rt; outcome(alloc, text, top)?.as_str(), wanted);
+    }
+    Ok(())
+}
+
+#[test]
+fn signals_and_values_are_bits(rt: HostRuntime) -> Result<(), Fail> {
+    let alloc = rt.alloc();
+    let rows: [(&str, usize, usize, &str); 27] = [
+        ("", 0, 0, "SI[0:0] scan in"),
+        ("", 0, 1, "D[3:0] data in"),
+        ("", 0, 2, "R[3:0] register 0.0.0"),
+        ("", 0, 3, "s[0:0] cell 1"),
+        ("", 0, 5, "En[0:0] control"),
+        ("", 1, 0, "SI[0:0] scan in 0.2.0"),
+        ("", 1, 1, "SO[0:0] scan out 1.2.0"),
+        ("", 1, 3, "client[0:0] interface 0 1"),
+        ("", 2, 0, "d[3:0] data in"),
+        ("", 2, 1, "q[3:0] data out"),
+        (
+            "ScanRegister C[0:3] { ScanInSource s.SO; CaptureSource ~R[1:0], 2'b01; ResetValue 4'b1x0; }",
+            0,
+            6,
+            "C[0:3] register 1.1.0 capture 1 0 ~0.2.0 ~0.2.1 reset 0x10",
+        ),
+        (
+            "ScanRegister C[3:0] { ScanInSource R[0:0]; CaptureSource i.q; ResetValue 1'b1, 2'b0x; }",
+            0,
+            6,
+            "C[3:0] register 0.2.0 capture 2.1.0 2.1.1 2.1.2 2.1.3 reset x010",
+        ),
+        (
+            "ScanMux M SelectedBy D[3], R[1] { 2'b00 : SI; 2'b1x | 2'b01 : s.SO; }",
+            0,
+            6,
+            "M[0:0] mux 0.2.1 0.1.3 rows 00:0.0.0 x1 10:1.1.0",
+        ),
+        (
+            "ScanMux M SelectedBy R[0] { 0 | 0 : R[3:0]; 1'b1 : N; } ScanMux N SelectedBy R[0] { 1'bx : M; }",
+            0,
+            6,
+            "M[0:0] mux 0.2.0 rows 0 0:0.2.0 1:0.7.0",
+        ),
+        (
+            "Alias A[4:0] = s.S, R[3], R[1:0];",
+            0,
+            6,
+            "A[4:0] alias 0.2.0 0.2.1 0.2.3 1.2.0 1.2.1",
+        ),
+        (
+            "Parameter N = 'h5; DataOutPort O[3:0] { Source $N; }",
+            0,
+            6,
+            "O[3:0] data out 1 0 1 0",
+        ),
+        (
+            "DataOutPort O[1:4] { Source ~5; }",
+            0,
+            6,
+            "O[1:4] data out 0 1 0 1",
+        ),
+        (
+            "DataOutPort O[3:0] { Source ~2'b01; }",
+            0,
+            6,
+            "O[3:0] data out 0 1 1 1",
+        ),
+        (
+            "ScanOutPort O { Source M; } ScanMux M SelectedBy D[0] { 1'b0 : SI; }",
+            0,
+            6,
+            "O[0:0] scan out 0.7.0",
+        ),
+        (
+            "Instance j Of Ins { InputPort d[3] = R[0]; InputPort d[2:0] = ~D[2:0]; }",
+            3,
+            0,
+            "d[3:0] data in ~0.1.0 ~0.1.1 ~0.1.2 0.2.0",
+        ),
+        (
+            "Instance j Of Ins { InputPort d = R[1:0], 1'b1, ~D[2]; }",
+            3,
+            0,
+            "d[3:0] data in ~0.1.2 1 0.2.0 0.2.1",
+        ),
+        (
+            "Instance t Of Seg { InputPort SI = s.SO; }",
+            3,
+            0,
+            "SI[0:0] scan in 1.1.0",
+        ),
+        (
+            "Parameter W = 3; Instance p Of Par { Parameter P = $W * 2; }",
+            3,
+            0,
+            "p[8:0] data in",
+        ),
+        (
+            "Enum E { on = 4'b1; off = 2'b00, 2'b0x; } ScanRegister X[3:0] { ScanInSource SI; RefEnum E; }",
+            0,
+            6,
+            "X[3:0] register 0.0.0 on=1000 off=x000",
+        ),
+        (
+            "ScanInterface host { Port D; Port SI; }",
+            0,
+            6,
+            "host[0:0] interface 1 0",
+        ),
+        (
+            "AccessLink tap Of STD_1149_1_2013 { BSDLEntity e; IJTAG { ScanInterface { s.client; } } }",
+            0,
+            6,
+            "tap[0:0] link IJTAG=1.3",
+        ),
+        (
+            "Parameter W = 4; ScanRegister Q[$W*2-1:0] { ScanInSource SI; ResetValue 8'hA5; }",
+            0,
+            6,
+            "Q[7:0] register 0.0.0 reset 10100101",
+        ),
+    ];
+    for (items, cell, part, wanted) in rows {
+        assert_eq!(rt; part_with(alloc, items, cell, part)?.as_str(), wanted);
+    }
+    Ok(())
+}
+
+#[test]
+fn names_are_known_and_differ(rt: HostRuntime) -> Result<(), Fail> {
+    let alloc = rt.alloc();
+    let rows: [(&str, &str); 18] = [
+        ("Instance a Of nope;", "NoModule nope"),
+        ("DataInPort R;", "DoubleName 2:1 R"),
+        ("Alias x = R[0]; Instance x Of Ins;", "DoubleName 2:17 x"),
+        (
+            "ScanInterface c { Port SI; } ScanInterface c { Port D; }",
+            "DoubleName 2:30 c",
+        ),
+        (
+            "Enum e { a = 1'b0; } Enum e { a = 1'b0; }",
+            "DoubleName 2:22 e",
+        ),
+        (
+            "Parameter p = 1; LocalParameter p = 2;",
+            "DoubleName 2:18 p",
+        ),
+        (
+            "Enum e { a = 1'b0; b = 1'b1; a = 1'b0; }",
+            "DoubleName 2:1 a",
+        ),
+        (
+            "Instance p Of Par { Parameter P = 1; Parameter P = $x; }",
+            "DoubleName 2:38 P",
+        ),
+        ("Instance p Of Par { Parameter Q = $x; }", "NoName 2:21 Q"),
+        ("Instance p Of Par { Parameter L = 1; }", "NoName 2:21 L"),
+        ("ScanInterface c { Port y; }", "NoName 2:1 y"),
+        ("ScanInterface c { Port R; }", "WrongKind 2:1"),
+        (
+            "AccessLink l Of STD_1149_1_2013 { BSDLEntity e; a { ScanInterface { y.client; } } }",
+            "NoName 2:1 y",
+        ),
+        (
+            "AccessLink l Of STD_1149_1_2013 { BSDLEntity e; a { ScanInterface { R.client; } } }",
+            "WrongKind 2:1",
+        ),
+        (
+            "AccessLink l Of STD_1149_1_2013 { BSDLEntity e; a { ScanInterface { s.host; } } }",
+            "NoName 2:1 host",
+        ),
+        (
+            "AccessLink l Of STD_1149_1_2013 { BSDLEntity e; a { ScanInterface { s.client; } } a { ScanInterface { s.client; } } }",
+            "DoubleName 2:1 a",
+        ),
+        (
+            "ScanRegister x { ScanInSource y; } Parameter p = 1 / 0;",
+            "DivideByZero 2:52",
+        ),
+        (
+            "ScanRegister x { ScanInSource y; } DataInPort R;",
+            "DoubleName 2:36 R",
+        ),
+    ];
+    for (items, wanted) in rows {
+        assert_eq!(rt; part_with(alloc, items, 0, 0)?.as_str(), wanted);
+    }
+    Ok(())
+}
+
+#[test]
+fn numbers_and_ranges_suit(rt: HostRuntime) -> Result<(), Fail> {
+    let alloc = rt.alloc();
+    let rows: [(&str, &str); 19] = [
+        ("Parameter p = $q; Parameter q = 1;", "NoParameter 2:15 q"),
+        (
+            "ScanRegister x[$v:0] { ScanInSource SI; }",
+            "NoParameter 2:16 v",
+        ),
+        (
+            "Instance p Of Par { Parameter P = $v; }",
+            "NoParameter 2:35 v",
+        ),
+        ("Parameter p = $v'b0;", "NoParameter 2:1 v"),
+        ("Parameter p = 1 % 0;", "DivideByZero 2:17"),
+        ("DataInPort x[1 / (2 - 2):0];", "DivideByZero 2:16"),
+        ("Parameter p = 1 - 2;", "BadNumber 2:17"),
+        ("Parameter p = 65536 * 65536;", "BadNumber 2:21"),
+        ("Parameter p = 0'b0;", "BadNumber 2:1"),
+        ("Parameter p = 4097'b0;", "BadNumber 2:1"),
+        ("Parameter p = 4'b10000;", "BadNumber 2:1"),
+        ("Parameter p = 4'b2;", "BadNumber 2:1"),
+        (
+            "Parameter p = 'd340282366920938463463374607431768211456;",
+            "BadNumber 2:1",
+        ),
+        ("Parameter p = 4'bx; DataInPort x[$p:0];", "BadNumber 2:34"),
+        ("DataInPort x['h1_0000_0000:0];", "BadNumber 2:13"),
+        ("Parameter p = \"t\" + 1;", "WrongKind 2:1"),
+        ("Parameter p = \"t\"; DataInPort x[$p:0];", "WrongKind 2:33"),
+        ("DataInPort x[65536:0];", "Limit Width 65536"),
+        (
+            "ScanRegister x[4094:0] { ScanInSource SI; }",
+            "Limit ScanBits 4096",
+        ),
+    ];
+    for (items, wanted) in rows {
+        assert_eq!(rt; part_with(alloc, items, 0, 0)?.as_str(), wanted);
+    }
+    Ok(())
+}
+
+#[test]
+fn scan_signals_are_refused(rt: HostRuntime) -> Result<(), Fail> {
+    let alloc = rt.alloc();
+    let rows: [(&str, &str); 14] = [
+        ("ScanRegister x { ScanInSource y; }", "NoName 2:31 y"),
+        ("ScanRegister x { ScanInSource s.SX; }", "NoName 2:31 SX"),
+        ("ScanRegister x { ScanInSource ~SI; }", "WrongKind 2:31"),
+        ("ScanRegister x { ScanInSource 1; }", "WrongKind 2:31"),
+        ("ScanRegister x { ScanInSource D[0]; }", "WrongKind 2:31"),
+        ("ScanRegister x { ScanInSource s.SI; }", "WrongKind 2:31"),
+        ("ScanRegister x { ScanInSource s.S; }", "WrongKind 2:31"),
+        ("ScanRegister x { ScanInSource R.SO; }", "WrongKind 2:31"),
+        ("ScanRegister x { ScanInSource R[3]; }", "WrongKind 2:31"),
+        ("ScanRegister x { ScanInSource R[9]; }", "WrongKind 2:31"),
+        ("ScanRegister x { ScanInSource SI[1]; }", "BadRange 2:33"),
+        ("ScanRegister x { ScanInSource SI[0:1]; }", "BadRange 2:33"),
+        (
+            "ScanRegister x { ScanInSource R[$v]; }",
+            "NoParameter 2:33 v",
+        ),
+        ("ScanOutPort x { Source y; }", "NoName 2:24 y"),
+    ];
+    for (items, wanted) in rows {
+        assert_eq!(rt; part_with(alloc, items, 0, 0)?.as_str(), wanted);
+    }
+    Ok(())
+}
+
+#[test]
+fn data_signals_are_refused(rt: HostRuntime) -> Result<(), Fail> {
+    let alloc = rt.alloc();
+    let rows: [(&str, &str); 18] = [
+        (
+            "ScanRegister x[3:0] { ScanInSource SI; CaptureSource y; }",
+            "NoName 2:54 y",
+        ),
+        (
+            "ScanRegister x { ScanInSource SI; CaptureSource SI; }",
+            "WrongKind 2:49",
+        ),
+        (
+            "ScanRegister x { ScanInSource SI; CaptureSource i.d[0]; }",
+            "WrongKind 2:49",
+        ),
+        (
+            "ScanRegister x { ScanInSource SI; CaptureSource s.S[0]; }",
+            "WrongKind 2:49",
+        ),
+        (
+            "ScanRegister x[1:0] { ScanInSource SI; CaptureSource R[0:1]; }",
+            "BadRange 2:55",
+        ),
+        (
+            "ScanRegister x[1:0] { ScanInSource SI; CaptureSource R[4:3]; }",
+            "BadRange 2:55",
+        ),
+        (
+            "ScanRegister x[1:0] { ScanInSource SI; CaptureSource R; }",
+            "WidthDiffers 2:1",
+        ),
+        (
+            "ScanRegister x[1:0] { ScanInSource SI; CaptureSource R[0]; }",
+            "WidthDiffers 2:1",
+        ),
+        (
+            "ScanRegister x[1:0] { ScanInSource SI; CaptureSource 4; }",
+            "WidthDiffers 2:1",
+        ),
+        (
+            "ScanRegister x[1:0] { ScanInSource SI; CaptureSource 3'b000; }",
+            "WidthDiffers 2:1",
+        ),
+        (
+            "ScanRegister x[1:0] { ScanInSource SI; CaptureSource 2'b0x; }",
+            "BadNumber 2:54",
+        ),
+        (
+            "ScanRegister x[1:0] { ScanInSource SI; CaptureSource R[0], 1; }",
+            "WrongKind 2:60",
+        ),
+        (
+            "ScanRegister x[1:0] { ScanInSource SI; CaptureSource $v; }",
+            "NoParameter 2:54 v",
+        ),
+        (
+            "Parameter t = \"t\"; ScanRegister x[1:0] { ScanInSource SI; CaptureSource $t; }",
+            "WrongKind 2:73",
+        ),
+        ("DataOutPort x { Source y; }", "NoName 2:24 y"),
+        ("DataOutPort x { Source R; }", "WidthDiffers 2:1"),
+        ("ToSelectPort x { Source y; }", "NoName 2:25 y"),
+        ("ToSelectPort x { Source R.y; }", "WrongKind 2:25"),
+    ];
+    for (items, wanted) in rows {
+        assert_eq!(rt; part_with(alloc, items, 0, 0)?.as_str(), wanted);
+    }
+    Ok(())
+}
+
+#[test]
+fn values_and_rows_are_refused(rt: HostRuntime) -> Result<(), Fail> {
+    let alloc = rt.alloc();
+    let rows: [(&str, &str); 13] = [
+        (
+            "ScanRegister x[1:0] { ScanInSource SI; ResetValue 4; }",
+            "WidthDiffers 2:1",
+        ),
+        (
+            "ScanRegister x[1:0] { ScanInSource SI; ResetValue 2'b01, 1'b0; }",
+            "WidthDiffers 2:1",
+        ),
+        (
+            "ScanRegister x[1:0] { ScanInSource SI; ResetValue 1, 1'b0; }",
+            "WrongKind 2:1",
+        ),
+        (
+            "ScanRegister x[1:0] { ScanInSource SI; ResetValue 2'b3; }",
+            "BadNumber 2:1",
+        ),
+        (
+            "ScanRegister x { ScanInSource SI; RefEnum e; }",
+            "NoName 2:1 e",
+        ),
+        (
+            "Enum e { a = 2'b10; } ScanRegister x { ScanInSource SI; RefEnum e; }",
+            "WidthDiffers 2:23",
+        ),
+        (
+            "Enum e { a = $v; } ScanRegister x { ScanInSource SI; RefEnum e; }",
+            "NoParameter 2:14 v",
+        ),
+        ("ScanMux x SelectedBy y { 1'b0 : SI; }", "NoName 2:22 y"),
+        ("ScanMux x SelectedBy 1 { 1'b0 : SI; }", "WrongKind 2:22"),
+        (
+            "ScanMux x SelectedBy R[1:0] { 2'b0 : SI; 4 : R; }",
+            "WidthDiffers 2:1",
+        ),
+        (
+            "ScanMux x SelectedBy R[1:0] { 2'b0 : D; 4 : R; }",
+            "WrongKind 2:38",
+        ),
+        (
+            "ScanMux x SelectedBy R[1:0] { 2'b0x : SI; 2'b1x | 2'b00 : R; }",
+            "RowsOverlap 2:1",
+        ),
+        (
+            "ScanMux x SelectedBy R[1:0] { 2'b01 : SI; 2'b10 : R; 1 : s.SO; }",
+            "RowsOverlap 2:1",
+        ),
+    ];
+    for (items, wanted) in rows {
+        assert_eq!(rt; part_with(alloc, items, 0, 0)?.as_str(), wanted);
+    }
+    Ok(())
+}
+
+#[test]
+fn aliases_and_bindings_are_refused(rt: HostRuntime) -> Result<(), Fail> {
+    let alloc = rt.alloc();
+    let rows: [(&str, &str); 17] = [
+        ("Alias x = y;", "NoName 2:11 y"),
+        ("Alias x = s.y;", "NoName 2:11 y"),
+        ("Alias x = ~R[0];", "WrongKind 2:11"),
+        ("Alias x = 1'b0;", "WrongKind 2:11"),
+        ("Alias x = SI;", "WrongKind 2:11"),
+        ("Alias x = s;", "WrongKind 2:11"),
+        ("Alias x = R[4];", "BadRange 2:12"),
+        ("Alias x[1:0] = R[2:0];", "WidthDiffers 2:1"),
+        ("Instance x Of Ins { InputPort y = R; }", "NoName 2:21 y"),
+        ("Instance x Of Ins { InputPort q = R; }", "WrongKind 2:21"),
+        (
+            "Instance x Of Ins { InputPort d[4] = R[0]; }",
+            "BadRange 2:32",
+        ),
+        (
+            "Instance x Of Ins { InputPort d[1:0] = R[1:0]; InputPort d[1] = y; }",
+            "DoubleName 2:48 d",
+        ),
+        ("Instance x Of Ins { InputPort d = y; }", "NoName 2:35 y"),
+        (
+            "Instance x Of Ins { InputPort d = R[2:0]; }",
+            "WidthDiffers 2:21",
+        ),
+        (
+            "Instance x Of Ins { InputPort d[3:1] = R[3:1]; }",
+            "WidthDiffers 2:1",
+        ),
+        (
+            "Instance x Of Seg { InputPort SI = R, s.SO; }",
+            "WidthDiffers 2:21",
+        ),
+        (
+            "Instance x Of Seg { InputPort SI = D[0]; }",
+            "WrongKind 2:36",
+        ),
+    ];
+    for (items, wanted) in rows {
+        assert_eq!(rt; part_with(alloc, items, 0, 0)?.as_str(), wanted);
+    }
+    Ok(())
+}
+
+/// Modules `m0` up to `m70`: `m0` has these items, and each other one so many instances of the one before it.
+fn nested(alloc: Global, items: &str, instances: usize) -> Result<String, Fail> {
+    let mut text = format!(in alloc; "Module m0 {{ {items} }}\n")?;
+    for k in 1..71usize {
+        let mut inside = String::new(alloc);
+        for i in 0..instances {
+            let instance = format!(in alloc; " Instance i{i} Of m{};", k - 1)?;
+            inside.push_str(instance.as_str())?;
+        }
+        let module_text = format!(in alloc; "Module m{k} {{{inside} }}\n")?;
+        text.push_str(module_text.as_str())?;
+    }
+    Ok(text)
+}
+
+/// How many cells there are, or the refusal.
+fn count(alloc: Global, text: &str, top: &str) -> Result<String, Fail> {
+    match below(alloc, text.as_bytes(), top.as_bytes())? {
+        Ok(hier) => Ok(format!(in alloc; "{}", hier.cells.len())?),
+        Err(fault) => Ok(refusal(alloc, &fault)?),
+    }
+}
+
+/// Each limit is accepted, and the next number is refused.
+#[test]
+fn limits_are_the_last_that_are_taken(rt: HostRuntime) -> Result<(), Fail> {
+    let alloc = rt.alloc();
+    let rows: [(&str, usize, &str, &str); 10] = [
+        ("", 1, "m64", "65"),
+        ("", 1, "m65", "Limit Hierarchy 64"),
+        ("", 2, "m12", "8191"),
+        ("", 2, "m13", "Limit Cells 8192"),
+        ("DataInPort d;", 2, "m8", "511"),
+        ("DataInPort d;", 2, "m9", "Limit Instruments 256"),
+        (
+            "ScanInPort i; ScanMux m SelectedBy 1'b0 { 0 : i; }",
+            2,
+            "m10",
+            "2047",
+        ),
+        (
+            "ScanInPort i; ScanMux m SelectedBy 1'b0 { 0 : i; }",
+            2,
+            "m11",
+            "Limit Muxes 1024",
+        ),
+        (
+            "ScanInPort i; ScanRegister r[31:0] { ScanInSource i; }",
+            2,
+            "m7",
+            "255",
+        ),
+        (
+            "ScanInPort i; ScanRegister r[31:0] { ScanInSource i; }",
+            2,
+            "m8",
+            "Limit ScanBits 4096",
+        ),
+    ];
+    for (items, instances, top, wanted) in rows {
+        let text = nested(alloc, items, instances)?;
+        assert_eq!(rt; count(alloc, text.as_str(), top)?.as_str(), wanted);
+    }
+    Ok(())
+}
+
+/// The ports of an instrument, of which the top is none.
+#[test]
+fn instruments_have_few_ports(rt: HostRuntime) -> Result<(), Fail> {
+    let alloc = rt.alloc();
+    let rows: [(&str, &str, &str); 6] = [
+        ("DataInPort d[63:0];", "c", "2"),
+        ("DataInPort d[64:0];", "c", "Limit PortBits 64"),
+        ("DataInPort d[64:0];", "i", "1"),
+        ("DataOutPort d[1:65];", "c", "Limit PortBits 64"),
+        (
+            "DataInPort a; DataInPort b; DataInPort c; DataInPort d; DataInPort e; DataInPort f; DataInPort g; DataInPort h; DataInPort i; DataInPort j; DataInPort k; DataInPort l; DataInPort m; DataInPort n; DataInPort o; DataInPort p; DataOutPort q;",
+            "c",
+            "2",
+        ),
+        (
+            "DataInPort a; DataInPort b; DataInPort c; DataInPort d; DataInPort e; DataInPort f; DataInPort g; DataInPort h; DataInPort i; DataInPort j; DataInPort k; DataInPort l; DataInPort m; DataInPort n; DataInPort o; DataInPort p; DataInPort q[64:0];",
+            "c",
+            "Limit Ports 16",
+        ),
+    ];
+    for (items, top, wanted) in rows {
+        let text = format!(in alloc; "Module i {{ {items} }} Module c {{ Instance i Of i; }}")?;
+        assert_eq!(rt; count(alloc, text.as_str(), top)?.as_str(), wanted);
+    }
+    Ok(())
+}
