@@ -1,0 +1,5 @@
+// The stages of the work on texts, each a call that follows the work of its name in `specs/`.
+
+pub(crate) mod form;
+pub(crate) mod icl;
+pub(crate) mod svf;
