@@ -1,6 +1,6 @@
 -- The work of a command comes to one end at most: what is given is one value, and then nothing is refused.
-use Rattle.std.specs.Prelude.{Result, Ok, Err}
-use Rattle.std.proofs.Common.{◌≡◌, ◌<◌, ◌≤◌, ◌∙◌, refl, sym, ap, subst, inl, inr, ℕ, Option, Some, None, List, [], ◌∷◌, length, arith}
+use Rattle.std.specs.Prelude.{Result, Ok}
+use Rattle.std.proofs.Common.{◌≡◌, ◌<◌, ◌≤◌, ◌∙◌, sym, ap, subst, inl, inr, ℕ, Some, List, [], ◌∷◌, length, arith}
 use Rattle.ij_io.specs.Files.{Files, bytes_of}
 use Rattle.icl_lexer.specs.Cutting.{AreTokens, tokens_from}
 use Rattle.icl_lexer.specs.Laws.{CuttingsAreOne, CutTextsHaveNoFault}
@@ -16,8 +16,8 @@ use Rattle.first_form.specs.Texts.{SeenForm}
 use Rattle.ijtag_core.specs.Command.{Command, Compile, Compiles, Play, Plays, Load, loads}
 use Rattle.ijtag_core.specs.FirstForm.{first_form, applied, first_design}
 use Rattle.ijtag_core.specs.IclText.{icl_tokens, icl_design, icl_text}
-use Rattle.ijtag_core.specs.Order.{loaded_one, loaded, accepted, compile, playable, play, work_on, work}
-use Rattle.ijtag_core.specs.Refusals.{Part, Refusal}
+use Rattle.ijtag_core.specs.Order.{loaded_one, loaded, accepted, playable, work_on, work}
+use Rattle.ijtag_core.specs.Refusals.{Refusal}
 use Rattle.ijtag_core.specs.SvfText.{svf_text, svf_fault}
 use Rattle.ijtag_core.specs.Work.{Work, give, never, ◌>>=◌, IsDecided}
 

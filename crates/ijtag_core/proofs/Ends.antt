@@ -1,6 +1,6 @@
 -- How a command ends, from how its parts do.
 use Rattle.std.specs.Prelude.{option_map}
-use Rattle.std.proofs.Common.{◌≡◌, ◌≢◌, ◌⊎◌, inl, inr, ℕ, Bool, false, Option, Some, None, List, [], ◌∷◌, refl, sym, ap, ◌∙◌, subst}
+use Rattle.std.proofs.Common.{◌≡◌, inl, inr, ℕ, Bool, false, Option, Some, List, [], refl, ap, ◌∙◌, subst}
 use Rattle.ij_io.specs.Bytes.{Adds, AddsPart}
 use Rattle.ij_io.specs.Causes.{Rose}
 use Rattle.ij_io.specs.Files.{Files, file_at}
@@ -8,12 +8,11 @@ use Rattle.ij_io.proofs.Adding.{with_none, adds_none}
 use Rattle.first_form.specs.Texts.{SeenForm}
 use Rattle.register_compiler.specs.Meaning.{DoesProcedure}
 use Rattle.register_compiler.specs.Svf.{svf_text}
-use Rattle.ijtag_core.specs.Command.{Command, Compile, Compiles, Play, Plays, compile_loads, play_loads, loads, IsNoneOf}
+use Rattle.ijtag_core.specs.Command.{Command, Compile, Compiles, Play, Plays, compile_loads, play_loads, loads}
 use Rattle.ijtag_core.specs.Follows.{IsFault, IsLoadStop}
 use Rattle.ijtag_core.specs.Headline.{IsRetargeted}
-use Rattle.ijtag_core.specs.Leaves.{Leaves}
 use Rattle.ijtag_core.specs.Order.{SeenPlayable, loaded, accepted, compiled, playable, played, report_of, any_differs, differs_at, work_on, work}
-use Rattle.ijtag_core.specs.Runs.{Seen, IsDone, IsPartDone, HoldsPart, Counts, IsStop}
+use Rattle.ijtag_core.specs.Runs.{IsDone, IsPartDone, HoldsPart, Counts, IsStop}
 use Rattle.ijtag_core.specs.Seen.{seen_stop, stop_from}
 use Rattle.ijtag_core.specs.Stops.{Stop, Usage, Refuses, ReadFault, WriteFault, OutputFault, NoMemory}
 use Rattle.ijtag_core.specs.declared.refusal.StageFault.{StageFault}

@@ -1,7 +1,7 @@
 -- What is known of several loads, from what is known of each.
-use Rattle.std.specs.Prelude.{IfSome, Vec, take, drop, map}
+use Rattle.std.specs.Prelude.{Vec, take, drop, map}
 use Rattle.std.specs.declared.alloc.Global.{Global}
-use Rattle.std.proofs.Common.{◌≡◌, ◌≢◌, ◌≤◌, ◌<◌, ◌+◌, get_or, zero, suc, inl, inr, ℕ, Option, Some, None, List, [], ◌∷◌, ◌++◌, length, refl, sym, ap, ◌∙◌, subst, arith}
+use Rattle.std.proofs.Common.{◌≡◌, ◌≢◌, ◌≤◌, ◌<◌, ◌+◌, get_or, zero, suc, inl, inr, ℕ, Option, Some, List, [], ◌∷◌, ◌++◌, length, refl, sym, ap, subst, arith}
 use Rattle.ij_io.specs.Causes.{Rose}
 use Rattle.ij_io.specs.Files.{Files}
 use Rattle.ijtag_core.specs.Command.{Load, names_of, IsNoneOf}

@@ -2,7 +2,7 @@
 use Rattle.std.specs.Prelude.{map, codes}
 use Rattle.std.specs.List.{flat_map}
 use Rattle.std.proofs.Common.{◌≡◌, ℕ, List, [], ◌∷◌, ◌++◌, refl, ap, ◌∙◌}
-use Rattle.ijtag_core.specs.Refusals.{Refusal, arg_text, head_text, refusal_text}
+use Rattle.ijtag_core.specs.Refusals.{arg_text, head_text, refusal_text}
 use Rattle.ijtag_core.specs.Seen.{seen_arg, seen_refusal}
 use Rattle.ijtag_core.specs.declared.refusal.Arg.{Arg as RustArg}
 use Rattle.ijtag_core.specs.declared.refusal.Refusal.{Refusal as RustRefusal}

@@ -1,8 +1,8 @@
 -- How the code goes: a call that follows work.
-use Rattle.std.specs.Prelude.{◌≡◌, ◌≤◌, ℕ, Bool, List, [], ◌∷◌, length, map, Vec, Option, Some, None, Result, Ok, Err}
+use Rattle.std.specs.Prelude.{◌≡◌, ◌≤◌, ℕ, List, [], ◌∷◌, length, map, Vec, Option, Some, Result, Ok, Err}
 use Rattle.std.specs.declared.alloc.Global.{Global}
 use Rattle.ij_io.specs.Files.{Files}
-use Rattle.ijtag_core.specs.Command.{Command, Load}
+use Rattle.ijtag_core.specs.Command.{Load}
 use Rattle.ijtag_core.specs.Refusals.{Part, Refusal}
 use Rattle.ijtag_core.specs.Runs.{IsReadFault}
 use Rattle.ijtag_core.specs.Seen.{seen_refusal, seen_stop}

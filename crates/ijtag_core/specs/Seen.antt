@@ -1,6 +1,5 @@
 -- Words, refusals, stops and verdicts as contracts see them: with plain lists.
-use Rattle.std.specs.Prelude.{ℕ, Bool, true, false, List, Option, Some, None, map}
-use Rattle.std.proofs.Common.{Bor}
+use Rattle.std.specs.Prelude.{Bool, true, false, map}
 use Rattle.ijtag_core.specs.Command.{Command, Compile, Play, Compiles, Plays, Load, source, svf_file}
 use Rattle.ijtag_core.specs.Order.{SeenPlayable}
 use Rattle.ijtag_core.specs.Refusals.{Refusal, Arg, At, Num, Said}

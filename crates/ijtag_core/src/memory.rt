@@ -26,8 +26,8 @@ pub fn ijtag_in_memory(
         IsRetargeted (Some (sure_files_in shelf.old)) c (Some (sure_files_in shelf.new c.svf))) }
     ensures done { (differs : Bool) → result ≡ status_if differs → IfSome (command_in words.now.items) (λ command.
         IsDone (work (Some (sure_files_in shelf.old)) command)
-            (record { files = Some (sure_files_in shelf.old); printed = Some out.old })
-            (record { files = Some (sure_files_in shelf.new); printed = Some out.new }) differs) }
+        (record { files = Some (sure_files_in shelf.old); printed = Some out.old })
+        (record { files = Some (sure_files_in shelf.new); printed = Some out.new }) differs) }
     ensures complete { IfSome (command_in words.now.items) (λ command. (leaves : Leaves)
         → (work (Some (sure_files_in shelf.old)) command).gives leaves → IsOrMemory result (status_if leaves.differs)) }
     ensures refuses { IfSome (command_in words.now.items) (λ command. (refusal : Refusal)
@@ -36,8 +36,7 @@ pub fn ijtag_in_memory(
     ensures err_stays { (differs : Bool) → result ≡ status_if differs → err.new ≡ err.old }
     ensures same_files { IsEarlyStatus result → Some (sure_files_in shelf.new) ≡ Some (sure_files_in shelf.old) }
     ensures same_output { IsEarlyStatus result → out.new ≡ out.old }
-    ensures only_its_files_change {
-        OnlyTheseChange (writes_in (command_in words.now.items)) (Some (sure_files_in shelf.old)) (Some (sure_files_in shelf.new)) }
+    ensures only_its_files_change { OnlyTheseChange (writes_in (command_in words.now.items)) (Some (sure_files_in shelf.old)) (Some (sure_files_in shelf.new)) }
     ensures only_plays_print { OnFalse (prints_in (command_in words.now.items)) (out.new ≡ out.old) }
 {
     ijtag(alloc, words, shelf, out, err)

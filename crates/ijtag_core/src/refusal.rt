@@ -102,12 +102,7 @@ pub(crate) fn refused(alloc: Global, stage: Stage, kind: &'static [u8]) -> Stage
 }
 
 /// A refusal that tells a place.
-pub(crate) fn refused_at(
-    alloc: Global,
-    stage: Stage,
-    kind: &'static [u8],
-    at: Place,
-) -> StageFault
+pub(crate) fn refused_at(alloc: Global, stage: Stage, kind: &'static [u8], at: Place) -> StageFault
     ensures { IsToldAs (Some (refused_at stage kind.now at)) result }
 {
     match one(alloc, Arg::At(at)) {

@@ -42,8 +42,8 @@ pub fn ijtag<S: Shelf, O: Sink, E: Sink>(
     // Where all of the command's work is done, and that what is accepted is done where no fault is counted.
     ensures done { (differs : Bool) → result ≡ status_if differs
         → IfSome (command_in words.now.items) (λ command. IsDone (work (S.files shelf.old) command)
-            (seen S.files O.taken shelf.old out.old)
-            (seen S.files O.taken shelf.new out.new) differs) }
+        (seen S.files O.taken shelf.old out.old)
+        (seen S.files O.taken shelf.new out.new) differs) }
     ensures complete { IfTold (command_in words.now.items) (S.files shelf.old) (λ command files.
         let c = counts S.load_faults S.store_faults O.faults shelf.old shelf.new out.old out.new in
         (leaves : Leaves) → (work (Some files) command).gives leaves → ¬ LoadRose command c
@@ -68,7 +68,7 @@ pub fn ijtag<S: Shelf, O: Sink, E: Sink>(
     // ReadFault only where a load failed that was come to, WriteFault only where all was accepted and a write failed.
     ensures read_fault { result ≡ Status.ReadFault → IfSome (command_in words.now.items) (λ command.
         (name : List ℕ) × IsReadFault (S.files shelf.old) (loads command)
-            (S.load_faults shelf.old) (S.load_faults shelf.new) name
+        (S.load_faults shelf.old) (S.load_faults shelf.new) name
         × Tells E.taken E.faults err.old err.new (stop_text (ReadFault name))) }
     ensures write_fault { result ≡ Status.WriteFault
         → IfSome (command_in words.now.items) (λ command.
@@ -81,10 +81,10 @@ pub fn ijtag<S: Shelf, O: Sink, E: Sink>(
         → (S.files shelf.new ≡ S.files shelf.old) × (out.new ≡ out.old) }
     ensures part { IsPartStatus result → IfSome (command_in words.now.items) (λ command.
         IsPartDone (work (S.files shelf.old) command)
-            (seen S.files O.taken shelf.old out.old) (seen S.files O.taken shelf.new out.new)) }
+        (seen S.files O.taken shelf.old out.old) (seen S.files O.taken shelf.new out.new)) }
     ensures says_part { result ≡ Status.OutOfMemory → (stop : Stop)
         × IsRunStop (command_in words.now.items) (S.files shelf.old)
-            (counts S.load_faults S.store_faults O.faults shelf.old shelf.new out.old out.new) stop
+        (counts S.load_faults S.store_faults O.faults shelf.old shelf.new out.old out.new) stop
         × AddsPart (E.taken err.old) (E.taken err.new) (stop_text stop) }
     ensures only_its_files_change { OnlyTheseChange (writes_in (command_in words.now.items))
         (S.files shelf.old) (S.files shelf.new) }

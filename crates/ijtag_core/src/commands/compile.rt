@@ -28,11 +28,7 @@ use register_compiler::put_svf;
 use std::alloc::Global;
 
 /// What the texts of ICL, PDL and device are accepted as.
-fn accept(
-    alloc: Global,
-    words: &CompileWords<'_>,
-    texts: &[Vec<u8>],
-) -> Result<Form, StageFault>
+fn accept(alloc: Global, words: &CompileWords<'_>, texts: &[Vec<u8>]) -> Result<Form, StageFault>
     requires { AreTexts 3 (seen_texts texts.now) }
     ensures follows { Follows (accepted (seen_compile words.now) (seen_texts texts.now)) seen_form result }
     ensures form { IfOk result (λ form. IsForm (seen_form form)) }

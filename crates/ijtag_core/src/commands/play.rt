@@ -36,11 +36,7 @@ pub(crate) struct Playable {
 }
 
 /// What the texts of SVF, ICL, device and tables are accepted as.
-fn accept(
-    alloc: Global,
-    words: &PlayWords<'_>,
-    texts: &[Vec<u8>],
-) -> Result<Playable, StageFault>
+fn accept(alloc: Global, words: &PlayWords<'_>, texts: &[Vec<u8>]) -> Result<Playable, StageFault>
     requires { AreTexts 4 (seen_texts texts.now) }
     ensures follows { Follows (playable (seen_play words.now) (seen_texts texts.now)) seen_playable result }
     ensures clocks { IfOk result (λ it. length (pins InReset 0 it.commands) ≤ 1000000000) }
@@ -57,11 +53,7 @@ fn accept(
 
 /// Plays commands on the bench of a design and writes the report. A refusal leaves a first part of the report.
 #[tactic(auto, unfolding(crate::specs::Order::report_of))]
-fn put_lines<O: Sink>(
-    alloc: Global,
-    it: &Playable,
-    out: &mut O,
-) -> Result<Verdict, StoreFault>
+fn put_lines<O: Sink>(alloc: Global, it: &Playable, out: &mut O) -> Result<Verdict, StoreFault>
     requires clocks { length (pins InReset 0 it.now.commands) ≤ 1000000000 }
     requires scans { scans_in it.now.commands ≤ 1000000000 }
     ensures printed { OnOk result (Adds (O.taken out.old) (O.taken out.new) (report_of (seen_playable it.now))) }
@@ -81,11 +73,7 @@ fn put_lines<O: Sink>(
 
 /// Plays commands on the bench of a design and prints the report, so that none of it is kept back. A refusal leaves a first part of
 /// the report.
-fn put_report<O: Sink>(
-    alloc: Global,
-    it: &Playable,
-    out: &mut O,
-) -> Result<Verdict, StoreFault>
+fn put_report<O: Sink>(alloc: Global, it: &Playable, out: &mut O) -> Result<Verdict, StoreFault>
     requires clocks { length (pins InReset 0 it.now.commands) ≤ 1000000000 }
     requires scans { scans_in it.now.commands ≤ 1000000000 }
     ensures printed { OnOk result (Adds (O.taken out.old) (O.taken out.new) (report_of (seen_playable it.now))) }

@@ -1,5 +1,5 @@
 use Rattle.std.specs.Prelude.{Err, map, take}
-use Rattle.std.proofs.Common.{◌≡◌, ◌+◌, ◌≤◌, ◌∙◌, sym, ap, subst, rules, arith, ℕ, List, ◌++◌, ◌∷◌, [], Option}
+use Rattle.std.proofs.Common.{◌≡◌, ◌+◌, ◌∙◌, sym, ap, subst, rules, arith, ℕ, List, ◌++◌, ◌∷◌, [], Option}
 use Rattle.ij_io.specs.Files.{Files}
 use Rattle.ijtag_core.specs.Follows.{LoadsAndFollows, AreShort, seen_texts}
 use Rattle.ijtag_core.specs.Order.{loaded}

@@ -1,10 +1,10 @@
 use Rattle.std.specs.Prelude.{IfSome, Some, codes, length}
-use Rattle.std.proofs.Common.{◌≡◌, ◌<◌, ◌≤◌, ◌∙◌, refl, rules, sym, subst, ℕ, List, [], ◌∷◌, Option}
+use Rattle.std.proofs.Common.{◌≡◌, ◌<◌, ◌≤◌, ◌∙◌, refl, rules, subst, ℕ, List, [], ◌∷◌, Option}
 use Rattle.ij_io.specs.Files.{Files, bytes_of}
 use Rattle.ijtag_core.specs.Command.{Load}
 use Rattle.ijtag_core.specs.Follows.{IsToldAs}
 use Rattle.ijtag_core.specs.Order.{loaded_one}
-use Rattle.ijtag_core.specs.Refusals.{Refusal, refused_name}
+use Rattle.ijtag_core.specs.Refusals.{refused_name}
 use Rattle.ijtag_core.specs.Seen.{seen_load}
 use Rattle.ijtag_core.specs.declared.refusal.Stage.TheVariants.{File}
 use Rattle.ijtag_core.proofs.Loading.{told_stop}
@@ -14,9 +14,10 @@ pub returns-in-Ok-clause-follows : goal.returns-in-Ok-clause-follows
 unfolding loaded_one
 returns-in-Ok-clause-follows g c =
     let files : Option Files = g.S.Shelf.files c.args.shelf.now in
-    let bytes : List ℕ = c.in-Ok.bytes.items in
-    ( subst (λ (n : ℕ). length bytes ≤ n) c.limit.ensures c.in-Ok.ensures.short,
-      subst (λ (name : List ℕ). IfSome files (λ f. bytes ≡ bytes_of f name)) c.name-name.ensures c.in-Ok.ensures.bytes )
+    let bytes : List ℕ = c.in-Ok.bytes.items in (
+      subst (λ (n : ℕ). length bytes ≤ n) c.limit.ensures c.in-Ok.ensures.short,
+      subst (λ (name : List ℕ). IfSome files (λ f. bytes ≡ bytes_of f name)) c.name-name.ensures c.in-Ok.ensures.bytes,
+    )
 
 pub returns-in-Err-Long-clause-follows : goal.returns-in-Err-Long-clause-follows
 unfolding loaded_one

@@ -1,9 +1,9 @@
-use Rattle.std.specs.Prelude.{IfOk, IfSome, Some, option_map}
+use Rattle.std.specs.Prelude.{IfOk, IfSome, Some}
 use Rattle.std.proofs.Common.{◌≡◌, rules, subst, Option}
 use Rattle.ijtag_core.specs.Command.{Command, Compiles, command_in}
 use Rattle.ijtag_core.specs.Order.{work}
 use Rattle.ijtag_core.specs.Runs.{IsDone, seen}
-use Rattle.ijtag_core.specs.Seen.{seen_command, seen_compile, differing}
+use Rattle.ijtag_core.specs.Seen.{seen_compile, differing}
 use Rattle.ijtag_core.proofs.run.run.Goals as goal
 
 pub returns-in-Some-Compile-clause-done : goal.returns-in-Some-Compile-clause-done

@@ -1,10 +1,10 @@
-use Rattle.std.proofs.Common.{◌≡◌, ◌∙◌, refl, rules, sym, subst, ap, ℕ, List, Option}
+use Rattle.std.proofs.Common.{◌≡◌, ◌∙◌, rules, subst, ℕ, List, Option}
 use Rattle.ij_io.specs.Causes.{Rose}
 use Rattle.ij_io.specs.Files.{Files}
 use Rattle.first_form.specs.Texts.{SeenForm}
 use Rattle.first_form.specs.SeenForms.{seen_form}
 use Rattle.register_compiler.specs.Svf.{svf_text}
-use Rattle.ijtag_core.specs.Command.{Compile, Compiles, Load, compile_loads}
+use Rattle.ijtag_core.specs.Command.{Compile, Load, compile_loads}
 use Rattle.ijtag_core.specs.Follows.{seen_texts}
 use Rattle.ijtag_core.specs.Order.{loaded, accepted}
 use Rattle.ijtag_core.specs.Runs.{counts}

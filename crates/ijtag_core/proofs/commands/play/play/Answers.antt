@@ -1,10 +1,10 @@
-use Rattle.std.proofs.Common.{◌≡◌, refl, rules, sym, subst, ℕ, List, Option}
+use Rattle.std.proofs.Common.{rules, sym, subst, ℕ, List, Option}
 use Rattle.ij_io.specs.Causes.{Rose}
 use Rattle.ij_io.specs.Files.{Files}
 use Rattle.ijtag_core.specs.Command.{Play, Plays, Load, play_loads}
 use Rattle.ijtag_core.specs.Follows.{seen_texts}
 use Rattle.ijtag_core.specs.Order.{SeenPlayable, loaded, playable, work}
-use Rattle.ijtag_core.specs.Runs.{Seen, IsDone, IsPartDone, counts}
+use Rattle.ijtag_core.specs.Runs.{IsDone, IsPartDone, counts}
 use Rattle.ijtag_core.specs.Seen.{seen_play, seen_playable, differing}
 use Rattle.ijtag_core.proofs.Ends.{play_done, play_part, play_fault}
 use Rattle.ijtag_core.proofs.commands.play.play.Goals as goal

@@ -1,6 +1,6 @@
 use Rattle.std.specs.Prelude.{codes}
-use Rattle.std.proofs.Common.{◌≡◌, refl, rules, ℕ, List}
-use Rattle.ijtag_core.specs.FirstForm.{AreOfDesign, first_design}
+use Rattle.std.proofs.Common.{◌≡◌, refl, rules}
+use Rattle.ijtag_core.specs.FirstForm.{first_design}
 use Rattle.ijtag_core.specs.Refusals.{refused}
 use Rattle.ijtag_core.specs.Seen.{seen_play}
 use Rattle.ijtag_core.specs.declared.refusal.Stage.TheVariants.{Core}
