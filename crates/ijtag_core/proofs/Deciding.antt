@@ -1,5 +1,5 @@
 -- The work of a command comes to one end at most: what is given is one value, and then nothing is refused.
-use Rattle.std.specs.Prelude.{Result, Ok}
+use Rattle.std.specs.Prelude.{Result, Ok, Err}
 use Rattle.std.proofs.Common.{◌≡◌, ◌<◌, ◌≤◌, ◌∙◌, sym, ap, subst, inl, inr, ℕ, Some, List, [], ◌∷◌, length, arith}
 use Rattle.ij_io.specs.Files.{Files, bytes_of}
 use Rattle.icl_lexer.specs.Cutting.{AreTokens, tokens_from}
@@ -18,6 +18,10 @@ use Rattle.ijtag_core.specs.FirstForm.{first_form, applied, first_design}
 use Rattle.ijtag_core.specs.IclText.{icl_tokens, icl_design, icl_text}
 use Rattle.ijtag_core.specs.Order.{loaded_one, loaded, accepted, playable, work_on, work}
 use Rattle.ijtag_core.specs.Refusals.{Refusal}
+use Rattle.bench_file.specs.Device.{SeenDevice, device}
+use Rattle.bench_file.specs.declared.fault.DeviceFault.{DeviceFault}
+use Rattle.ijtag_core.specs.ChipTexts.{chip_texts}
+use Rattle.ijtag_core.specs.DeviceText.{device_text}
 use Rattle.ijtag_core.specs.SvfText.{svf_text, svf_fault}
 use Rattle.ijtag_core.specs.Work.{Work, give, never, ◌>>=◌, IsDecided}
 
@@ -73,6 +77,13 @@ read_not_refused text commands (HexWide at) r read is told = let refused = is.1 
 read_not_refused text commands (TdiMissing at) r read is told = let refused = is.1 in cc
 read_not_refused text commands OutOfMemory r read is told = cc
 
+device_not_refused : (text : List ℕ) (of : SeenDevice) (fault : DeviceFault) → device text ≡ Ok of → device text ≡ Err fault → ⊥
+device_not_refused text of fault read refused = cc
+
+device_decided : (text : List ℕ) → IsDecided (device_text text)
+unfolding device_text
+device_decided text = record { one = λ a b p q. ok_is a b (device text) p q; apart = λ a r p q. device_not_refused text a q.0 p q.1 }
+
 svf_decided : (text : List ℕ) → IsDecided (svf_text text)
 unfolding svf_text
 svf_decided text = record { one = λ a b p q. ok_is a b (svf text) p q; apart = λ a r p q. read_not_refused text a q.0 r p q.1 q.2 }
@@ -93,11 +104,17 @@ first_design_decided p icl device tables = record { one = λ a b x y. y.1 a x.0;
 
 module _ (cuttings : CuttingsAreOne) (no_fault : CutTextsHaveNoFault) (designs : DesignsAreOne) (not_refused : DesignsAreNotRefused) where
   icl_decided : (text : List ℕ) → IsDecided (icl_text text)
+  unfolding icl_text
   icl_decided text = in_turn_decided (icl_tokens text) _ (tokens_decided cuttings no_fault text) (design_decided designs not_refused text)
+
+  chip_decided : (icl device : List ℕ) → IsDecided (chip_texts icl device)
+  unfolding chip_texts
+  chip_decided icl device =
+      in_turn_decided (icl_text icl) _ (icl_decided icl) (λ modules. in_turn_decided (device_text device) _ (device_decided device) (λ of. give_decided modules))
 
   accepted_decided : (c : Compile) (texts : List (List ℕ)) → IsDecided (accepted c texts)
   accepted_decided c (icl ∷ pdl ∷ device ∷ []) =
-      in_turn_decided (icl_text icl) _ (icl_decided icl) (λ modules. in_turn_decided (first_form c icl pdl device) _ (form_decided c icl pdl device) applied_decided)
+      in_turn_decided (chip_texts icl device) _ (chip_decided icl device) (λ modules. in_turn_decided (first_form c icl pdl device) _ (form_decided c icl pdl device) applied_decided)
   accepted_decided c [] = never_decided
   accepted_decided c (a ∷ []) = never_decided
   accepted_decided c (a ∷ b ∷ []) = never_decided
@@ -105,7 +122,7 @@ module _ (cuttings : CuttingsAreOne) (no_fault : CutTextsHaveNoFault) (designs :
 
   playable_decided : (p : Play) (texts : List (List ℕ)) → IsDecided (playable p texts)
   playable_decided p (svf ∷ icl ∷ device ∷ tables ∷ []) =
-      in_turn_decided (icl_text icl) _ (icl_decided icl) (λ modules. in_turn_decided (svf_text svf) _ (svf_decided svf)
+      in_turn_decided (chip_texts icl device) _ (chip_decided icl device) (λ modules. in_turn_decided (svf_text svf) _ (svf_decided svf)
       (λ commands. in_turn_decided (first_design p icl device tables) _ (first_design_decided p icl device tables) (λ design. give_decided (record { design = design; commands = commands }))))
   playable_decided p [] = never_decided
   playable_decided p (a ∷ []) = never_decided

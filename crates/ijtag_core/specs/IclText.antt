@@ -41,7 +41,7 @@ icl_design text tokens = record {
   refuses = λ r. (fault : ParseFault) × IsRefused text (seen_tokens text tokens) fault × (parse_refusal fault ≡ Some r);
 }
 
-abbrev pub icl_text : List ℕ → Part (List SeenModule)
+unfoldable pub icl_text : List ℕ → Part (List SeenModule)
 icl_text text = do
   tokens ← icl_tokens text
   icl_design text tokens

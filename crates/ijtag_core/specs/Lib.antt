@@ -4,6 +4,8 @@ pub mod Work
 pub mod Leaves
 pub mod Refusals
 pub mod IclText
+pub mod DeviceText
+pub mod ChipTexts
 pub mod SvfText
 pub mod FirstForm
 pub mod Order

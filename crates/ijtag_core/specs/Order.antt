@@ -12,7 +12,7 @@ use Rattle.ijtag_core.specs.Work.{give, never, ◌>>=◌}
 use Rattle.ijtag_core.specs.Command.{Command, Compile, Compiles, Play, Plays, Load, loads}
 use Rattle.ijtag_core.specs.Refusals.{Part, refused_name}
 use Rattle.ijtag_core.specs.Leaves.{Leaves}
-use Rattle.ijtag_core.specs.IclText.{icl_text}
+use Rattle.ijtag_core.specs.ChipTexts.{chip_texts}
 use Rattle.ijtag_core.specs.SvfText.{svf_text}
 use Rattle.ijtag_core.specs.FirstForm.{first_form, applied, first_design}
 use Rattle.ijtag_core.specs.declared.refusal.Stage.TheVariants.{File}
@@ -32,11 +32,11 @@ loaded files (load ∷ loads) = do
   texts ← loaded files loads
   give (text ∷ texts)
 
--- ---- compile: the ICL text, then the first form, then that an iApply follows each command
+-- ---- compile: the ICL text, the device, then the first form, then that an iApply follows each command
 
 abbrev pub accepted : Compile → List (List ℕ) → Part SeenForm
 accepted c (icl ∷ pdl ∷ device ∷ []) = do
-  modules ← icl_text icl
+  modules ← chip_texts icl device
   form ← first_form c icl pdl device
   applied form
 accepted c _ = never
@@ -50,7 +50,7 @@ compile c texts = do
   form ← accepted c texts
   give (compiled c form)
 
--- ---- play: the ICL text, then the SVF text, then the first form
+-- ---- play: the ICL text, the device, the SVF text, then the first form
 
 -- what is played, and on what
 pub record SeenPlayable : Type 0 where
@@ -59,7 +59,7 @@ pub record SeenPlayable : Type 0 where
 
 abbrev pub playable : Play → List (List ℕ) → Part SeenPlayable
 playable p (svf ∷ icl ∷ device ∷ tables ∷ []) = do
-  modules ← icl_text icl
+  modules ← chip_texts icl device
   commands ← svf_text svf
   design ← first_design p icl device tables
   give (record { design = design; commands = commands })

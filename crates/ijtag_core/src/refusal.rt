@@ -19,6 +19,8 @@ pub(crate) enum Stage {
     File,
     /// The network's text is read (IEEE 1687-2014, ICL).
     Icl,
+    /// The device's text is read (IEEE 1149.1-2013).
+    Device,
     /// The text that is played is read (Serial Vector Format, revision E).
     Svf,
     /// The procedures' text is read (IEEE 1687-2014, PDL level 0).
@@ -36,6 +38,7 @@ impl Stage {
         match self {
             Stage::File => b"file",
             Stage::Icl => b"icl",
+            Stage::Device => b"device",
             Stage::Svf => b"svf",
             Stage::Pdl => b"pdl",
             Stage::Core => b"core",

@@ -169,6 +169,39 @@ fn other_names_and_a_long_file_are_refused(rt: HostRuntime) -> Result<(), Fail> 
     Ok(())
 }
 
+// The device text comes behind the ICL text, and in front of the SVF text and the first form.
+#[test]
+fn refused_devices_tell_why(rt: HostRuntime) -> Result<(), Fail> {
+    let alloc = rt.alloc();
+    let rows: [(&[u8], &[u8], &[u8]); 4] = [
+        (
+            b"Module chip { }",
+            b"device 1\nir 8\nlink tap IJTAG FF\n",
+            b"refused device OpcodeOnes 3:1\n",
+        ),
+        (
+            b"Module chip { }",
+            b"device 1\nir 8\nlink tap IJTAG 100\n",
+            b"refused device OpcodeWide 3:1\n",
+        ),
+        (ICL, b"", b"refused device DevSyntax 1:1\n"),
+        (b"Module a { /* x", b"", b"refused icl OpenComment 1:12\n"),
+    ];
+    for words in [compile_words(alloc)?, play_words(alloc)?] {
+        for (icl, device, said) in rows {
+            let mut shelf = shelf_to_play(alloc, b"x", TABLES)?;
+            shelf.put_file("a.icl", icl)?;
+            shelf.put_file("a.dev", device)?;
+            let mut out = MemSink::new(alloc);
+            let mut err = MemSink::new(alloc);
+            let status = ijtag(alloc, &words, &mut shelf, &mut out, &mut err);
+            assert_eq!(rt; status, Status::Refused);
+            assert_eq!(rt; err.bytes(), said);
+        }
+    }
+    Ok(())
+}
+
 // Each write of the error stream fails once, at each command: the status is that of the refusal, and what the stream took is a first
 // part of its line.
 #[test]

@@ -62,6 +62,7 @@ fn read_modules(alloc: Global, text: &[u8], tokens: &List<Token>) -> Result<Desi
 }
 
 /// The design of an ICL text (IEEE 1687-2014, the part that is read here). Where it isn't one, the fault says where and why.
+#[tactic(auto, unfolding(crate::specs::IclText::icl_text))]
 pub(crate) fn read_icl(alloc: Global, text: &[u8]) -> Result<Design, StageFault>
     requires { length text.now ≤ 134217728 }
     ensures { Follows (icl_text text.now) seen_design result }
