@@ -1,8 +1,9 @@
 pub mod Told
-pub mod SourceStops
+pub mod Printed
+pub mod Faults
+pub mod Loading
 pub mod Begun
-pub mod Compiling
-pub mod Complete
-pub mod Playing
+pub mod Ends
 pub mod Verdicts
-pub mod IclStops
+pub mod Deciding
+pub mod Statuses

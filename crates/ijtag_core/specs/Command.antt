@@ -1,5 +1,6 @@
--- The words that the program is called with, and the files that it then loads.
-use Rattle.std.specs.Prelude.{ℕ, true, false, List, [], ◌∷◌, Option, Some, None, map, codes}
+-- The words that the program is called with, and the files that a command loads and writes.
+use Rattle.std.specs.Prelude.{◌≡◌, ◌≢◌, ◌⊎◌, ℕ, Bool, true, false, List, [], ◌∷◌, Option, Some, None, map, codes}
+use Rattle.std.specs.Option.{option_map_or}
 use Rattle.std.specs.Str.{bytes_eq}
 use Rattle.std.specs.String.{string_bytes}
 use Rattle.std.specs.declared.string.String.{String}
@@ -23,8 +24,8 @@ pub record Play : Type 0 where
   pub top : List ℕ
 
 pub data Command : Type 0 where
-  Compiles : (files : Compile) → Command
-  Plays : (files : Play) → Command
+  Compiles : (words : Compile) → Command
+  Plays : (words : Play) → Command
 
 -- exactly seven words, of which the first is `compile`, or exactly six, of which the first is `play`
 abbrev pub command_of : List (List ℕ) → Option Command
@@ -37,6 +38,8 @@ command_of _ = None
 -- the command that the words of the command line are, where they are one
 abbrev pub command_in : List (String Global) → Option Command
 command_in words = command_of (map string_bytes words)
+
+-- ---- files that are loaded
 
 -- a file that is loaded, and how many bytes it may have
 pub record Load : Type 0 where
@@ -51,16 +54,48 @@ abbrev pub svf_file : List ℕ → Load
 svf_file name = record { name = name; limit = 134217728 }
 
 abbrev pub compile_loads : Compile → List Load
-compile_loads command = source command.icl ∷ source command.pdl ∷ source command.device ∷ []
+compile_loads c = source c.icl ∷ source c.pdl ∷ source c.device ∷ []
 
 abbrev pub play_loads : Play → List Load
-play_loads command = svf_file command.svf ∷ source command.icl ∷ source command.device ∷ source command.tables ∷ []
+play_loads p = svf_file p.svf ∷ source p.icl ∷ source p.device ∷ source p.tables ∷ []
 
 -- the files that are loaded, in this order
 abbrev pub loads : Command → List Load
-loads (Compiles command) = compile_loads command
-loads (Plays command) = play_loads command
+loads (Compiles c) = compile_loads c
+loads (Plays p) = play_loads p
 
 abbrev pub names_of : List Load → List (List ℕ)
 names_of [] = []
 names_of (load ∷ loads) = load.name ∷ names_of loads
+
+-- ---- what is written
+
+-- the files that are written, in this order
+abbrev pub writes : Command → List (List ℕ)
+writes (Compiles c) = c.svf ∷ []
+writes (Plays p) = []
+
+-- whether the command prints on the output
+abbrev pub prints : Command → Bool
+prints (Compiles c) = false
+prints (Plays p) = true
+
+-- without a command nothing is loaded, written or printed
+abbrev pub loads_in : Option Command → List (List ℕ)
+loads_in words = option_map_or (λ command. names_of (loads command)) words []
+
+abbrev pub writes_in : Option Command → List (List ℕ)
+writes_in words = option_map_or writes words []
+
+abbrev pub prints_in : Option Command → Bool
+prints_in words = option_map_or prints words false
+
+-- ---- names in a list
+
+abbrev pub IsOneOf : List (List ℕ) → List ℕ → Type 0
+IsOneOf [] name = ⊥
+IsOneOf (n ∷ ns) name = (name ≡ n) ⊎ IsOneOf ns name
+
+abbrev pub IsNoneOf : List (List ℕ) → List ℕ → Type 0
+IsNoneOf [] name = Unit {0}
+IsNoneOf (n ∷ ns) name = (name ≢ n) × IsNoneOf ns name

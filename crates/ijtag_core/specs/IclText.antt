@@ -1,36 +1,47 @@
--- What an ICL text is, and where one is at fault (IEEE 1687-2014, the part that is read here).
-use Rattle.std.specs.Prelude.{◌≡◌, ℕ, List}
-use Rattle.ij_bits.specs.Room.{Listed}
-use Rattle.ij_text.specs.declared.Place.{Place}
+-- The stage of the ICL text: its tokens, and the modules that the grammar makes of them (IEEE 1687-2014, the part that is read here).
+use Rattle.std.specs.Prelude.{◌≡◌, ℕ, List, Option, Some, None, codes}
 use Rattle.icl_lexer.specs.declared.token.Token.{Token}
-use Rattle.icl_lexer.specs.declared.fault.LexFault.TheVariants.{BadByte as LexBadByte, OpenComment as LexOpenComment, OpenText as LexOpenText}
+use Rattle.icl_lexer.specs.declared.fault.LexFault.{LexFault}
+use Rattle.icl_lexer.specs.declared.fault.LexFault.TheVariants.{BadByte, OpenComment, OpenText, OutOfMemory as NoMemoryForTokens}
 use Rattle.icl_lexer.specs.Cutting.{AreTokens, HasFault}
 use Rattle.icl_syntax.specs.Modules.{design}
 use Rattle.icl_syntax.specs.Tokens.{seen_tokens}
 use Rattle.icl_syntax.specs.Values.{SeenModule}
 use Rattle.icl_parser.specs.Refusals.{IsRefused}
 use Rattle.icl_parser.specs.declared.fault.ParseFault.{ParseFault}
-use Rattle.icl_parser.specs.declared.fault.ParseFault.TheVariants.{LeftOut as ParseLeftOut, ExprLimit as ParseExprLimit, Syntax as ParseSyntax}
-use Rattle.ijtag_core.specs.Stops.{IclCause, BadByte, OpenComment, OpenText, LeftOutOfIcl, ExprLimit, Syntax}
+use Rattle.icl_parser.specs.declared.fault.ParseFault.TheVariants.{LeftOut, ExprLimit, Syntax, OutOfMemory as NoMemoryForTree}
+use Rattle.ijtag_core.specs.Work.{◌>>=◌}
+use Rattle.ijtag_core.specs.Refusals.{Part, Refusal, refused_at, refused_word}
+use Rattle.ijtag_core.specs.declared.refusal.Stage.TheVariants.{Icl}
 
--- the text is cut into tokens, of which the grammar makes a design
-abbrev pub IsIclText : List ℕ → Type 0
-IsIclText text = (tokens : List Token) × (blocks : List SeenModule) × AreTokens text tokens × design.derives (seen_tokens text tokens) blocks
+-- how a fault is told; want of memory is no refusal
+abbrev pub lex_refusal : LexFault → Option Refusal
+lex_refusal (BadByte at) = Some (refused_at Icl (codes "BadByte") at)
+lex_refusal (OpenComment at) = Some (refused_at Icl (codes "OpenComment") at)
+lex_refusal (OpenText at) = Some (refused_at Icl (codes "OpenText") at)
+lex_refusal NoMemoryForTokens = None
 
--- the text has tokens, and they leave the grammar with this fault
-abbrev pub LeavesGrammar : List ℕ → ParseFault → Type 0
-LeavesGrammar text fault = (tokens : List Token) × AreTokens text tokens × IsRefused text (seen_tokens text tokens) fault
+abbrev pub parse_refusal : ParseFault → Option Refusal
+parse_refusal (LeftOut at word) = Some (refused_word Icl (codes "LeftOut") at word.items)
+parse_refusal (ExprLimit at) = Some (refused_at Icl (codes "ExprLimit") at)
+parse_refusal (Syntax at) = Some (refused_at Icl (codes "Syntax") at)
+parse_refusal NoMemoryForTree = None
 
--- the first fault of the text, and its place
-abbrev pub IsIclFault : List ℕ → IclCause → Place → Type 0
-IsIclFault text BadByte at = HasFault text (LexBadByte at)
-IsIclFault text OpenComment at = HasFault text (LexOpenComment at)
-IsIclFault text OpenText at = HasFault text (LexOpenText at)
-IsIclFault text (LeftOutOfIcl word) at = (name : Listed ℕ) × (name.items ≡ word) × LeavesGrammar text (ParseLeftOut at name)
-IsIclFault text ExprLimit at = LeavesGrammar text (ParseExprLimit at)
-IsIclFault text Syntax at = LeavesGrammar text (ParseSyntax at)
+-- the one cutting of the text into tokens
+unfoldable pub icl_tokens : List ℕ → Part (List Token)
+icl_tokens text = record {
+  gives = λ tokens. AreTokens text tokens;
+  refuses = λ r. (fault : LexFault) × HasFault text fault × (lex_refusal fault ≡ Some r);
+}
 
--- the text isn't ICL, and this is its first fault
-pub record IsNoIcl (text : List ℕ) (cause : IclCause) (at : Place) : Type 0 where
-  pub fault : IsIclFault text cause at
-  pub no_design : ¬ IsIclText text
+-- what the grammar makes of them
+unfoldable pub icl_design : List ℕ → List Token → Part (List SeenModule)
+icl_design text tokens = record {
+  gives = λ modules. design.derives (seen_tokens text tokens) modules;
+  refuses = λ r. (fault : ParseFault) × IsRefused text (seen_tokens text tokens) fault × (parse_refusal fault ≡ Some r);
+}
+
+unfoldable pub icl_text : List ℕ → Part (List SeenModule)
+icl_text text = do
+  tokens ← icl_tokens text
+  icl_design text tokens

@@ -1,13 +1,18 @@
+-- what is promised, in the order of reading
 pub mod Command
-pub mod Stops
-pub mod Loaded
+pub mod Work
+pub mod Leaves
+pub mod Refusals
 pub mod IclText
-pub mod Accepted
-pub mod Outcome
-pub mod Codes
-pub mod Seen
-pub mod Sources
-pub mod Compiled
-pub mod Played
-pub mod Texts
+pub mod DeviceText
+pub mod ChipTexts
+pub mod SvfText
+pub mod FirstForm
+pub mod Order
+pub mod Stops
 pub mod Runs
+pub mod Headline
+pub mod Codes
+-- how the code goes
+pub mod Seen
+pub mod Follows

@@ -1,23 +1,24 @@
 //! The program as a function of its words, over any files and streams: `compile` a procedure to SVF, `play` an SVF file.
+//!
+//! A command is a file of `commands`, a stage of its work a file of `stages`. `specs/Order` has the order of work of each command,
+//! and every call below follows it.
 #![tactic(auto)]
 
-mod accept;
-mod compile;
-mod icl;
-mod limits;
+mod commands;
+mod decided;
+mod load;
 mod memory;
-mod play;
-mod playable;
 mod refusal;
 mod run;
-mod sources;
+mod stages;
 mod status;
 mod stop;
 mod top;
 mod words;
 mod write;
 
-pub use limits::{SOURCE_LIMIT, SVF_LIMIT};
+pub use decided::works_are_decided;
+pub use ij_text::{SOURCE_LIMIT, SVF_LIMIT};
 pub use memory::ijtag_in_memory;
 pub use status::Status;
 pub use top::ijtag;

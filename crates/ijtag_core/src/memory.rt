@@ -1,10 +1,13 @@
 // Runs in memory.
-ghost use Rattle.std.specs.Prelude.{◌≡◌, ◌⊎◌, IsNone, IfSome, Some};
+ghost use Rattle.std.specs.Prelude.{◌≡◌, Bool, Some, IsNone, IfSome};
+ghost use Rattle.std.specs.Bool.{OnFalse};
 ghost use Rattle.ij_io.specs.SureShelf.{sure_files_in};
-ghost use Rattle.ijtag_core.specs.Command.{command_in};
-ghost use Rattle.ijtag_core.specs.Outcome.{IsEarlyStatus};
-ghost use Rattle.ijtag_core.specs.Runs.{IsAccepted, IsFirstRefusal, IsDone, Compares, OnlySvfChanges, OnlyPlaysPrint};
-ghost use Rattle.ijtag_core.specs.Stops.{Refusal};
+ghost use Rattle.ijtag_core.specs.Command.{command_in, writes_in, prints_in};
+ghost use Rattle.ijtag_core.specs.Headline.{IfCompiles, IsRetargeted};
+ghost use Rattle.ijtag_core.specs.Leaves.{Leaves};
+ghost use Rattle.ijtag_core.specs.Order.{work};
+ghost use Rattle.ijtag_core.specs.Refusals.{Refusal};
+ghost use Rattle.ijtag_core.specs.Runs.{IsDone, OnlyTheseChange, IsOrMemory, IsEarlyStatus, status_if};
 
 use crate::{Status, ijtag};
 use ij_io::{SureShelf, SureSink};
@@ -19,17 +22,22 @@ pub fn ijtag_in_memory(
     out: &mut SureSink,
     err: &mut SureSink,
 ) -> Status
-    ensures no_command { IsNone (command_in words.now.items) → (result ≡ Status.Usage) ⊎ (result ≡ Status.OutOfMemory) }
-    ensures refuses { IfSome (command_in words.now.items) (λ command. (refusal : Refusal) → IsFirstRefusal (sure_files_in shelf.old) command refusal → (result ≡ Status.Refused) ⊎ (result ≡ Status.OutOfMemory)) }
-    ensures complete { IfSome (command_in words.now.items) (λ command. IsAccepted (sure_files_in shelf.old) command → (result ≡ Status.Good) ⊎ ((result ≡ Status.Differs) ⊎ (result ≡ Status.OutOfMemory))) }
-    ensures good { result ≡ Status.Good → IfSome (command_in words.now.items) (λ command. IsDone (sure_files_in shelf.old) command Status.Good (Some (sure_files_in shelf.new)) (Some out.old) (Some out.new)) }
-    ensures differs { result ≡ Status.Differs → IfSome (command_in words.now.items) (λ command. IsDone (sure_files_in shelf.old) command Status.Differs (Some (sure_files_in shelf.new)) (Some out.old) (Some out.new)) }
-    ensures never_differs { result ≡ Status.Differs → IfSome (command_in words.now.items) Compares }
+    ensures headline { result ≡ Status.Good → IfCompiles (command_in words.now.items) (λ c.
+        IsRetargeted (Some (sure_files_in shelf.old)) c (Some (sure_files_in shelf.new c.svf))) }
+    ensures done { (differs : Bool) → result ≡ status_if differs → IfSome (command_in words.now.items) (λ command.
+        IsDone (work (Some (sure_files_in shelf.old)) command)
+        (record { files = Some (sure_files_in shelf.old); printed = Some out.old })
+        (record { files = Some (sure_files_in shelf.new); printed = Some out.new }) differs) }
+    ensures complete { IfSome (command_in words.now.items) (λ command. (leaves : Leaves)
+        → (work (Some (sure_files_in shelf.old)) command).gives leaves → IsOrMemory result (status_if leaves.differs)) }
+    ensures refuses { IfSome (command_in words.now.items) (λ command. (refusal : Refusal)
+        → (work (Some (sure_files_in shelf.old)) command).refuses refusal → IsOrMemory result Status.Refused) }
+    ensures no_command { IsNone (command_in words.now.items) → IsOrMemory result Status.Usage }
+    ensures err_stays { (differs : Bool) → result ≡ status_if differs → err.new ≡ err.old }
     ensures same_files { IsEarlyStatus result → Some (sure_files_in shelf.new) ≡ Some (sure_files_in shelf.old) }
     ensures same_output { IsEarlyStatus result → out.new ≡ out.old }
-    ensures others { OnlySvfChanges (command_in words.now.items) (Some (sure_files_in shelf.old)) (Some (sure_files_in shelf.new)) }
-    ensures out { OnlyPlaysPrint (command_in words.now.items) out.old out.new }
-    ensures quiet { (result ≡ Status.Good) ⊎ (result ≡ Status.Differs) → err.new ≡ err.old }
+    ensures only_its_files_change { OnlyTheseChange (writes_in (command_in words.now.items)) (Some (sure_files_in shelf.old)) (Some (sure_files_in shelf.new)) }
+    ensures only_plays_print { OnFalse (prints_in (command_in words.now.items)) (out.new ≡ out.old) }
 {
     ijtag(alloc, words, shelf, out, err)
 }

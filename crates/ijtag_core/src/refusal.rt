@@ -1,261 +1,228 @@
 // What a file or a text is refused for, and the line that tells it.
-ghost use Rattle.std.specs.Prelude.{◌≡◌, Some, None, OnOk, OnErr, option_map};
+ghost use Rattle.std.specs.Prelude.{◌≡◌, ◌∷◌, [], ◌++◌, OnOk, OnErr, IfOk, Some, codes, map};
+ghost use Rattle.std.specs.List.{flat_map};
 ghost use Rattle.ij_io.specs.Bytes.{Adds, AddsPart};
 ghost use Rattle.ij_io.specs.Causes.{HasCause};
-ghost use Rattle.ijtag_core.specs.Stops.{refusal_text, named_line, unapplied_text, located_line, svf_cause, svf_word, svf_line, icl_cause, icl_word, icl_line};
-ghost use Rattle.ijtag_core.specs.Seen.{seen_cause, seen_icl_cause, seen_refusal};
+ghost use Rattle.ijtag_core.specs.Refusals.{refused, refused_at, refused_name, refused_word, stage_name, arg_text, head_text, refusal_text, Said};
+ghost use Rattle.ijtag_core.specs.Seen.{seen_arg, seen_refusal};
+ghost use Rattle.ijtag_core.specs.Follows.{IsToldAs};
 
+use ij_bits::{List, OutOfMemory};
 use ij_io::{Sink, StoreFault, Word, put_words};
-use ij_text::{Name, Place};
+use ij_text::{Place, Text, name_of};
+use std::alloc::Global;
 
-/// Why a command of an SVF text is refused (Serial Vector Format, revision E).
-#[derive(Drop)]
-pub(crate) enum SvfCause {
-    /// A command of SVF that isn't read here, with its first word.
-    LeftOut(Name),
-    /// The command doesn't fit the grammar.
-    Syntax,
-    /// Too many bits, or too many clocks.
-    Limit,
-    /// A 1 above the scan's length.
-    HexWide,
-    /// No TDI, and none that holds.
-    TdiMissing,
+/// The part of the work that refuses.
+#[derive(Clone, Copy, PartialEq, Eq, Debug)]
+pub(crate) enum Stage {
+    /// A file is loaded.
+    File,
+    /// The network's text is read (IEEE 1687-2014, ICL).
+    Icl,
+    /// The device's text is read (IEEE 1149.1-2013).
+    Device,
+    /// The text that is played is read (Serial Vector Format, revision E).
+    Svf,
+    /// The procedures' text is read (IEEE 1687-2014, PDL level 0).
+    Pdl,
+    /// The chip isn't of the one kind that is compiled and played so far.
+    Core,
 }
 
-impl SvfCause {
+impl Stage {
     /// The name that is printed.
-    #[tactic(auto, unfolding(crate::specs::Stops::svf_cause))]
-    fn name(&self) -> &'static [u8]
-        ensures { result.now ≡ svf_cause (seen_cause self.now) }
+    #[tactic(auto, unfolding(crate::specs::Refusals::stage_name))]
+    fn name(self) -> &'static [u8]
+        ensures { result.now ≡ stage_name self }
     {
         match self {
-            SvfCause::LeftOut(_) => b"LeftOut",
-            SvfCause::Syntax => b"SvfSyntax",
-            SvfCause::Limit => b"SvfLimit",
-            SvfCause::HexWide => b"HexWide",
-            SvfCause::TdiMissing => b"TdiMissing",
-        }
-    }
-
-    /// The word that is printed behind the place.
-    fn word(&self) -> Option<&[u8]>
-        ensures { option_map (λ word. word.now) result ≡ svf_word (seen_cause self.now) }
-    {
-        match self {
-            SvfCause::LeftOut(word) => Some(word.as_slice()),
-            SvfCause::Syntax => None,
-            SvfCause::Limit => None,
-            SvfCause::HexWide => None,
-            SvfCause::TdiMissing => None,
+            Stage::File => b"file",
+            Stage::Icl => b"icl",
+            Stage::Device => b"device",
+            Stage::Svf => b"svf",
+            Stage::Pdl => b"pdl",
+            Stage::Core => b"core",
         }
     }
 }
 
-/// Why an ICL text is refused (IEEE 1687-2014).
+/// What stands behind the cause of a refusal.
 #[derive(Drop)]
-pub(crate) enum IclCause {
-    /// A byte begins no token.
-    BadByte,
-    /// A comment has no end.
-    OpenComment,
-    /// A quoted text has no end.
-    OpenText,
-    /// A word of ICL that isn't read here.
-    LeftOut(Name),
-    /// Too many parentheses inside one another, or too many operators.
-    ExprLimit,
-    /// Any other token that doesn't fit.
-    Syntax,
-}
-
-impl IclCause {
-    /// The name that is printed.
-    #[tactic(auto, unfolding(crate::specs::Stops::icl_cause))]
-    fn name(&self) -> &'static [u8]
-        ensures { result.now ≡ icl_cause (seen_icl_cause self.now) }
-    {
-        match self {
-            IclCause::BadByte => b"BadByte",
-            IclCause::OpenComment => b"OpenComment",
-            IclCause::OpenText => b"OpenText",
-            IclCause::LeftOut(_) => b"LeftOut",
-            IclCause::ExprLimit => b"ExprLimit",
-            IclCause::Syntax => b"Syntax",
-        }
-    }
-
-    /// The word that is printed behind the place.
-    fn word(&self) -> Option<&[u8]>
-        ensures { option_map (λ word. word.now) result ≡ icl_word (seen_icl_cause self.now) }
-    {
-        match self {
-            IclCause::LeftOut(word) => Some(word.as_slice()),
-            IclCause::BadByte => None,
-            IclCause::OpenComment => None,
-            IclCause::OpenText => None,
-            IclCause::ExprLimit => None,
-            IclCause::Syntax => None,
-        }
-    }
+pub(crate) enum Arg {
+    /// A place of the stage's text, as `L:C`.
+    At(Place),
+    /// A number, in decimal digits.
+    Num(u64),
+    /// A name or a word, as it stands.
+    Said(Text),
 }
 
 /// What a file or a text is refused for.
 #[derive(Drop)]
-pub(crate) enum Refusal<'a> {
-    /// A file that is above its limit.
-    Long(&'a str),
-    /// The texts, the top module or the procedure aren't the first form.
-    FirstForm,
-    /// The first iWrite or iRead that no iApply follows stands on this line, counted from 1.
-    Unapplied(u32),
-    /// The fault of an ICL text, and its place.
-    Icl(IclCause, Place),
-    /// The first command at fault of an SVF text, and the place of its first byte.
-    Svf(SvfCause, Place),
+pub(crate) struct Refusal {
+    /// The stage that refuses.
+    pub stage: Stage,
+    /// The cause, as it is printed.
+    pub kind: &'static [u8],
+    /// What stands behind it, in the order in which it is printed.
+    pub args: List<Arg>,
 }
 
-/// Prints a name behind a text, on a line of its own.
-#[tactic(auto, unfolding(ij_io::specs::Words::words_text))]
-pub(crate) fn put_named<'a, K: Sink>(
-    text: &'a [u8],
-    name: &'a str,
-    k: &mut K,
-) -> Result<(), StoreFault>
-    ensures whole { OnOk result (Adds (K.taken k.old) (K.taken k.new) (named_line text.now name.now)) }
-    ensures part { OnErr result (AddsPart (K.taken k.old) (K.taken k.new) (named_line text.now name.now)) }
-    ensures cause { HasCause (K.faults k.old) (K.faults k.new) result StoreFault.Failed }
-{
-    put_words(
-        k,
-        &[
-            Word::Text(text),
-            Word::Text(name.as_bytes()),
-            Word::Text(b"\n"),
-        ],
-    )
+/// Why a stage gives nothing.
+#[derive(Drop)]
+pub(crate) enum StageFault {
+    /// It refuses.
+    Refused(Refusal),
+    /// There was no memory.
+    OutOfMemory,
 }
 
-/// Prints the line of a command that no iApply follows. Its column is 3, behind two spaces.
-#[tactic(auto, unfolding(ij_io::specs::Words::words_text))]
-fn put_unapplied<K: Sink>(line: u32, k: &mut K) -> Result<(), StoreFault>
-    ensures whole { OnOk result (Adds (K.taken k.old) (K.taken k.new) (unapplied_text line)) }
-    ensures part { OnErr result (AddsPart (K.taken k.old) (K.taken k.new) (unapplied_text line)) }
-    ensures cause { HasCause (K.faults k.old) (K.faults k.new) result StoreFault.Failed }
+/// A list of one argument.
+fn one(alloc: Global, arg: Arg) -> Result<List<Arg>, OutOfMemory>
+    ensures { IfOk result (λ args. args.items ≡ arg ∷ []) }
 {
-    put_words(
-        k,
-        &[
-            Word::Text(b"refused pdl Unapplied "),
-            Word::Number(line as u64),
-            Word::Text(b":3\n"),
-        ],
-    )
+    let mut args = List::new(alloc);
+    args.push(arg)?;
+    Ok(args)
 }
 
-/// Prints the line of a refused text that tells a word.
-#[tactic(auto, unfolding(ij_io::specs::Words::words_text, crate::specs::Stops::located_line, crate::specs::Stops::line_end))]
-fn put_told<'a, K: Sink>(
-    stage: &'a [u8],
-    cause: &'a [u8],
-    at: Place,
-    word: &'a [u8],
-    k: &mut K,
-) -> Result<(), StoreFault>
-    ensures whole { OnOk result (Adds (K.taken k.old) (K.taken k.new) (located_line stage.now cause.now at (Some word.now))) }
-    ensures part { OnErr result (AddsPart (K.taken k.old) (K.taken k.new) (located_line stage.now cause.now at (Some word.now))) }
-    ensures cause { HasCause (K.faults k.old) (K.faults k.new) result StoreFault.Failed }
+/// A list of two arguments.
+fn two(alloc: Global, first: Arg, second: Arg) -> Result<List<Arg>, OutOfMemory>
+    ensures { IfOk result (λ args. args.items ≡ first ∷ second ∷ []) }
 {
-    put_words(
-        k,
-        &[
-            Word::Text(stage),
-            Word::Text(cause),
-            Word::Text(b" "),
-            Word::Number(at.line as u64),
-            Word::Text(b":"),
-            Word::Number(at.col as u64),
-            Word::Text(b" "),
-            Word::Text(word),
-            Word::Text(b"\n"),
-        ],
-    )
+    let mut args = List::new(alloc);
+    args.push(first)?;
+    args.push(second)?;
+    Ok(args)
 }
 
-/// Prints the line of a refused text that tells no word.
-#[tactic(auto, unfolding(ij_io::specs::Words::words_text, crate::specs::Stops::located_line, crate::specs::Stops::line_end))]
-fn put_untold<'a, K: Sink>(
-    stage: &'a [u8],
-    cause: &'a [u8],
-    at: Place,
-    k: &mut K,
-) -> Result<(), StoreFault>
-    ensures whole { OnOk result (Adds (K.taken k.old) (K.taken k.new) (located_line stage.now cause.now at None)) }
-    ensures part { OnErr result (AddsPart (K.taken k.old) (K.taken k.new) (located_line stage.now cause.now at None)) }
-    ensures cause { HasCause (K.faults k.old) (K.faults k.new) result StoreFault.Failed }
+/// A refusal with nothing behind its cause. Takes no memory.
+pub(crate) fn refused(alloc: Global, stage: Stage, kind: &'static [u8]) -> StageFault
+    ensures { IsToldAs (Some (refused stage kind.now)) result }
 {
-    put_words(
-        k,
-        &[
-            Word::Text(stage),
-            Word::Text(cause),
-            Word::Text(b" "),
-            Word::Number(at.line as u64),
-            Word::Text(b":"),
-            Word::Number(at.col as u64),
-            Word::Text(b"\n"),
-        ],
-    )
+    let args = List::new(alloc);
+    StageFault::Refused(Refusal { stage, kind, args })
 }
 
-/// Prints the line of a refused text.
-fn put_located<K: Sink>(
-    stage: &[u8],
-    cause: &[u8],
-    at: Place,
-    word: Option<&[u8]>,
-    k: &mut K,
-) -> Result<(), StoreFault>
-    ensures whole { OnOk result (Adds (K.taken k.old) (K.taken k.new) (located_line stage.now cause.now at (option_map (λ w. w.now) word.entry))) }
-    ensures part { OnErr result (AddsPart (K.taken k.old) (K.taken k.new) (located_line stage.now cause.now at (option_map (λ w. w.now) word.entry))) }
-    ensures cause { HasCause (K.faults k.old) (K.faults k.new) result StoreFault.Failed }
+/// A refusal that tells a place.
+pub(crate) fn refused_at(alloc: Global, stage: Stage, kind: &'static [u8], at: Place) -> StageFault
+    ensures { IsToldAs (Some (refused_at stage kind.now at)) result }
 {
-    match word {
-        Some(word) => put_told(stage, cause, at, word, k),
-        None => put_untold(stage, cause, at, k),
+    match one(alloc, Arg::At(at)) {
+        Ok(args) => StageFault::Refused(Refusal { stage, kind, args }),
+        Err(_) => StageFault::OutOfMemory,
     }
 }
 
-/// Prints the line of a refused SVF text.
-fn put_svf_refusal<K: Sink>(cause: &SvfCause, at: Place, k: &mut K) -> Result<(), StoreFault>
-    ensures whole { OnOk result (Adds (K.taken k.old) (K.taken k.new) (svf_line (seen_cause cause.now) at)) }
-    ensures part { OnErr result (AddsPart (K.taken k.old) (K.taken k.new) (svf_line (seen_cause cause.now) at)) }
-    ensures cause { HasCause (K.faults k.old) (K.faults k.new) result StoreFault.Failed }
+/// A refusal that tells a place and a word.
+pub(crate) fn refused_word(
+    alloc: Global,
+    stage: Stage,
+    kind: &'static [u8],
+    at: Place,
+    word: Text,
+) -> StageFault
+    ensures { IsToldAs (Some (refused_word stage kind.now at word.items)) result }
 {
-    put_located(b"refused svf ", cause.name(), at, cause.word(), k)
+    match two(alloc, Arg::At(at), Arg::Said(word)) {
+        Ok(args) => StageFault::Refused(Refusal { stage, kind, args }),
+        Err(_) => StageFault::OutOfMemory,
+    }
 }
 
-/// Prints the line of a refused ICL text.
-fn put_icl_refusal<K: Sink>(cause: &IclCause, at: Place, k: &mut K) -> Result<(), StoreFault>
-    ensures whole { OnOk result (Adds (K.taken k.old) (K.taken k.new) (icl_line (seen_icl_cause cause.now) at)) }
-    ensures part { OnErr result (AddsPart (K.taken k.old) (K.taken k.new) (icl_line (seen_icl_cause cause.now) at)) }
-    ensures cause { HasCause (K.faults k.old) (K.faults k.new) result StoreFault.Failed }
+/// A list of a name.
+fn named(alloc: Global, name: &[u8]) -> Result<List<Arg>, OutOfMemory>
+    ensures { IfOk result (λ args. map seen_arg args.items ≡ Said name.now ∷ []) }
 {
-    put_located(b"refused icl ", cause.name(), at, cause.word(), k)
+    let name = name_of(alloc, name)?;
+    one(alloc, Arg::Said(name))
 }
 
-/// Prints the text of a refusal.
-#[tactic(auto, unfolding(crate::specs::Stops::refusal_text))]
-pub(crate) fn put_refusal<K: Sink>(refusal: &Refusal<'_>, k: &mut K) -> Result<(), StoreFault>
+/// A refusal that tells a name.
+pub(crate) fn refused_name(
+    alloc: Global,
+    stage: Stage,
+    kind: &'static [u8],
+    name: &[u8],
+) -> StageFault
+    ensures { IsToldAs (Some (refused_name stage kind.now name.now)) result }
+{
+    match named(alloc, name) {
+        Ok(args) => StageFault::Refused(Refusal { stage, kind, args }),
+        Err(_) => StageFault::OutOfMemory,
+    }
+}
+
+/// Prints what stands behind a cause, and a blank in front of it.
+#[tactic(auto, unfolding(ij_io::specs::Words::words_text, crate::specs::Refusals::arg_text))]
+fn put_arg<K: Sink>(arg: &Arg, k: &mut K) -> Result<(), StoreFault>
+    ensures whole { OnOk result (Adds (K.taken k.old) (K.taken k.new) (arg_text (seen_arg arg.now))) }
+    ensures part { OnErr result (AddsPart (K.taken k.old) (K.taken k.new) (arg_text (seen_arg arg.now))) }
+    ensures cause { HasCause (K.faults k.old) (K.faults k.new) result StoreFault.Failed }
+{
+    match arg {
+        Arg::At(at) => put_words(
+            k,
+            &[
+                Word::Text(b" "),
+                Word::Number(at.line as u64),
+                Word::Text(b":"),
+                Word::Number(at.col as u64),
+            ],
+        ),
+        Arg::Num(n) => put_words(k, &[Word::Text(b" "), Word::Number(*n)]),
+        Arg::Said(text) => put_words(k, &[Word::Text(b" "), Word::Text(text.as_slice())]),
+    }
+}
+
+/// Prints what stands behind a cause.
+fn put_args<K: Sink>(args: &[Arg], k: &mut K) -> Result<(), StoreFault>
+    ensures whole { OnOk result (Adds (K.taken k.old) (K.taken k.new) (flat_map (λ arg. arg_text (seen_arg arg)) args.now)) }
+    ensures part { OnErr result (AddsPart (K.taken k.old) (K.taken k.new) (flat_map (λ arg. arg_text (seen_arg arg)) args.now)) }
+    ensures cause { HasCause (K.faults k.old) (K.faults k.new) result StoreFault.Failed }
+{
+    for arg in args {
+        put_arg(arg, k)?;
+    }
+    Ok(())
+}
+
+/// Prints what stands behind a cause, and the line's end.
+fn put_behind<K: Sink>(args: &[Arg], k: &mut K) -> Result<(), StoreFault>
+    ensures whole { OnOk result (Adds (K.taken k.old) (K.taken k.new) (flat_map (λ arg. arg_text (seen_arg arg)) args.now ++ codes "\n")) }
+    ensures part { OnErr result (AddsPart (K.taken k.old) (K.taken k.new) (flat_map (λ arg. arg_text (seen_arg arg)) args.now ++ codes "\n")) }
+    ensures cause { HasCause (K.faults k.old) (K.faults k.new) result StoreFault.Failed }
+{
+    put_args(args, k)?;
+    k.write(b"\n")?;
+    Ok(())
+}
+
+/// Prints the stage and the cause of a refusal.
+#[tactic(auto, unfolding(ij_io::specs::Words::words_text, crate::specs::Refusals::head_text))]
+fn put_head<K: Sink>(stage: Stage, kind: &[u8], k: &mut K) -> Result<(), StoreFault>
+    ensures whole { OnOk result (Adds (K.taken k.old) (K.taken k.new) (head_text stage kind.now)) }
+    ensures part { OnErr result (AddsPart (K.taken k.old) (K.taken k.new) (head_text stage kind.now)) }
+    ensures cause { HasCause (K.faults k.old) (K.faults k.new) result StoreFault.Failed }
+{
+    put_words(
+        k,
+        &[
+            Word::Text(b"refused "),
+            Word::Text(stage.name()),
+            Word::Text(b" "),
+            Word::Text(kind),
+        ],
+    )
+}
+
+/// Prints the line of a refusal.
+pub(crate) fn put_refusal<K: Sink>(refusal: &Refusal, k: &mut K) -> Result<(), StoreFault>
     ensures whole { OnOk result (Adds (K.taken k.old) (K.taken k.new) (refusal_text (seen_refusal refusal.now))) }
     ensures part { OnErr result (AddsPart (K.taken k.old) (K.taken k.new) (refusal_text (seen_refusal refusal.now))) }
     ensures cause { HasCause (K.faults k.old) (K.faults k.new) result StoreFault.Failed }
 {
-    match refusal {
-        Refusal::Long(name) => put_named(b"refused file Long ", name, k),
-        Refusal::FirstForm => k.write(b"refused core FirstForm\n"),
-        Refusal::Unapplied(line) => put_unapplied(*line, k),
-        Refusal::Icl(cause, at) => put_icl_refusal(cause, *at, k),
-        Refusal::Svf(cause, at) => put_svf_refusal(cause, *at, k),
-    }
+    put_head(refusal.stage, refusal.kind, k)?;
+    put_behind(refusal.args.as_slice(), k)?;
+    Ok(())
 }

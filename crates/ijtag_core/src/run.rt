@@ -1,12 +1,16 @@
 // A run of the program.
 ghost use Rattle.std.specs.Prelude.{◌≡◌, IfOk, OnErr, OnOk, IfErr, IfSome, IsSome};
-ghost use Rattle.ijtag_core.specs.Command.{command_in};
-ghost use Rattle.ijtag_core.specs.Runs.{Run, IsDone, IsPartDone, Compares, IsRunStop, IsEarly, OnlySvfChanges, OnlyPlaysPrint};
-ghost use Rattle.ijtag_core.specs.Seen.{seen_stop, seen_verdict};
+ghost use Rattle.std.specs.Bool.{OnFalse};
+ghost use Rattle.ij_io.specs.Files.{file_at};
+ghost use Rattle.ijtag_core.specs.Command.{command_in, loads_in, writes_in, prints_in};
+ghost use Rattle.ijtag_core.specs.Headline.{IfCompiles, IsRetargeted};
+ghost use Rattle.ijtag_core.specs.Order.{work};
+ghost use Rattle.ijtag_core.specs.Runs.{IsDone, IsPartDone, IsRunStop, OnlyTheseChange, OnlyTheseRise, counts, seen};
+ghost use Rattle.ijtag_core.specs.Seen.{seen_stop, differing};
+ghost use Rattle.ijtag_core.specs.Stops.{IsEarly};
 
-use crate::Status;
-use crate::compile::compile;
-use crate::play::play;
+use crate::commands::compile::compile;
+use crate::commands::play::play;
 use crate::status::Verdict;
 use crate::stop::Stop;
 use crate::words::{CommandWords, read_words};
@@ -20,22 +24,24 @@ pub(crate) fn run<'a, S: Shelf, O: Sink>(
     shelf: &mut S,
     out: &mut O,
 ) -> Result<Verdict, Stop<'a>>
-    ensures done { IfOk result (λ verdict. IfSome (command_in words.now.items) (λ command. IfSome (S.files shelf.old) (λ f. IsDone f command (seen_verdict verdict) (S.files shelf.new) (O.taken out.old) (O.taken out.new)))) }
+    ensures done { IfOk result (λ verdict. IfSome (command_in words.now.items) (λ command. IsDone (work (S.files shelf.old) command)
+        (seen S.files O.taken shelf.old out.old) (seen S.files O.taken shelf.new out.new) (differing verdict))) }
     ensures command { OnOk result (IsSome (command_in words.now.items)) }
-    ensures compares { IfOk result (λ verdict. seen_verdict verdict ≡ Status.Differs → IfSome (command_in words.now.items) Compares) }
-    ensures stop { IfErr result (λ stop. IsRunStop (command_in words.now.items) (S.files shelf.old) (record { load = record { before = S.load_faults shelf.old; now = S.load_faults shelf.new }; store = record { before = S.store_faults shelf.old; now = S.store_faults shelf.new }; output = record { before = O.faults out.old; now = O.faults out.new } }) (seen_stop stop)) }
+    ensures headline { OnOk result (IfCompiles (command_in words.now.items) (λ c. IsRetargeted (S.files shelf.old) c (file_at (S.files shelf.new) c.svf))) }
+    ensures stop { IfErr result (λ stop. IsRunStop (command_in words.now.items) (S.files shelf.old)
+        (counts S.load_faults S.store_faults O.faults shelf.old shelf.new out.old out.new) (seen_stop stop)) }
     ensures early { IfErr result (λ stop. IsEarly (seen_stop stop) → S.files shelf.new ≡ S.files shelf.old) }
     ensures silent { IfErr result (λ stop. IsEarly (seen_stop stop) → out.new ≡ out.old) }
-    ensures part { OnErr result (IfSome (command_in words.now.items) (λ command. IfSome (S.files shelf.old) (λ f. IsPartDone f command (S.files shelf.new) (O.taken out.old) (O.taken out.new)))) }
-    ensures others { OnlySvfChanges (command_in words.now.items) (S.files shelf.old) (S.files shelf.new) }
-    ensures out { OnlyPlaysPrint (command_in words.now.items) out.old out.new }
+    ensures part { OnErr result (IfSome (command_in words.now.items) (λ command. IsPartDone (work (S.files shelf.old) command)
+        (seen S.files O.taken shelf.old out.old) (seen S.files O.taken shelf.new out.new))) }
+    ensures files { OnlyTheseChange (writes_in (command_in words.now.items)) (S.files shelf.old) (S.files shelf.new) }
+    ensures out { OnFalse (prints_in (command_in words.now.items)) (out.new ≡ out.old) }
+    ensures loads { OnlyTheseRise (loads_in (command_in words.now.items)) (S.load_faults shelf.old) (S.load_faults shelf.new) }
+    ensures stores { OnlyTheseRise (writes_in (command_in words.now.items)) (S.store_faults shelf.old) (S.store_faults shelf.new) }
 {
     match read_words(words) {
-        Some(CommandWords::Compile(command)) => {
-            compile(alloc, &command, shelf)?;
-            Ok(Verdict::Agrees)
-        }
-        Some(CommandWords::Play(command)) => play(alloc, &command, shelf, out),
+        Some(CommandWords::Compile(words)) => compile(alloc, &words, shelf, out),
+        Some(CommandWords::Play(words)) => play(alloc, &words, shelf, out),
         None => Err(Stop::Usage),
     }
 }

@@ -1,7 +1,8 @@
 // How a run ended.
 ghost use Rattle.std.specs.Prelude.{◌≡◌};
 ghost use Rattle.ijtag_core.specs.Codes.{code_of};
-ghost use Rattle.ijtag_core.specs.Seen.{seen_verdict};
+ghost use Rattle.ijtag_core.specs.Runs.{status_if};
+ghost use Rattle.ijtag_core.specs.Seen.{differing};
 
 /// How a run ended.
 #[derive(Clone, Copy, PartialEq, Eq, Debug)]
@@ -43,7 +44,7 @@ pub(crate) enum Verdict {
 impl Verdict {
     /// The status of a run that ends so.
     pub(crate) fn status(self) -> Status
-        ensures { result ≡ seen_verdict self }
+        ensures { result ≡ status_if (differing self) }
     {
         match self {
             Verdict::Agrees => Status::Good,

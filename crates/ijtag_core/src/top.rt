@@ -1,14 +1,18 @@
 // The top call.
-ghost use Rattle.std.specs.Prelude.{◌≡◌, ◌⊎◌, IsNone, IfSome, Contains, List, ℕ};
+ghost use Rattle.std.specs.Prelude.{◌≡◌, ◌⊎◌, Bool, Some, IsNone, IfSome, List, ℕ};
+ghost use Rattle.std.specs.Bool.{OnFalse};
 ghost use Rattle.ij_io.specs.Bytes.{AddsPart};
-ghost use Rattle.ij_io.specs.Causes.{Rose};
-ghost use Rattle.ijtag_core.specs.Command.{command_in, loads, names_of};
-ghost use Rattle.ijtag_core.specs.Loaded.{IsReached};
-ghost use Rattle.ijtag_core.specs.Outcome.{IsTold, SomeRose, IsEarlyStatus, IsPartStatus};
-ghost use Rattle.ijtag_core.specs.Runs.{Run, IsAccepted, IsFirstRefusal, WriteRose, write_stop, IsRunStop, IsDone, IsPartDone, Compares, OnlySvfChanges, OnlyPlaysPrint};
-ghost use Rattle.ijtag_core.specs.Stops.{Stop, Refusal, Usage, Refuses, ReadFault, stop_text};
+ghost use Rattle.ij_io.specs.Files.{file_at};
+ghost use Rattle.ijtag_core.specs.Command.{command_in, loads, loads_in, writes_in, prints_in};
+ghost use Rattle.ijtag_core.specs.Headline.{IfCompiles, IsRetargeted};
+ghost use Rattle.ijtag_core.specs.Leaves.{Leaves};
+ghost use Rattle.ijtag_core.specs.Order.{work};
+ghost use Rattle.ijtag_core.specs.Refusals.{Refusal};
+ghost use Rattle.ijtag_core.specs.Runs.{IsDone, IsPartDone, IsAccepted, IsReadFault, IsRunStop, IfTold, LoadRose, WriteRose, OnlyTheseChange, OnlyTheseRise, Tells, IsOrMemory, IsEarlyStatus, IsPartStatus, IsWriteStop, status_if, counts, seen};
+ghost use Rattle.ijtag_core.specs.Stops.{Stop, Usage, Refuses, ReadFault, stop_text};
 
 use crate::Status;
+use crate::decided::works_are_decided;
 use crate::run::run;
 use crate::stop::report;
 use ij_io::{Shelf, Sink};
@@ -31,53 +35,67 @@ pub fn ijtag<S: Shelf, O: Sink, E: Sink>(
     out: &mut O,
     err: &mut E,
 ) -> Status
+    // The headline: what a compile leaves in the SVF file does, played clock by clock, what the procedure means.
+    ensures headline { result ≡ Status.Good → IfCompiles (command_in words.now.items) (λ c.
+        IsRetargeted (S.files shelf.old) c (file_at (S.files shelf.new) c.svf)) }
+
+    // Where all of the command's work is done, and that what is accepted is done where no fault is counted.
+    ensures done { (differs : Bool) → result ≡ status_if differs
+        → IfSome (command_in words.now.items) (λ command. IsDone (work (S.files shelf.old) command)
+        (seen S.files O.taken shelf.old out.old)
+        (seen S.files O.taken shelf.new out.new) differs) }
+    ensures complete { IfTold (command_in words.now.items) (S.files shelf.old) (λ command files.
+        let c = counts S.load_faults S.store_faults O.faults shelf.old shelf.new out.old out.new in
+        (leaves : Leaves) → (work (Some files) command).gives leaves → ¬ LoadRose command c
+        → ¬ WriteRose command c → IsOrMemory result (status_if leaves.differs)) }
+    ensures err_stays { (differs : Bool) → result ≡ status_if differs → err.new ≡ err.old }
+
     // Usage exactly where the words are no command.
     ensures usage { result ≡ Status.Usage → IsNone (command_in words.now.items) }
-    ensures no_command { IsNone (command_in words.now.items) → (result ≡ Status.Usage) ⊎ (result ≡ Status.OutOfMemory) }
-    ensures told_usage { result ≡ Status.Usage → IsTold (E.taken err.old) (E.taken err.new) (E.faults err.old) (E.faults err.new) (stop_text Usage) }
+    ensures no_command { IsNone (command_in words.now.items) → IsOrMemory result Status.Usage }
+    ensures says_usage { result ≡ Status.Usage
+        → Tells E.taken E.faults err.old err.new (stop_text Usage) }
 
-    // Refused exactly at the first refusal, which is printed.
-    ensures refused { result ≡ Status.Refused → IfSome (command_in words.now.items) (λ command. (refusal : Refusal)
-        × IfSome (S.files shelf.old) (λ f. IsFirstRefusal f command refusal)
-        × IsTold (E.taken err.old) (E.taken err.new) (E.faults err.old) (E.faults err.new) (stop_text (Refuses refusal))) }
-    ensures refuses { IfSome (command_in words.now.items) (λ command. IfSome (S.files shelf.old) (λ f. (refusal : Refusal) → IsFirstRefusal f command refusal
-        → ¬ SomeRose (S.load_faults shelf.old) (S.load_faults shelf.new) (names_of (loads command))
-        → (result ≡ Status.Refused) ⊎ (result ≡ Status.OutOfMemory))) }
+    // Refused exactly at the first refusal of the command's work, which is printed.
+    ensures refused { result ≡ Status.Refused → IfSome (command_in words.now.items) (λ command.
+        (refusal : Refusal) × (work (S.files shelf.old) command).refuses refusal
+        × Tells E.taken E.faults err.old err.new (stop_text (Refuses refusal))) }
+    ensures refuses { IfTold (command_in words.now.items) (S.files shelf.old) (λ command files.
+        let c = counts S.load_faults S.store_faults O.faults shelf.old shelf.new out.old out.new in
+        (refusal : Refusal) → (work (Some files) command).refuses refusal
+        → ¬ LoadRose command c → IsOrMemory result Status.Refused) }
 
-    // ReadFault only where a load of one of the command's files failed before which none is long, WriteFault only where a write of
-    // the SVF file, or of a play's report, did.
-    ensures read_fault { result ≡ Status.ReadFault → IfSome (command_in words.now.items) (λ command. (name : List ℕ)
-        × Contains (names_of (loads command)) name × Rose (S.load_faults shelf.old name) (S.load_faults shelf.new name)
-        × IfSome (S.files shelf.old) (λ f. IsReached f (loads command) name)
-        × IsTold (E.taken err.old) (E.taken err.new) (E.faults err.old) (E.faults err.new) (stop_text (ReadFault name))) }
-    ensures write_fault { result ≡ Status.WriteFault → IfSome (command_in words.now.items) (λ command.
-        WriteRose command (record { load = record { before = S.load_faults shelf.old; now = S.load_faults shelf.new }; store = record { before = S.store_faults shelf.old; now = S.store_faults shelf.new }; output = record { before = O.faults out.old; now = O.faults out.new } })
-        × IfSome (S.files shelf.old) (λ f. IsAccepted f command)
-        × IsTold (E.taken err.old) (E.taken err.new) (E.faults err.old) (E.faults err.new) (stop_text (write_stop command))) }
+    // ReadFault only where a load failed that was come to, WriteFault only where all was accepted and a write failed.
+    ensures read_fault { result ≡ Status.ReadFault → IfSome (command_in words.now.items) (λ command.
+        (name : List ℕ) × IsReadFault (S.files shelf.old) (loads command)
+        (S.load_faults shelf.old) (S.load_faults shelf.new) name
+        × Tells E.taken E.faults err.old err.new (stop_text (ReadFault name))) }
+    ensures write_fault { result ≡ Status.WriteFault
+        → IfSome (command_in words.now.items) (λ command.
+        let c = counts S.load_faults S.store_faults O.faults shelf.old shelf.new out.old out.new in
+        (stop : Stop) × IsAccepted (S.files shelf.old) command × IsWriteStop command c stop
+        × Tells E.taken E.faults err.old err.new (stop_text stop)) }
 
-    // The headline: what was accepted is in the SVF file, whose play does what the procedure means; or it was played, and the report
-    // is that of the SVF file's own bytes.
-    ensures good { result ≡ Status.Good → IfSome (command_in words.now.items) (λ command. IfSome (S.files shelf.old) (λ f. IsDone f command Status.Good (S.files shelf.new) (O.taken out.old) (O.taken out.new))) }
-    ensures differs { result ≡ Status.Differs → IfSome (command_in words.now.items) (λ command. IfSome (S.files shelf.old) (λ f. IsDone f command Status.Differs (S.files shelf.new) (O.taken out.old) (O.taken out.new))) }
-    ensures never_differs { result ≡ Status.Differs → IfSome (command_in words.now.items) Compares }
-    ensures quiet { (result ≡ Status.Good) ⊎ (result ≡ Status.Differs) → err.new ≡ err.old }
-
-    // What is accepted is done, where no fault is counted.
-    ensures complete { IfSome (command_in words.now.items) (λ command. IfSome (S.files shelf.old) (λ f. IsAccepted f command
-        → ¬ SomeRose (S.load_faults shelf.old) (S.load_faults shelf.new) (names_of (loads command))
-        → ¬ WriteRose command (record { load = record { before = S.load_faults shelf.old; now = S.load_faults shelf.new }; store = record { before = S.store_faults shelf.old; now = S.store_faults shelf.new }; output = record { before = O.faults out.old; now = O.faults out.new } })
-        → (result ≡ Status.Good) ⊎ ((result ≡ Status.Differs) ⊎ (result ≡ Status.OutOfMemory)))) }
-
-    // Files and streams stay, but for the SVF file of a compile, the output of a play, and the error stream.
-    ensures same_files { IsEarlyStatus result → S.files shelf.new ≡ S.files shelf.old }
-    ensures same_output { IsEarlyStatus result → out.new ≡ out.old }
-    ensures part { IsPartStatus result → IfSome (command_in words.now.items) (λ command. IfSome (S.files shelf.old) (λ f. IsPartDone f command (S.files shelf.new) (O.taken out.old) (O.taken out.new))) }
-    ensures others { OnlySvfChanges (command_in words.now.items) (S.files shelf.old) (S.files shelf.new) }
-    ensures out { OnlyPlaysPrint (command_in words.now.items) out.old out.new }
-    ensures told_part { result ≡ Status.OutOfMemory → (stop : Stop)
-        × IsRunStop (command_in words.now.items) (S.files shelf.old) (record { load = record { before = S.load_faults shelf.old; now = S.load_faults shelf.new }; store = record { before = S.store_faults shelf.old; now = S.store_faults shelf.new }; output = record { before = O.faults out.old; now = O.faults out.new } }) stop
+    // Nothing changes before all is accepted, then a first part of what the command leaves, and never anything else.
+    ensures nothing_changes { IsEarlyStatus result
+        → (S.files shelf.new ≡ S.files shelf.old) × (out.new ≡ out.old) }
+    ensures part { IsPartStatus result → IfSome (command_in words.now.items) (λ command.
+        IsPartDone (work (S.files shelf.old) command)
+        (seen S.files O.taken shelf.old out.old) (seen S.files O.taken shelf.new out.new)) }
+    ensures says_part { result ≡ Status.OutOfMemory → (stop : Stop)
+        × IsRunStop (command_in words.now.items) (S.files shelf.old)
+        (counts S.load_faults S.store_faults O.faults shelf.old shelf.new out.old out.new) stop
         × AddsPart (E.taken err.old) (E.taken err.new) (stop_text stop) }
+    ensures only_its_files_change { OnlyTheseChange (writes_in (command_in words.now.items))
+        (S.files shelf.old) (S.files shelf.new) }
+    ensures only_plays_print { OnFalse (prints_in (command_in words.now.items))
+        (out.new ≡ out.old) }
+    ensures only_its_loads_fail { OnlyTheseRise (loads_in (command_in words.now.items))
+        (S.load_faults shelf.old) (S.load_faults shelf.new) }
+    ensures only_its_stores_fail { OnlyTheseRise (writes_in (command_in words.now.items))
+        (S.store_faults shelf.old) (S.store_faults shelf.new) }
 {
+    works_are_decided();
     match run(alloc, words, shelf, out) {
         Ok(verdict) => verdict.status(),
         Err(stop) => report(&stop, err),

@@ -1,7 +1,9 @@
 // The words that the program is called with.
-ghost use Rattle.std.specs.Prelude.{◌≡◌, option_map};
-ghost use Rattle.ijtag_core.specs.Command.{command_in};
-ghost use Rattle.ijtag_core.specs.Seen.{seen_command};
+ghost use Rattle.std.specs.Prelude.{◌≡◌, map, option_map};
+ghost use Rattle.ijtag_core.specs.Command.{command_in, compile_loads, play_loads};
+ghost use Rattle.ijtag_core.specs.Seen.{seen_command, seen_compile, seen_play, seen_load};
+
+use crate::load::Load;
 
 /// The words of `compile ICL PDL DEVICE TOP PROC SVF`.
 #[derive(Clone, Copy)]
@@ -20,6 +22,19 @@ pub(crate) struct CompileWords<'a> {
     pub svf: &'a str,
 }
 
+impl<'a> CompileWords<'a> {
+    /// The files that are loaded, in this order.
+    pub(crate) fn loads(&self) -> [Load<'a>; 3]
+        ensures { map seen_load result ≡ compile_loads (seen_compile self.now) }
+    {
+        [
+            Load::Source(self.icl),
+            Load::Source(self.pdl),
+            Load::Source(self.device),
+        ]
+    }
+}
+
 /// The words of `play SVF ICL DEVICE TABLES TOP`.
 #[derive(Clone, Copy)]
 pub(crate) struct PlayWords<'a> {
@@ -33,6 +48,20 @@ pub(crate) struct PlayWords<'a> {
     pub tables: &'a str,
     /// The top module's name.
     pub top: &'a str,
+}
+
+impl<'a> PlayWords<'a> {
+    /// The files that are loaded, in this order.
+    pub(crate) fn loads(&self) -> [Load<'a>; 4]
+        ensures { map seen_load result ≡ play_loads (seen_play self.now) }
+    {
+        [
+            Load::Svf(self.svf),
+            Load::Source(self.icl),
+            Load::Source(self.device),
+            Load::Source(self.tables),
+        ]
+    }
 }
 
 /// The words of a command.

@@ -169,18 +169,84 @@ fn other_names_and_a_long_file_are_refused(rt: HostRuntime) -> Result<(), Fail> 
     Ok(())
 }
 
+// The device text comes behind the ICL text, and in front of the SVF text and the first form.
+#[test]
+fn refused_devices_tell_why(rt: HostRuntime) -> Result<(), Fail> {
+    let alloc = rt.alloc();
+    let rows: [(&[u8], &[u8], &[u8]); 4] = [
+        (
+            b"Module chip { }",
+            b"device 1\nir 8\nlink tap IJTAG FF\n",
+            b"refused device OpcodeOnes 3:1\n",
+        ),
+        (
+            b"Module chip { }",
+            b"device 1\nir 8\nlink tap IJTAG 100\n",
+            b"refused device OpcodeWide 3:1\n",
+        ),
+        (ICL, b"", b"refused device DevSyntax 1:1\n"),
+        (b"Module a { /* x", b"", b"refused icl OpenComment 1:12\n"),
+    ];
+    for words in [compile_words(alloc)?, play_words(alloc)?] {
+        for (icl, device, said) in rows {
+            let mut shelf = shelf_to_play(alloc, b"x", TABLES)?;
+            shelf.put_file("a.icl", icl)?;
+            shelf.put_file("a.dev", device)?;
+            let mut out = MemSink::new(alloc);
+            let mut err = MemSink::new(alloc);
+            let status = ijtag(alloc, &words, &mut shelf, &mut out, &mut err);
+            assert_eq!(rt; status, Status::Refused);
+            assert_eq!(rt; err.bytes(), said);
+        }
+    }
+    Ok(())
+}
+
+// Each write of the error stream fails once, at each command: the status is that of the refusal, and what the stream took is a first
+// part of its line.
 #[test]
 fn a_fault_of_the_error_stream_changes_no_status(rt: HostRuntime) -> Result<(), Fail> {
     let alloc = rt.alloc();
-    let words = compile_words(alloc)?;
-    for (icl, status) in [(b"".as_slice(), Status::Refused), (ICL, Status::Good)] {
-        let mut shelf = shelf_with(alloc, PDL)?;
-        shelf.put_file("a.icl", icl)?;
+    let line = b"refused icl Syntax 1:28\n".as_slice();
+    for words in [compile_words(alloc)?, play_words(alloc)?] {
+        let mut failed = 0u32;
+        for call in 1..20u32 {
+            let mut shelf = shelf_to_play(alloc, SVF, TABLES)?;
+            shelf.put_file("a.icl", b"Module chip { ScanRegister }")?;
+            let mut out = MemSink::new(alloc);
+            let mut err = MemSink::new(alloc);
+            err.fail_at(&[call])?;
+            let ended = ijtag(alloc, &words, &mut shelf, &mut out, &mut err);
+            assert_eq!(rt; ended, Status::Refused);
+            if err.bytes() != line {
+                failed = call;
+            }
+            assert!(rt; line.starts_with(err.bytes()));
+            assert_eq!(rt; out.bytes(), b"".as_slice());
+        }
+        assert!(rt; failed >= 2);
+        assert!(rt; failed < 19);
+    }
+    Ok(())
+}
+
+// A compile prints nothing and a play writes no file, so a fault there is never met.
+#[test]
+fn what_a_command_does_not_use_cannot_stop_it(rt: HostRuntime) -> Result<(), Fail> {
+    let alloc = rt.alloc();
+    let none: &[u32] = &[];
+    for (words, of_shelf, of_output) in [
+        (compile_words(alloc)?, none, [1u32].as_slice()),
+        (play_words(alloc)?, [5u32, 6].as_slice(), none),
+    ] {
+        let mut shelf = shelf_to_play(alloc, SVF, TABLES)?;
+        shelf.fail_at(of_shelf)?;
         let mut out = MemSink::new(alloc);
+        out.fail_at(of_output)?;
         let mut err = MemSink::new(alloc);
         err.fail_at(&[1])?;
         let ended = ijtag(alloc, &words, &mut shelf, &mut out, &mut err);
-        assert_eq!(rt; ended, status);
+        assert_eq!(rt; ended, Status::Good);
         assert_eq!(rt; err.bytes(), b"".as_slice());
     }
     Ok(())

@@ -1,0 +1,21 @@
+-- The stage of the device's text (IEEE 1149.1-2013; IEEE 1687-2014, ICL: AccessLink).
+use Rattle.std.specs.Prelude.{◌≡◌, ℕ, List, Option, Some, None, Ok, Err, codes}
+use Rattle.bench_file.specs.Device.{SeenDevice, device}
+use Rattle.bench_file.specs.declared.fault.DeviceFault.{DeviceFault}
+use Rattle.bench_file.specs.declared.fault.DeviceFault.TheVariants.{DevSyntax, OpcodeWide, OpcodeOnes, OpcodeTwice, OutOfMemory}
+use Rattle.ijtag_core.specs.Refusals.{Part, Refusal, refused_at}
+use Rattle.ijtag_core.specs.declared.refusal.Stage.TheVariants.{Device}
+
+-- how a fault is told; want of memory is no refusal
+abbrev pub device_fault : DeviceFault → Option Refusal
+device_fault (DevSyntax at) = Some (refused_at Device (codes "DevSyntax") at)
+device_fault (OpcodeWide at) = Some (refused_at Device (codes "OpcodeWide") at)
+device_fault (OpcodeOnes at) = Some (refused_at Device (codes "OpcodeOnes") at)
+device_fault (OpcodeTwice at) = Some (refused_at Device (codes "OpcodeTwice") at)
+device_fault OutOfMemory = None
+
+unfoldable pub device_text : List ℕ → Part SeenDevice
+device_text text = record {
+  gives = λ of. device text ≡ Ok of;
+  refuses = λ r. (fault : DeviceFault) × (device text ≡ Err fault) × (device_fault fault ≡ Some r);
+}

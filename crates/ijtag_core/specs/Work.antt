@@ -1,0 +1,33 @@
+-- Work that is done in order: each part gives a value to the next one, or refuses, and then nothing more is done.
+use Rattle.std.specs.Prelude.{◌≡◌, ◌⊎◌}
+
+-- what a part may give, and what it may refuse for
+pub record Work (R A : Type 0) : Type 1 where
+  pub gives : A → Type 0
+  pub refuses : R → Type 0
+
+-- nothing to do: the value is there
+abbrev pub give : {R A : Type 0} → A → Work R A
+give x = record { gives = λ a. a ≡ x; refuses = λ r. ⊥ }
+
+-- what never comes
+abbrev pub never : {R A : Type 0} → Work R A
+never = record { gives = λ a. ⊥; refuses = λ r. ⊥ }
+
+-- ---- one part after another
+
+abbrev pub GivesInTurn : {R A B : Type 0} → Work R A → (A → Work R B) → B → Type 0
+GivesInTurn {R} {A} first next b = (a : A) × first.gives a × (next a).gives b
+
+abbrev pub RefusesInTurn : {R A B : Type 0} → Work R A → (A → Work R B) → R → Type 0
+RefusesInTurn {R} {A} first next r = first.refuses r ⊎ ((a : A) × first.gives a × (next a).refuses r)
+
+infixl 10 ◌>>=◌
+abbrev pub ◌>>=◌ : {R A B : Type 0} → Work R A → (A → Work R B) → Work R B
+first >>= next = record { gives = GivesInTurn first next; refuses = RefusesInTurn first next }
+
+-- ---- what is given is one value, and then nothing is refused
+
+pub record IsDecided {R A : Type 0} (work : Work R A) : Type 0 where
+  pub one : (a b : A) → work.gives a → work.gives b → a ≡ b
+  pub apart : (a : A) (r : R) → work.gives a → work.refuses r → ⊥

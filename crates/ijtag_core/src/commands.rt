@@ -1,0 +1,4 @@
+// The commands.
+
+pub(crate) mod compile;
+pub(crate) mod play;

@@ -1,0 +1,16 @@
+// What follows from the order of work.
+ghost use Rattle.ijtag_core.specs.Runs.{WorksAreDecided};
+
+use icl_lexer::{cuttings_are_one, texts_are_cut_or_at_fault};
+use icl_parser::{designs_are_one, refusals_are_one};
+
+/// The work of a command on files comes to one end at most: what it leaves is one, and where it leaves something, it meets no
+/// refusal.
+pub fn works_are_decided()
+    ensures { WorksAreDecided }
+{
+    cuttings_are_one();
+    texts_are_cut_or_at_fault();
+    designs_are_one();
+    refusals_are_one();
+}
