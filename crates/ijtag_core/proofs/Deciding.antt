@@ -14,6 +14,12 @@ use Rattle.svf_reader.specs.declared.fault.SvfFault.TheVariants.{LeftOut, SvfSyn
 use Rattle.svf_writer.specs.SeenCommands.{SeenCommand}
 use Rattle.first_form.specs.Texts.{SeenForm}
 use Rattle.ijtag_core.specs.Command.{Command, Compile, Compiles, Play, Plays, Load, loads}
+use Rattle.icl_syntax.specs.Values.{SeenModule}
+use Rattle.icl_values.specs.Faults.{Fault}
+use Rattle.icl_elab.specs.Roles.{CellOf}
+use Rattle.icl_elab.specs.Hierarchy.{hierarchy}
+use Rattle.ijtag_core.specs.Elaborated.{elaborated}
+use Rattle.ijtag_core.specs.Designs.{compiled_form, played_design}
 use Rattle.ijtag_core.specs.FirstForm.{first_form, applied, first_design}
 use Rattle.ijtag_core.specs.IclText.{icl_tokens, icl_design, icl_text}
 use Rattle.ijtag_core.specs.Order.{loaded_one, loaded, accepted, playable, work_on, work}
@@ -84,6 +90,14 @@ device_decided : (text : List ℕ) → IsDecided (device_text text)
 unfolding device_text
 device_decided text = record { one = λ a b p q. ok_is a b (device text) p q; apart = λ a r p q. device_not_refused text a q.0 p q.1 }
 
+hierarchy_not_refused : (modules : List SeenModule) (top : List ℕ) (cells : List CellOf) (fault : Fault) → hierarchy modules top ≡ Ok cells → hierarchy modules top ≡ Err fault → ⊥
+hierarchy_not_refused modules top cells fault made refused = cc
+
+elaborated_decided : (modules : List SeenModule) (top : List ℕ) → IsDecided (elaborated modules top)
+unfolding elaborated
+elaborated_decided modules top =
+    record { one = λ a b p q. ok_is a b (hierarchy modules top) p q; apart = λ a r p q. hierarchy_not_refused modules top a q.0 p q.1 }
+
 svf_decided : (text : List ℕ) → IsDecided (svf_text text)
 unfolding svf_text
 svf_decided text = record { one = λ a b p q. ok_is a b (svf text) p q; apart = λ a r p q. read_not_refused text a q.0 r p q.1 q.2 }
@@ -100,6 +114,16 @@ first_design_decided : (p : Play) (icl device tables : List ℕ) → IsDecided (
 unfolding first_design
 first_design_decided p icl device tables = record { one = λ a b x y. y.1 a x.0; apart = λ a r x y. y.1 a x.0 }
 
+compiled_decided : (c : Compile) (modules : List SeenModule) (icl pdl device : List ℕ) → IsDecided (compiled_form c modules icl pdl device)
+unfolding compiled_form
+compiled_decided c modules icl pdl device =
+    in_turn_decided (elaborated modules c.top) _ (elaborated_decided modules c.top) (λ cells. in_turn_decided (first_form c icl pdl device) _ (form_decided c icl pdl device) applied_decided)
+
+played_decided : (p : Play) (modules : List SeenModule) (icl device tables : List ℕ) → IsDecided (played_design p modules icl device tables)
+unfolding played_design
+played_decided p modules icl device tables =
+    in_turn_decided (elaborated modules p.top) _ (elaborated_decided modules p.top) (λ cells. first_design_decided p icl device tables)
+
 -- ---- commands
 
 module _ (cuttings : CuttingsAreOne) (no_fault : CutTextsHaveNoFault) (designs : DesignsAreOne) (not_refused : DesignsAreNotRefused) where
@@ -114,7 +138,7 @@ module _ (cuttings : CuttingsAreOne) (no_fault : CutTextsHaveNoFault) (designs :
 
   accepted_decided : (c : Compile) (texts : List (List ℕ)) → IsDecided (accepted c texts)
   accepted_decided c (icl ∷ pdl ∷ device ∷ []) =
-      in_turn_decided (chip_texts icl device) _ (chip_decided icl device) (λ modules. in_turn_decided (first_form c icl pdl device) _ (form_decided c icl pdl device) applied_decided)
+      in_turn_decided (chip_texts icl device) _ (chip_decided icl device) (λ modules. compiled_decided c modules icl pdl device)
   accepted_decided c [] = never_decided
   accepted_decided c (a ∷ []) = never_decided
   accepted_decided c (a ∷ b ∷ []) = never_decided
@@ -123,7 +147,7 @@ module _ (cuttings : CuttingsAreOne) (no_fault : CutTextsHaveNoFault) (designs :
   playable_decided : (p : Play) (texts : List (List ℕ)) → IsDecided (playable p texts)
   playable_decided p (svf ∷ icl ∷ device ∷ tables ∷ []) =
       in_turn_decided (chip_texts icl device) _ (chip_decided icl device) (λ modules. in_turn_decided (svf_text svf) _ (svf_decided svf)
-      (λ commands. in_turn_decided (first_design p icl device tables) _ (first_design_decided p icl device tables) (λ design. give_decided (record { design = design; commands = commands }))))
+      (λ commands. in_turn_decided (played_design p modules icl device tables) _ (played_decided p modules icl device tables) (λ design. give_decided (record { design = design; commands = commands }))))
   playable_decided p [] = never_decided
   playable_decided p (a ∷ []) = never_decided
   playable_decided p (a ∷ b ∷ []) = never_decided

@@ -7,7 +7,9 @@ pub mod IclText
 pub mod DeviceText
 pub mod ChipTexts
 pub mod SvfText
+pub mod Elaborated
 pub mod FirstForm
+pub mod Designs
 pub mod Order
 pub mod Stops
 pub mod Runs

@@ -14,7 +14,7 @@ use Rattle.ijtag_core.specs.Refusals.{Part, refused_name}
 use Rattle.ijtag_core.specs.Leaves.{Leaves}
 use Rattle.ijtag_core.specs.ChipTexts.{chip_texts}
 use Rattle.ijtag_core.specs.SvfText.{svf_text}
-use Rattle.ijtag_core.specs.FirstForm.{first_form, applied, first_design}
+use Rattle.ijtag_core.specs.Designs.{compiled_form, played_design}
 use Rattle.ijtag_core.specs.declared.refusal.Stage.TheVariants.{File}
 
 -- ---- loads: where the files aren't told, a load may give any text that is short enough, or find any file too long
@@ -32,13 +32,12 @@ loaded files (load ∷ loads) = do
   texts ← loaded files loads
   give (text ∷ texts)
 
--- ---- compile: the ICL text, the device, then the first form, then that an iApply follows each command
+-- ---- compile: the ICL text, the device, the hierarchy, then the first form, then that an iApply follows each command
 
 abbrev pub accepted : Compile → List (List ℕ) → Part SeenForm
 accepted c (icl ∷ pdl ∷ device ∷ []) = do
   modules ← chip_texts icl device
-  form ← first_form c icl pdl device
-  applied form
+  compiled_form c modules icl pdl device
 accepted c _ = never
 
 -- the SVF file has the text of the procedure
@@ -50,7 +49,7 @@ compile c texts = do
   form ← accepted c texts
   give (compiled c form)
 
--- ---- play: the ICL text, the device, the SVF text, then the first form
+-- ---- play: the ICL text, the device, the SVF text, the hierarchy, then the first form
 
 -- what is played, and on what
 pub record SeenPlayable : Type 0 where
@@ -61,7 +60,7 @@ abbrev pub playable : Play → List (List ℕ) → Part SeenPlayable
 playable p (svf ∷ icl ∷ device ∷ tables ∷ []) = do
   modules ← chip_texts icl device
   commands ← svf_text svf
-  design ← first_design p icl device tables
+  design ← played_design p modules icl device tables
   give (record { design = design; commands = commands })
 playable p _ = never
 

@@ -3,9 +3,10 @@ ghost use Rattle.std.specs.Prelude.{◌≡◌, ◌∷◌, [], ◌++◌, OnOk, On
 ghost use Rattle.std.specs.List.{flat_map};
 ghost use Rattle.ij_io.specs.Bytes.{Adds, AddsPart};
 ghost use Rattle.ij_io.specs.Causes.{HasCause};
-ghost use Rattle.ijtag_core.specs.Refusals.{refused, refused_at, refused_name, refused_word, stage_name, arg_text, head_text, refusal_text, Said};
+ghost use Rattle.ijtag_core.specs.Refusals.{refused, refused_at, refused_name, refused_word, stage_name, arg_text, head_text, refusal_text, Said, Num};
 ghost use Rattle.ijtag_core.specs.Seen.{seen_arg, seen_refusal};
 ghost use Rattle.ijtag_core.specs.Follows.{IsToldAs};
+ghost use Rattle.ijtag_core.specs.declared.refusal.StageFault.TheVariants as stage_fault;
 
 use ij_bits::{List, OutOfMemory};
 use ij_io::{Sink, StoreFault, Word, put_words};
@@ -23,6 +24,8 @@ pub(crate) enum Stage {
     Device,
     /// The text that is played is read (Serial Vector Format, revision E).
     Svf,
+    /// The design is elaborated (IEEE 1687-2014, ICL).
+    Elab,
     /// The procedures' text is read (IEEE 1687-2014, PDL level 0).
     Pdl,
     /// The chip isn't of the one kind that is compiled and played so far.
@@ -40,6 +43,7 @@ impl Stage {
             Stage::Icl => b"icl",
             Stage::Device => b"device",
             Stage::Svf => b"svf",
+            Stage::Elab => b"elab",
             Stage::Pdl => b"pdl",
             Stage::Core => b"core",
         }
@@ -75,6 +79,14 @@ pub(crate) enum StageFault {
     Refused(Refusal),
     /// There was no memory.
     OutOfMemory,
+}
+
+impl From<OutOfMemory> for StageFault {
+    ghost from_gives = { λ _ e. e ≡ stage_fault.OutOfMemory };
+
+    fn from(_e: OutOfMemory) -> StageFault {
+        StageFault::OutOfMemory
+    }
 }
 
 /// A list of one argument.
@@ -126,6 +138,28 @@ pub(crate) fn refused_word(
 {
     match two(alloc, Arg::At(at), Arg::Said(word)) {
         Ok(args) => StageFault::Refused(Refusal { stage, kind, args }),
+        Err(_) => StageFault::OutOfMemory,
+    }
+}
+
+/// A list of a limit's name and its number.
+fn limit_args(alloc: Global, which: &[u8], number: u64) -> Result<List<Arg>, OutOfMemory>
+    ensures { IfOk result (λ args. map seen_arg args.items ≡ Said which.now ∷ Num number ∷ []) }
+{
+    let which = name_of(alloc, which)?;
+    two(alloc, Arg::Said(which), Arg::Num(number))
+}
+
+/// A refusal that tells a limit and its number.
+pub(crate) fn refused_limit(alloc: Global, stage: Stage, which: &[u8], number: u64) -> StageFault
+    ensures { IsToldAs (Some (record { stage = stage; kind = codes "Limit"; args = Said which.now ∷ Num number ∷ [] })) result }
+{
+    match limit_args(alloc, which, number) {
+        Ok(args) => StageFault::Refused(Refusal {
+            stage,
+            kind: b"Limit",
+            args,
+        }),
         Err(_) => StageFault::OutOfMemory,
     }
 }

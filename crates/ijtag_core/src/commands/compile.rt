@@ -16,7 +16,7 @@ ghost use Rattle.ijtag_core.specs.Stops.{IsEarly};
 use crate::load::load_all;
 use crate::refusal::StageFault;
 use crate::stages::chip::read_chip;
-use crate::stages::form::{check_applied, read_first_form};
+use crate::stages::designs::read_compiled_form;
 use crate::status::Verdict;
 use crate::stop::Stop;
 use crate::words::CompileWords;
@@ -36,9 +36,8 @@ fn accept(alloc: Global, words: &CompileWords<'_>, texts: &[Vec<u8>]) -> Result<
     let [icl, pdl, device] = texts else {
         unreachable!()
     };
-    let _design = read_chip(alloc, icl, device)?;
-    let form = read_first_form(alloc, words, icl, pdl, device)?;
-    let form = check_applied(alloc, form)?;
+    let modules = read_chip(alloc, icl, device)?;
+    let form = read_compiled_form(alloc, words, &modules, icl, pdl, device)?;
     Ok(form)
 }
 

@@ -14,7 +14,7 @@ ghost use Rattle.ijtag_core.specs.Stops.{IsEarly};
 use crate::load::load_all;
 use crate::refusal::StageFault;
 use crate::stages::chip::read_chip;
-use crate::stages::form::read_first_design;
+use crate::stages::designs::read_played_design;
 use crate::stages::svf::read_svf;
 use crate::status::Verdict;
 use crate::stop::Stop;
@@ -45,9 +45,9 @@ fn accept(alloc: Global, words: &PlayWords<'_>, texts: &[Vec<u8>]) -> Result<Pla
     let [svf, icl, device, tables] = texts else {
         unreachable!()
     };
-    let _design = read_chip(alloc, icl, device)?;
+    let modules = read_chip(alloc, icl, device)?;
     let commands = read_svf(alloc, svf)?;
-    let design = read_first_design(alloc, words, icl, device, tables)?;
+    let design = read_played_design(alloc, words, &modules, icl, device, tables)?;
     Ok(Playable { design, commands })
 }
 
