@@ -147,7 +147,12 @@ fn other_names_and_a_long_file_are_refused(rt: HostRuntime) -> Result<(), Fail> 
     let alloc = rt.alloc();
     let long = vec![in alloc; b' '; 16_777_217]?;
     for (icl, top, procedure, said) in [
-        (ICL, "chip2", "p", b"refused core FirstForm\n".as_slice()),
+        (
+            ICL,
+            "chip2",
+            "p",
+            b"refused elab NoModule chip2\n".as_slice(),
+        ),
         (ICL, "chip", "q", b"refused core FirstForm\n"),
         (long.as_slice(), "chip", "p", b"refused file Long a.icl\n"),
     ] {
