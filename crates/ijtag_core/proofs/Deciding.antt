@@ -22,11 +22,15 @@ use Rattle.ijtag_core.specs.Elaborated.{elaborated}
 use Rattle.ijtag_core.specs.Designs.{compiled_form, played_design}
 use Rattle.ijtag_core.specs.FirstForm.{first_form, applied, first_design}
 use Rattle.ijtag_core.specs.IclText.{icl_tokens, icl_design, icl_text}
-use Rattle.ijtag_core.specs.Order.{loaded_one, loaded, accepted, playable, work_on, work}
+use Rattle.ijtag_core.specs.Order.{loaded_one, loaded, accepted, played_texts, playable, work_on, work}
 use Rattle.ijtag_core.specs.Refusals.{Refusal}
 use Rattle.bench_file.specs.Device.{SeenDevice, device}
 use Rattle.bench_file.specs.declared.fault.DeviceFault.{DeviceFault}
-use Rattle.ijtag_core.specs.ChipTexts.{chip_texts}
+use Rattle.icl_signals.specs.Connecting.{network}
+use Rattle.icl_signals.specs.PlainNets.{NetOf}
+use Rattle.icl_signals.specs.Refusals.{Refusal as ConnectRefusal}
+use Rattle.ijtag_core.specs.Connected.{connected}
+use Rattle.ijtag_core.specs.Networks.{network_below}
 use Rattle.ijtag_core.specs.DeviceText.{device_text}
 use Rattle.ijtag_core.specs.SvfText.{svf_text, svf_fault}
 use Rattle.ijtag_core.specs.Work.{Work, give, never, ◌>>=◌, IsDecided}
@@ -98,6 +102,18 @@ unfolding elaborated
 elaborated_decided modules top =
     record { one = λ a b p q. ok_is a b (hierarchy modules top) p q; apart = λ a r p q. hierarchy_not_refused modules top a q.0 p q.1 }
 
+network_not_refused : (cells : List CellOf) (link instr : List ℕ) (net : NetOf) (fault : ConnectRefusal) → network cells link instr ≡ Ok net → network cells link instr ≡ Err fault → ⊥
+network_not_refused cells link instr net fault made refused = cc
+
+connected_decided : (cells : List CellOf) (of : SeenDevice) → IsDecided (connected cells of)
+unfolding connected
+connected_decided cells of =
+    record { one = λ a b p q. ok_is a b (network cells of.link of.instr) p q; apart = λ a r p q. network_not_refused cells of.link of.instr a q.0 p q.1 }
+
+network_decided : (modules : List SeenModule) (top : List ℕ) (of : SeenDevice) → IsDecided (network_below modules top of)
+unfolding network_below
+network_decided modules top of = in_turn_decided (elaborated modules top) _ (elaborated_decided modules top) (λ cells. connected_decided cells of)
+
 svf_decided : (text : List ℕ) → IsDecided (svf_text text)
 unfolding svf_text
 svf_decided text = record { one = λ a b p q. ok_is a b (svf text) p q; apart = λ a r p q. read_not_refused text a q.0 r p q.1 q.2 }
@@ -114,31 +130,33 @@ first_design_decided : (p : Play) (icl device tables : List ℕ) → IsDecided (
 unfolding first_design
 first_design_decided p icl device tables = record { one = λ a b x y. y.1 a x.0; apart = λ a r x y. y.1 a x.0 }
 
-compiled_decided : (c : Compile) (modules : List SeenModule) (icl pdl device : List ℕ) → IsDecided (compiled_form c modules icl pdl device)
+compiled_decided : (c : Compile) (modules : List SeenModule) (of : SeenDevice) (icl pdl device : List ℕ) → IsDecided (compiled_form c modules of icl pdl device)
 unfolding compiled_form
-compiled_decided c modules icl pdl device =
-    in_turn_decided (elaborated modules c.top) _ (elaborated_decided modules c.top) (λ cells. in_turn_decided (first_form c icl pdl device) _ (form_decided c icl pdl device) applied_decided)
+compiled_decided c modules of icl pdl device =
+    in_turn_decided (network_below modules c.top of) _ (network_decided modules c.top of) (λ net. in_turn_decided (first_form c icl pdl device) _ (form_decided c icl pdl device) applied_decided)
 
-played_decided : (p : Play) (modules : List SeenModule) (icl device tables : List ℕ) → IsDecided (played_design p modules icl device tables)
+played_decided : (p : Play) (modules : List SeenModule) (of : SeenDevice) (icl device tables : List ℕ) → IsDecided (played_design p modules of icl device tables)
 unfolding played_design
-played_decided p modules icl device tables =
-    in_turn_decided (elaborated modules p.top) _ (elaborated_decided modules p.top) (λ cells. first_design_decided p icl device tables)
+played_decided p modules of icl device tables =
+    in_turn_decided (network_below modules p.top of) _ (network_decided modules p.top of) (λ net. first_design_decided p icl device tables)
 
 -- ---- commands
+
+texts_decided : (p : Play) (modules : List SeenModule) (svf icl device tables : List ℕ) → IsDecided (played_texts p modules svf icl device tables)
+unfolding played_texts
+texts_decided p modules svf icl device tables =
+    in_turn_decided (device_text device) _ (device_decided device) (λ of. in_turn_decided (svf_text svf) _ (svf_decided svf)
+    (λ commands. in_turn_decided (played_design p modules of icl device tables) _ (played_decided p modules of icl device tables) (λ design. give_decided (record { design = design; commands = commands }))))
 
 module _ (cuttings : CuttingsAreOne) (no_fault : CutTextsHaveNoFault) (designs : DesignsAreOne) (not_refused : DesignsAreNotRefused) where
   icl_decided : (text : List ℕ) → IsDecided (icl_text text)
   unfolding icl_text
   icl_decided text = in_turn_decided (icl_tokens text) _ (tokens_decided cuttings no_fault text) (design_decided designs not_refused text)
 
-  chip_decided : (icl device : List ℕ) → IsDecided (chip_texts icl device)
-  unfolding chip_texts
-  chip_decided icl device =
-      in_turn_decided (icl_text icl) _ (icl_decided icl) (λ modules. in_turn_decided (device_text device) _ (device_decided device) (λ of. give_decided modules))
-
   accepted_decided : (c : Compile) (texts : List (List ℕ)) → IsDecided (accepted c texts)
   accepted_decided c (icl ∷ pdl ∷ device ∷ []) =
-      in_turn_decided (chip_texts icl device) _ (chip_decided icl device) (λ modules. compiled_decided c modules icl pdl device)
+      in_turn_decided (icl_text icl) _ (icl_decided icl)
+      (λ modules. in_turn_decided (device_text device) _ (device_decided device) (λ of. compiled_decided c modules of icl pdl device))
   accepted_decided c [] = never_decided
   accepted_decided c (a ∷ []) = never_decided
   accepted_decided c (a ∷ b ∷ []) = never_decided
@@ -146,8 +164,7 @@ module _ (cuttings : CuttingsAreOne) (no_fault : CutTextsHaveNoFault) (designs :
 
   playable_decided : (p : Play) (texts : List (List ℕ)) → IsDecided (playable p texts)
   playable_decided p (svf ∷ icl ∷ device ∷ tables ∷ []) =
-      in_turn_decided (chip_texts icl device) _ (chip_decided icl device) (λ modules. in_turn_decided (svf_text svf) _ (svf_decided svf)
-      (λ commands. in_turn_decided (played_design p modules icl device tables) _ (played_decided p modules icl device tables) (λ design. give_decided (record { design = design; commands = commands }))))
+      in_turn_decided (icl_text icl) _ (icl_decided icl) (λ modules. texts_decided p modules svf icl device tables)
   playable_decided p [] = never_decided
   playable_decided p (a ∷ []) = never_decided
   playable_decided p (a ∷ b ∷ []) = never_decided

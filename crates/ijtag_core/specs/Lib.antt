@@ -5,9 +5,10 @@ pub mod Leaves
 pub mod Refusals
 pub mod IclText
 pub mod DeviceText
-pub mod ChipTexts
 pub mod SvfText
 pub mod Elaborated
+pub mod Connected
+pub mod Networks
 pub mod FirstForm
 pub mod Designs
 pub mod Order

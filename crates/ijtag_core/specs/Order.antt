@@ -12,7 +12,8 @@ use Rattle.ijtag_core.specs.Work.{give, never, ◌>>=◌}
 use Rattle.ijtag_core.specs.Command.{Command, Compile, Compiles, Play, Plays, Load, loads}
 use Rattle.ijtag_core.specs.Refusals.{Part, refused_name}
 use Rattle.ijtag_core.specs.Leaves.{Leaves}
-use Rattle.ijtag_core.specs.ChipTexts.{chip_texts}
+use Rattle.ijtag_core.specs.DeviceText.{device_text}
+use Rattle.ijtag_core.specs.IclText.{icl_text}
 use Rattle.ijtag_core.specs.SvfText.{svf_text}
 use Rattle.ijtag_core.specs.Designs.{compiled_form, played_design}
 use Rattle.ijtag_core.specs.declared.refusal.Stage.TheVariants.{File}
@@ -32,12 +33,13 @@ loaded files (load ∷ loads) = do
   texts ← loaded files loads
   give (text ∷ texts)
 
--- ---- compile: the ICL text, the device, the hierarchy, then the first form, then that an iApply follows each command
+-- ---- compile: the ICL text, the device, the network, then the first form, then that an iApply follows each command
 
 abbrev pub accepted : Compile → List (List ℕ) → Part SeenForm
 accepted c (icl ∷ pdl ∷ device ∷ []) = do
-  modules ← chip_texts icl device
-  compiled_form c modules icl pdl device
+  modules ← icl_text icl
+  of ← device_text device
+  compiled_form c modules of icl pdl device
 accepted c _ = never
 
 -- the SVF file has the text of the procedure
@@ -49,19 +51,25 @@ compile c texts = do
   form ← accepted c texts
   give (compiled c form)
 
--- ---- play: the ICL text, the device, the SVF text, the hierarchy, then the first form
+-- ---- play: the ICL text, the device, the SVF text, the network, then the first form
 
 -- what is played, and on what
 pub record SeenPlayable : Type 0 where
   pub design : Design
   pub commands : List SeenCommand
 
+-- what is played, where the design is known
+unfoldable pub played_texts : Play → List SeenModule → List ℕ → List ℕ → List ℕ → List ℕ → Part SeenPlayable
+played_texts p modules svf icl device tables = do
+  of ← device_text device
+  commands ← svf_text svf
+  design ← played_design p modules of icl device tables
+  give (record { design = design; commands = commands })
+
 abbrev pub playable : Play → List (List ℕ) → Part SeenPlayable
 playable p (svf ∷ icl ∷ device ∷ tables ∷ []) = do
-  modules ← chip_texts icl device
-  commands ← svf_text svf
-  design ← played_design p modules icl device tables
-  give (record { design = design; commands = commands })
+  modules ← icl_text icl
+  played_texts p modules svf icl device tables
 playable p _ = never
 
 abbrev pub any_differs : List Compare → Bool

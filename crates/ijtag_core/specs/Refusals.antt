@@ -6,7 +6,7 @@ use Rattle.ij_io.specs.Bytes.{concat}
 use Rattle.ij_text.specs.declared.Place.{Place}
 use Rattle.ijtag_core.specs.Work.{Work}
 use Rattle.ijtag_core.specs.declared.refusal.Stage.{Stage}
-use Rattle.ijtag_core.specs.declared.refusal.Stage.TheVariants.{File, Icl, Device, Svf, Elab, Pdl, Core}
+use Rattle.ijtag_core.specs.declared.refusal.Stage.TheVariants.{File, Icl, Device, Svf, Elab, Connect, Pdl, Core}
 
 -- what stands behind the cause: a place, a number, or a text as it stands
 pub data Arg : Type 0 where
@@ -44,6 +44,7 @@ stage_name Icl = codes "icl"
 stage_name Device = codes "device"
 stage_name Svf = codes "svf"
 stage_name Elab = codes "elab"
+stage_name Connect = codes "connect"
 stage_name Pdl = codes "pdl"
 stage_name Core = codes "core"
 

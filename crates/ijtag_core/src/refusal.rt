@@ -10,7 +10,7 @@ ghost use Rattle.ijtag_core.specs.declared.refusal.StageFault.TheVariants as sta
 
 use ij_bits::{List, OutOfMemory};
 use ij_io::{Sink, StoreFault, Word, put_words};
-use ij_text::{Place, Text, name_of};
+use ij_text::{Name, Place, Text, name_of};
 use std::alloc::Global;
 
 /// The part of the work that refuses.
@@ -26,6 +26,8 @@ pub(crate) enum Stage {
     Svf,
     /// The design is elaborated (IEEE 1687-2014, ICL).
     Elab,
+    /// The hierarchy's signals are followed to a network (IEEE 1687-2014, ICL).
+    Connect,
     /// The procedures' text is read (IEEE 1687-2014, PDL level 0).
     Pdl,
     /// The chip isn't of the one kind that is compiled and played so far.
@@ -44,6 +46,7 @@ impl Stage {
             Stage::Device => b"device",
             Stage::Svf => b"svf",
             Stage::Elab => b"elab",
+            Stage::Connect => b"connect",
             Stage::Pdl => b"pdl",
             Stage::Core => b"core",
         }
@@ -182,6 +185,22 @@ pub(crate) fn refused_name(
     ensures { IsToldAs (Some (refused_name stage kind.now name.now)) result }
 {
     match named(alloc, name) {
+        Ok(args) => StageFault::Refused(Refusal { stage, kind, args }),
+        Err(_) => StageFault::OutOfMemory,
+    }
+}
+
+/// A refusal that tells two names.
+pub(crate) fn refused_names(
+    alloc: Global,
+    stage: Stage,
+    kind: &'static [u8],
+    first: Name,
+    second: Name,
+) -> StageFault
+    ensures { IsToldAs (Some (record { stage = stage; kind = kind.now; args = Said first.items ∷ Said second.items ∷ [] })) result }
+{
+    match two(alloc, Arg::Said(first), Arg::Said(second)) {
         Ok(args) => StageFault::Refused(Refusal { stage, kind, args }),
         Err(_) => StageFault::OutOfMemory,
     }

@@ -9,6 +9,10 @@ use std::{env, fs, process};
 const ICL: &[u8] =
     b"Module Net {\n  ScanInPort SI; ScanOutPort SO { Source R[0]; }\n  ScanInterface client { Port SI; Port SO; }\n  ScanRegister R[3:0] { ScanInSource SI; CaptureSource R; ResetValue 4'b0; }\n}\nModule chip {\n  Instance net Of Net;\n  AccessLink tap Of STD_1149_1_2001 {\n    BSDLEntity chip; IJTAG { ScanInterface { net.client; } }\n  }\n}\n";
 
+/// The same chip, whose register captures a port that nothing drives.
+const UNDRIVEN: &[u8] =
+    b"Module Net {\n  DataInPort x[3:0]; ScanInPort SI; ScanOutPort SO { Source R[0]; }\n  ScanInterface client { Port SI; Port SO; }\n  ScanRegister R[3:0] { ScanInSource SI; CaptureSource x; ResetValue 4'b0; }\n}\nModule chip {\n  Instance net Of Net;\n  AccessLink tap Of STD_1149_1_2001 {\n    BSDLEntity chip; IJTAG { ScanInterface { net.client; } }\n  }\n}\n";
+
 const PDL: &[u8] = b"iProcsForModule chip\niProc p {} {\n  iWrite net.R 0b0101\n  iApply\n}\n";
 
 const DEVICE: &[u8] = b"device 1\nir 8\nlink tap IJTAG A0\n";
@@ -207,6 +211,36 @@ fn refused_devices_tell_why(rt: HostRuntime) -> Result<(), Fail> {
     Ok(())
 }
 
+// The network comes behind the hierarchy, and in front of the first form: a link that isn't there, a port that nothing drives.
+#[test]
+fn refused_networks_tell_why(rt: HostRuntime) -> Result<(), Fail> {
+    let alloc = rt.alloc();
+    let rows: [(&[u8], &[u8]); 3] = [
+        (
+            b"device 1\nir 8\nlink tap2 IJTAG 04\n",
+            b"refused connect NoLink tap2 IJTAG\n",
+        ),
+        (
+            b"device 1\nir 8\nlink tap BYPASS 04\n",
+            b"refused connect NoLink tap BYPASS\n",
+        ),
+        (DEVICE, b"refused connect Undriven 4:3\n"),
+    ];
+    for words in [compile_words(alloc)?, play_words(alloc)?] {
+        for (device, said) in rows {
+            let mut shelf = shelf_to_play(alloc, SVF, TABLES)?;
+            shelf.put_file("a.icl", UNDRIVEN)?;
+            shelf.put_file("a.dev", device)?;
+            let mut out = MemSink::new(alloc);
+            let mut err = MemSink::new(alloc);
+            let status = ijtag(alloc, &words, &mut shelf, &mut out, &mut err);
+            assert_eq!(rt; status, Status::Refused);
+            assert_eq!(rt; err.bytes(), said);
+        }
+    }
+    Ok(())
+}
+
 // Each write of the error stream fails once, at each command: the status is that of the refusal, and what the stream took is a first
 // part of its line.
 #[test]
@@ -336,7 +370,7 @@ fn each_load_of_a_play_fails_once(rt: HostRuntime) -> Result<(), Fail> {
     Ok(())
 }
 
-// ICL comes before SVF, and both before the first form.
+// ICL comes before SVF, both before the network, and that before the first form.
 #[test]
 fn refused_plays_tell_why(rt: HostRuntime) -> Result<(), Fail> {
     let alloc = rt.alloc();
@@ -373,7 +407,12 @@ fn refused_plays_tell_why(rt: HostRuntime) -> Result<(), Fail> {
             b"refused svf TdiMissing 3:2\n",
         ),
         (ICL, b"SDR 4 TDI (5", TABLES, b"refused svf SvfSyntax 1:1\n"),
-        (b"Module chip { }", SVF, TABLES, b"refused core FirstForm\n"),
+        (
+            b"Module chip { }",
+            SVF,
+            TABLES,
+            b"refused connect NoLink tap IJTAG\n",
+        ),
         (ICL, SVF, b"tables 1", b"refused core FirstForm\n"),
     ];
     for (icl, svf, tables, said) in rows {

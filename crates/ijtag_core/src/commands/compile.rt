@@ -15,8 +15,9 @@ ghost use Rattle.ijtag_core.specs.Stops.{IsEarly};
 
 use crate::load::load_all;
 use crate::refusal::StageFault;
-use crate::stages::chip::read_chip;
 use crate::stages::designs::read_compiled_form;
+use crate::stages::device::read_device;
+use crate::stages::icl::read_icl;
 use crate::status::Verdict;
 use crate::stop::Stop;
 use crate::words::CompileWords;
@@ -36,8 +37,9 @@ fn accept(alloc: Global, words: &CompileWords<'_>, texts: &[Vec<u8>]) -> Result<
     let [icl, pdl, device] = texts else {
         unreachable!()
     };
-    let modules = read_chip(alloc, icl, device)?;
-    let form = read_compiled_form(alloc, words, &modules, icl, pdl, device)?;
+    let modules = read_icl(alloc, icl)?;
+    let of = read_device(alloc, device)?;
+    let form = read_compiled_form(alloc, words, &modules, &of, icl, pdl, device)?;
     Ok(form)
 }
 

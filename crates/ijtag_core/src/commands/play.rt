@@ -6,20 +6,23 @@ ghost use Rattle.tap_machine.specs.declared.Stable.TheVariants.{Reset as InReset
 ghost use Rattle.tap_machine.specs.Play.{pins, scans_in};
 ghost use Rattle.ijtag_core.specs.Command.{Plays, play_loads, names_of};
 ghost use Rattle.ijtag_core.specs.Follows.{Follows, AreTexts, seen_texts};
-ghost use Rattle.ijtag_core.specs.Order.{playable, work, report_of, any_differs, differs_at};
+ghost use Rattle.icl_syntax.specs.Views.{seen_design};
+ghost use Rattle.ijtag_core.specs.Order.{playable, played_texts, work, report_of, any_differs, differs_at};
 ghost use Rattle.ijtag_core.specs.Runs.{IsDone, IsPartDone, IsStop, OnlyTheseRise, counts, seen};
 ghost use Rattle.ijtag_core.specs.Seen.{seen_play, seen_stop, seen_playable, differing};
 ghost use Rattle.ijtag_core.specs.Stops.{IsEarly};
 
 use crate::load::load_all;
 use crate::refusal::StageFault;
-use crate::stages::chip::read_chip;
 use crate::stages::designs::read_played_design;
+use crate::stages::device::read_device;
+use crate::stages::icl::read_icl;
 use crate::stages::svf::read_svf;
 use crate::status::Verdict;
 use crate::stop::Stop;
 use crate::words::PlayWords;
 use first_form::Design;
+use icl_syntax::Design as Modules;
 use ij_io::{Shelf, Sink, StoreFault};
 use play_report::{names_are_not_played, put_play};
 use register_compiler::make_device;
@@ -35,6 +38,29 @@ pub(crate) struct Playable {
     pub commands: Commands,
 }
 
+/// What is played, and on what, where the design is known.
+#[tactic(auto, unfolding(crate::specs::Order::played_texts))]
+fn accept_texts(
+    alloc: Global,
+    words: &PlayWords<'_>,
+    modules: &Modules,
+    svf: &[u8],
+    icl: &[u8],
+    device: &[u8],
+    tables: &[u8],
+) -> Result<Playable, StageFault>
+    requires svf { length svf.now ≤ 134217728 }
+    requires device { length device.now ≤ 134217728 }
+    ensures follows { Follows (played_texts (seen_play words.now) (seen_design modules.now) svf.now icl.now device.now tables.now) seen_playable result }
+    ensures clocks { IfOk result (λ it. length (pins InReset 0 it.commands) ≤ 1000000000) }
+    ensures scans { IfOk result (λ it. scans_in it.commands ≤ 1000000000) }
+{
+    let of = read_device(alloc, device)?;
+    let commands = read_svf(alloc, svf)?;
+    let design = read_played_design(alloc, words, modules, &of, icl, device, tables)?;
+    Ok(Playable { design, commands })
+}
+
 /// What the texts of SVF, ICL, device and tables are accepted as.
 fn accept(alloc: Global, words: &PlayWords<'_>, texts: &[Vec<u8>]) -> Result<Playable, StageFault>
     requires { AreTexts 4 (seen_texts texts.now) }
@@ -45,10 +71,9 @@ fn accept(alloc: Global, words: &PlayWords<'_>, texts: &[Vec<u8>]) -> Result<Pla
     let [svf, icl, device, tables] = texts else {
         unreachable!()
     };
-    let modules = read_chip(alloc, icl, device)?;
-    let commands = read_svf(alloc, svf)?;
-    let design = read_played_design(alloc, words, &modules, icl, device, tables)?;
-    Ok(Playable { design, commands })
+    let modules = read_icl(alloc, icl)?;
+    let it = accept_texts(alloc, words, &modules, svf, icl, device, tables)?;
+    Ok(it)
 }
 
 /// Plays commands on the bench of a design and writes the report. A refusal leaves a first part of the report.

@@ -1,0 +1,24 @@
+-- The stage of the network: each signal of the hierarchy followed to where it ends, or the first fault (IEEE 1687-2014, ICL: AccessLink).
+use Rattle.std.specs.Prelude.{◌≡◌, ℕ, List, [], ◌∷◌, Ok, Err, codes}
+use Rattle.bench_file.specs.Device.{SeenDevice}
+use Rattle.icl_elab.specs.Roles.{CellOf}
+use Rattle.icl_signals.specs.Connecting.{network}
+use Rattle.icl_signals.specs.PlainNets.{NetOf}
+use Rattle.icl_signals.specs.Refusals.{Refusal as Fault, NoLink, Undriven, SignalLoop, BadSelect, InstrumentChain}
+use Rattle.ijtag_core.specs.Refusals.{Part, Refusal, Said, refused_at}
+use Rattle.ijtag_core.specs.declared.refusal.Stage.TheVariants.{Connect}
+
+-- how a fault is told
+abbrev pub connect_refusal : Fault → Refusal
+connect_refusal (NoLink link instr) = record { stage = Connect; kind = codes "NoLink"; args = Said link ∷ Said instr ∷ [] }
+connect_refusal (Undriven at) = refused_at Connect (codes "Undriven") at
+connect_refusal (SignalLoop at) = refused_at Connect (codes "SignalLoop") at
+connect_refusal (BadSelect at) = refused_at Connect (codes "BadSelect") at
+connect_refusal (InstrumentChain at) = refused_at Connect (codes "InstrumentChain") at
+
+-- the network that the device's instruction selects
+unfoldable pub connected : List CellOf → SeenDevice → Part NetOf
+connected cells of = record {
+  gives = λ net. network cells of.link of.instr ≡ Ok net;
+  refuses = λ r. (fault : Fault) × (network cells of.link of.instr ≡ Err fault) × (r ≡ connect_refusal fault);
+}
