@@ -1,14 +1,18 @@
--- The work of a command comes to one end at most: what is given is one value, and then nothing is refused.
-use Rattle.std.specs.Prelude.{Result, Ok, Err}
-use Rattle.std.proofs.Common.{◌≡◌, ◌<◌, ◌≤◌, ◌∙◌, sym, ap, subst, inl, inr, ℕ, Some, List, [], ◌∷◌, length, arith}
+-- The work of a command comes to one end at most: what is given is one value, and then nothing is refused; and a refusal is one.
+use Rattle.std.specs.Prelude.{Option, None, Result, Ok, Err, codes}
+use Rattle.std.proofs.Common.{refl, ◌≡◌, ◌<◌, ◌≤◌, ◌∙◌, sym, ap, subst, inl, inr, ℕ, Some, List, [], ◌∷◌, length, arith}
 use Rattle.ij_io.specs.Files.{Files, bytes_of}
 use Rattle.icl_lexer.specs.Cutting.{AreTokens, tokens_from}
-use Rattle.icl_lexer.specs.Laws.{CuttingsAreOne, CutTextsHaveNoFault}
+use Rattle.icl_lexer.specs.Laws.{CuttingsAreOne, CutTextsHaveNoFault, FaultsAreOne}
 use Rattle.icl_lexer.specs.declared.token.Token.{Token}
-use Rattle.icl_parser.specs.Laws.{DesignsAreOne, DesignsAreNotRefused}
-use Rattle.ij_text.specs.Places.{first_place}
-use Rattle.svf_reader.specs.Answers.{Refuses}
-use Rattle.svf_reader.specs.Meaning.{svf}
+use Rattle.icl_parser.specs.Laws.{DesignsAreOne, DesignsAreNotRefused, RefusalsAreOne, SeenFault, NoMemory, ALeftOut, AnExprLimit, ASyntax, seen_fault}
+use Rattle.icl_parser.specs.declared.fault.ParseFault.{ParseFault}
+use Rattle.icl_parser.specs.declared.fault.ParseFault.TheVariants.{LeftOut as ParseLeftOut, ExprLimit as ParseExprLimit, Syntax as ParseSyntax, OutOfMemory as ParseMemory}
+use Rattle.icl_lexer.specs.declared.fault.LexFault.{LexFault}
+use Rattle.ij_text.specs.Places.{first_place, place_at}
+use Rattle.ij_text.specs.declared.Place.{Place}
+use Rattle.svf_reader.specs.Answers.{Refuses, IsRefused}
+use Rattle.svf_reader.specs.Meaning.{svf, Cause, LeftOut as CauseLeftOut, SvfSyntax as CauseSyntax, SvfLimit as CauseLimit, HexWide as CauseWide, TdiMissing as CauseNoTdi, Refusal as SvfRefusal}
 use Rattle.svf_reader.specs.declared.fault.SvfFault.{SvfFault}
 use Rattle.svf_reader.specs.declared.fault.SvfFault.TheVariants.{LeftOut, SvfSyntax, SvfLimit, HexWide, TdiMissing, OutOfMemory}
 use Rattle.svf_writer.specs.SeenCommands.{SeenCommand}
@@ -18,34 +22,47 @@ use Rattle.icl_syntax.specs.Values.{SeenModule}
 use Rattle.icl_values.specs.Faults.{Fault}
 use Rattle.icl_elab.specs.Roles.{CellOf}
 use Rattle.icl_elab.specs.Hierarchy.{hierarchy}
-use Rattle.ijtag_core.specs.Elaborated.{elaborated}
+use Rattle.ijtag_core.specs.Elaborated.{elab_refusal, elaborated}
 use Rattle.ijtag_core.specs.Designs.{compiled_form, played_design}
 use Rattle.ijtag_core.specs.FirstForm.{first_form, applied, first_design}
-use Rattle.ijtag_core.specs.IclText.{icl_tokens, icl_design, icl_text}
+use Rattle.ijtag_core.specs.IclText.{lex_refusal, parse_refusal, icl_tokens, icl_design, icl_text}
 use Rattle.ijtag_core.specs.Order.{loaded_one, loaded, accepted, played_texts, playable, work_on, work}
-use Rattle.ijtag_core.specs.Refusals.{Refusal}
+use Rattle.ijtag_core.specs.Refusals.{Refusal, refused_at, refused_word}
+use Rattle.ijtag_core.specs.declared.refusal.Stage.TheVariants.{Icl, Svf}
 use Rattle.bench_file.specs.Device.{SeenDevice, device}
 use Rattle.bench_file.specs.declared.fault.DeviceFault.{DeviceFault}
 use Rattle.icl_signals.specs.Connecting.{network}
 use Rattle.icl_signals.specs.PlainNets.{NetOf}
 use Rattle.icl_signals.specs.Refusals.{Refusal as ConnectRefusal}
-use Rattle.ijtag_core.specs.Connected.{connected}
+use Rattle.ijtag_core.specs.Connected.{connect_refusal, connected}
 use Rattle.ijtag_core.specs.Networks.{network_below}
-use Rattle.ijtag_core.specs.DeviceText.{device_text}
+use Rattle.ijtag_core.specs.DeviceText.{device_fault, device_text}
 use Rattle.ijtag_core.specs.SvfText.{svf_text, svf_fault}
-use Rattle.ijtag_core.specs.Work.{Work, give, never, ◌>>=◌, IsDecided}
+use Rattle.ijtag_core.specs.Work.{Work, give, never, ◌>>=◌, RefusesInTurn, IsDecided}
 
 pub give_decided : {R A : Type 0} (x : A) → IsDecided {R = R} {A = A} (give x)
-give_decided x = record { one = λ a b p q. p ∙ sym q; apart = λ a r p q. q }
+give_decided x = record { one = λ a b p q. p ∙ sym q; apart = λ a r p q. q; alike = λ r s p q. absurd p }
 
 pub never_decided : {R A : Type 0} → IsDecided {R = R} {A = A} never
-never_decided = record { one = λ a b p q. absurd p; apart = λ a r p q. q }
+never_decided = record { one = λ a b p q. absurd p; apart = λ a r p q. q; alike = λ r s p q. absurd p }
+
+-- two refusals of work in turn: of the first part, or of the next one behind the one value
+alike_in_turn : {R A B : Type 0} (first : Work R A) (next : A → Work R B) → IsDecided first → ((a : A) → IsDecided (next a)) → (r s : R) → RefusesInTurn first next r → RefusesInTurn first next s → r ≡ s
+alike_in_turn first next f n r s p q =
+    elim p [
+      inl own ↦ elim q [ inl other ↦ f.alike r s own other | inr later ↦ absurd (f.apart later.0 r later.1 own) ]
+      | inr later ↦ elim q [
+        inl other ↦ absurd (f.apart later.0 s later.1 other)
+        | inr behind ↦ (n behind.0).alike r s (subst (λ a. (next a).refuses r) (f.one later.0 behind.0 later.1 behind.1) later.2) behind.2
+      ]
+    ]
 
 pub in_turn_decided : {R A B : Type 0} (first : Work R A) (next : A → Work R B) → IsDecided first → ((a : A) → IsDecided (next a)) → IsDecided (first >>= next)
 in_turn_decided {R} {A} {B} first next f n =
     record {
       one = λ x y p q. (n q.0).one x y (subst (λ a. (next a).gives x) (f.one p.0 q.0 p.1 q.1) p.2) q.2;
       apart = λ x r p q. elim q [ inl own ↦ f.apart p.0 r p.1 own | inr later ↦ (n later.0).apart x r (subst (λ a. (next a).gives x) (f.one p.0 later.0 p.1 later.1) p.2) later.2 ];
+      alike = alike_in_turn first next f n;
     }
 
 -- ---- loads
@@ -56,7 +73,7 @@ fits_not text bytes limit fits same long = let n : length text ≡ length bytes 
 one_decided : (files : Files) (load : Load) → IsDecided (loaded_one (Some files) load)
 unfolding loaded_one
 one_decided files load =
-    record { one = λ a b p q. p.1 ∙ sym q.1; apart = λ a r p q. fits_not a (bytes_of files load.name) load.limit p.0 p.1 q.1 }
+    record { one = λ a b p q. p.1 ∙ sym q.1; apart = λ a r p q. fits_not a (bytes_of files load.name) load.limit p.0 p.1 q.1; alike = λ r s p q. p.0 ∙ sym q.0 }
 
 loads_decided : (files : Files) (loads : List Load) → IsDecided (loaded (Some files) loads)
 loads_decided files [] = give_decided []
@@ -68,13 +85,34 @@ loads_decided files (load ∷ loads) =
 tokens_one : CuttingsAreOne → (text : List ℕ) (tokens others : List Token) → AreTokens text tokens → AreTokens text others → tokens ≡ others
 tokens_one cuttings text tokens others a b = a.2 ∙ ap (tokens_from 0 first_place) (cuttings text a.0 b.0 a.1 b.1) ∙ sym b.2
 
-tokens_decided : CuttingsAreOne → CutTextsHaveNoFault → (text : List ℕ) → IsDecided (icl_tokens text)
-unfolding icl_tokens
-tokens_decided cuttings no_fault text = record { one = tokens_one cuttings text; apart = λ tokens r p q. no_fault text tokens q.0 p q.1 }
+lex_alike : (fault other : LexFault) (r s : Refusal) → fault ≡ other → lex_refusal fault ≡ Some r → lex_refusal other ≡ Some s → r ≡ s
+lex_alike fault other r s same p q = cc
 
-design_decided : DesignsAreOne → DesignsAreNotRefused → (text : List ℕ) (tokens : List Token) → IsDecided (icl_design text tokens)
+tokens_decided : CuttingsAreOne → CutTextsHaveNoFault → FaultsAreOne → (text : List ℕ) → IsDecided (icl_tokens text)
+unfolding icl_tokens
+tokens_decided cuttings no_fault faults text =
+    record { one = tokens_one cuttings text; apart = λ tokens r p q. no_fault text tokens q.0 p q.1; alike = λ r s p q. lex_alike p.0 q.0 r s (faults text p.0 q.0 p.1 q.1) p.2 q.2 }
+
+-- how a fault is told, without where its words lie in memory
+told_fault : SeenFault → Option Refusal
+told_fault NoMemory = None
+told_fault (ALeftOut at word) = Some (refused_word Icl (codes "LeftOut") at word)
+told_fault (AnExprLimit at) = Some (refused_at Icl (codes "ExprLimit") at)
+told_fault (ASyntax at) = Some (refused_at Icl (codes "Syntax") at)
+
+told_as_seen : (fault : ParseFault) → parse_refusal fault ≡ told_fault (seen_fault fault)
+told_as_seen ParseMemory = refl
+told_as_seen (ParseLeftOut at word) = refl
+told_as_seen (ParseExprLimit at) = refl
+told_as_seen (ParseSyntax at) = refl
+
+parse_alike : (fault other : ParseFault) (r s : Refusal) → seen_fault fault ≡ seen_fault other → parse_refusal fault ≡ Some r → parse_refusal other ≡ Some s → r ≡ s
+parse_alike fault other r s same p q = let a = told_as_seen fault in let b = told_as_seen other in let c = ap told_fault same in cc
+
+design_decided : DesignsAreOne → DesignsAreNotRefused → RefusalsAreOne → (text : List ℕ) (tokens : List Token) → IsDecided (icl_design text tokens)
 unfolding icl_design
-design_decided one not_refused text tokens = record { one = λ d e p q. one _ d e p q; apart = λ d r p q. not_refused text _ d q.0 p q.1 }
+design_decided one not_refused refusals text tokens =
+    record { one = λ d e p q. one _ d e p q; apart = λ d r p q. not_refused text _ d q.0 p q.1; alike = λ r s p q. parse_alike p.0 q.0 r s (refusals text _ p.0 q.0 p.1 q.1) p.2 q.2 }
 
 ok_is : {A E : Type 0} (x y : A) (r : Result A E) → r ≡ Ok x → r ≡ Ok y → x ≡ y
 ok_is x y r p q = cc
@@ -90,45 +128,84 @@ read_not_refused text commands OutOfMemory r read is told = cc
 device_not_refused : (text : List ℕ) (of : SeenDevice) (fault : DeviceFault) → device text ≡ Ok of → device text ≡ Err fault → ⊥
 device_not_refused text of fault read refused = cc
 
+device_alike : (text : List ℕ) (fault other : DeviceFault) (r s : Refusal) → device text ≡ Err fault → device text ≡ Err other → device_fault fault ≡ Some r → device_fault other ≡ Some s → r ≡ s
+device_alike text fault other r s a b p q = cc
+
 device_decided : (text : List ℕ) → IsDecided (device_text text)
 unfolding device_text
-device_decided text = record { one = λ a b p q. ok_is a b (device text) p q; apart = λ a r p q. device_not_refused text a q.0 p q.1 }
+device_decided text =
+    record { one = λ a b p q. ok_is a b (device text) p q; apart = λ a r p q. device_not_refused text a q.0 p q.1; alike = λ r s p q. device_alike text p.0 q.0 r s p.1 q.1 p.2 q.2 }
 
 hierarchy_not_refused : (modules : List SeenModule) (top : List ℕ) (cells : List CellOf) (fault : Fault) → hierarchy modules top ≡ Ok cells → hierarchy modules top ≡ Err fault → ⊥
 hierarchy_not_refused modules top cells fault made refused = cc
 
+hierarchy_alike : (modules : List SeenModule) (top : List ℕ) (fault other : Fault) (r s : Refusal) → hierarchy modules top ≡ Err fault → hierarchy modules top ≡ Err other → r ≡ elab_refusal fault → s ≡ elab_refusal other → r ≡ s
+hierarchy_alike modules top fault other r s a b p q = cc
+
 elaborated_decided : (modules : List SeenModule) (top : List ℕ) → IsDecided (elaborated modules top)
 unfolding elaborated
 elaborated_decided modules top =
-    record { one = λ a b p q. ok_is a b (hierarchy modules top) p q; apart = λ a r p q. hierarchy_not_refused modules top a q.0 p q.1 }
+    record { one = λ a b p q. ok_is a b (hierarchy modules top) p q; apart = λ a r p q. hierarchy_not_refused modules top a q.0 p q.1; alike = λ r s p q. hierarchy_alike modules top p.0 q.0 r s p.1 q.1 p.2 q.2 }
 
 network_not_refused : (cells : List CellOf) (link instr : List ℕ) (net : NetOf) (fault : ConnectRefusal) → network cells link instr ≡ Ok net → network cells link instr ≡ Err fault → ⊥
 network_not_refused cells link instr net fault made refused = cc
 
+network_alike : (cells : List CellOf) (link instr : List ℕ) (fault other : ConnectRefusal) (r s : Refusal) → network cells link instr ≡ Err fault → network cells link instr ≡ Err other → r ≡ connect_refusal fault → s ≡ connect_refusal other → r ≡ s
+network_alike cells link instr fault other r s a b p q = cc
+
 connected_decided : (cells : List CellOf) (of : SeenDevice) → IsDecided (connected cells of)
 unfolding connected
 connected_decided cells of =
-    record { one = λ a b p q. ok_is a b (network cells of.link of.instr) p q; apart = λ a r p q. network_not_refused cells of.link of.instr a q.0 p q.1 }
+    record { one = λ a b p q. ok_is a b (network cells of.link of.instr) p q; apart = λ a r p q. network_not_refused cells of.link of.instr a q.0 p q.1; alike = λ r s p q. network_alike cells of.link of.instr p.0 q.0 r s p.1 q.1 p.2 q.2 }
 
 network_decided : (modules : List SeenModule) (top : List ℕ) (of : SeenDevice) → IsDecided (network_below modules top of)
 unfolding network_below
 network_decided modules top of = in_turn_decided (elaborated modules top) _ (elaborated_decided modules top) (λ cells. connected_decided cells of)
 
+-- how a cause is told
+told_cause : Cause → Place → Refusal
+told_cause (CauseLeftOut word) at = refused_word Svf (codes "LeftOut") at word
+told_cause CauseSyntax at = refused_at Svf (codes "SvfSyntax") at
+told_cause CauseLimit at = refused_at Svf (codes "SvfLimit") at
+told_cause CauseWide at = refused_at Svf (codes "HexWide") at
+told_cause CauseNoTdi at = refused_at Svf (codes "TdiMissing") at
+
+-- the one cause and its place, from the text alone
+told_in : List ℕ → Result (List SeenCommand) SvfRefusal → Option Refusal
+told_in text (Ok commands) = None
+told_in text (Err e) = Some (told_cause e.cause (place_at text e.start))
+
+told_of_text : (text : List ℕ) (cause : Cause) (at : Place) (r : Refusal) → IsRefused text cause at → told_cause cause at ≡ r → told_in text (svf text) ≡ Some r
+told_of_text text cause at r is told = let read = is.1 in let place = is.2 in ap (told_in text) read ∙ ap (λ p. Some (told_cause cause p)) (sym place) ∙ ap Some told
+
+some_is : {A : Type 0} (x y : A) → Some x ≡ Some y → x ≡ y
+some_is x y p = cc
+
+refuses_alike : (text : List ℕ) (fault : SvfFault) (r : Refusal) → Refuses text fault → svf_fault fault ≡ Some r → told_in text (svf text) ≡ Some r
+refuses_alike text (LeftOut at word) r is told = told_of_text text (CauseLeftOut word.items) at r is (some_is _ r told)
+refuses_alike text (SvfSyntax at) r is told = told_of_text text CauseSyntax at r is (some_is _ r told)
+refuses_alike text (SvfLimit at) r is told = told_of_text text CauseLimit at r is (some_is _ r told)
+refuses_alike text (HexWide at) r is told = told_of_text text CauseWide at r is (some_is _ r told)
+refuses_alike text (TdiMissing at) r is told = told_of_text text CauseNoTdi at r is (some_is _ r told)
+refuses_alike text OutOfMemory r is told = cc
+
 svf_decided : (text : List ℕ) → IsDecided (svf_text text)
 unfolding svf_text
-svf_decided text = record { one = λ a b p q. ok_is a b (svf text) p q; apart = λ a r p q. read_not_refused text a q.0 r p q.1 q.2 }
+svf_decided text =
+    record { one = λ a b p q. ok_is a b (svf text) p q; apart = λ a r p q. read_not_refused text a q.0 r p q.1 q.2; alike = λ r s p q. some_is r s (sym (refuses_alike text p.0 r p.1 p.2) ∙ refuses_alike text q.0 s q.1 q.2) }
 
 form_decided : (c : Compile) (icl pdl device : List ℕ) → IsDecided (first_form c icl pdl device)
 unfolding first_form
-form_decided c icl pdl device = record { one = λ a b p q. q.1 a p.0; apart = λ a r p q. q.1 a p.0 }
+form_decided c icl pdl device = record { one = λ a b p q. q.1 a p.0; apart = λ a r p q. q.1 a p.0; alike = λ r s p q. p.0 ∙ sym q.0 }
 
 applied_decided : (form : SeenForm) → IsDecided (applied form)
 unfolding applied
-applied_decided form = record { one = λ a b p q. p.0 ∙ sym q.0; apart = λ a r p q. let all = p.1 in let some = q.1 in cc }
+applied_decided form =
+    record { one = λ a b p q. p.0 ∙ sym q.0; apart = λ a r p q. let all = p.1 in let some = q.1 in cc; alike = λ r s p q. let a = p.1 in let b = q.1 in let c = p.2 in let d = q.2 in cc }
 
 first_design_decided : (p : Play) (icl device tables : List ℕ) → IsDecided (first_design p icl device tables)
 unfolding first_design
-first_design_decided p icl device tables = record { one = λ a b x y. y.1 a x.0; apart = λ a r x y. y.1 a x.0 }
+first_design_decided p icl device tables = record { one = λ a b x y. y.1 a x.0; apart = λ a r x y. y.1 a x.0; alike = λ r s x y. x.0 ∙ sym y.0 }
 
 compiled_decided : (c : Compile) (modules : List SeenModule) (of : SeenDevice) (icl pdl device : List ℕ) → IsDecided (compiled_form c modules of icl pdl device)
 unfolding compiled_form
@@ -148,10 +225,10 @@ texts_decided p modules svf icl device tables =
     in_turn_decided (device_text device) _ (device_decided device) (λ of. in_turn_decided (svf_text svf) _ (svf_decided svf)
     (λ commands. in_turn_decided (played_design p modules of icl device tables) _ (played_decided p modules of icl device tables) (λ design. give_decided (record { design = design; commands = commands }))))
 
-module _ (cuttings : CuttingsAreOne) (no_fault : CutTextsHaveNoFault) (designs : DesignsAreOne) (not_refused : DesignsAreNotRefused) where
+module _ (cuttings : CuttingsAreOne) (no_fault : CutTextsHaveNoFault) (faults : FaultsAreOne) (designs : DesignsAreOne) (not_refused : DesignsAreNotRefused) (refusals : RefusalsAreOne) where
   icl_decided : (text : List ℕ) → IsDecided (icl_text text)
   unfolding icl_text
-  icl_decided text = in_turn_decided (icl_tokens text) _ (tokens_decided cuttings no_fault text) (design_decided designs not_refused text)
+  icl_decided text = in_turn_decided (icl_tokens text) _ (tokens_decided cuttings no_fault faults text) (design_decided designs not_refused refusals text)
 
   accepted_decided : (c : Compile) (texts : List (List ℕ)) → IsDecided (accepted c texts)
   accepted_decided c (icl ∷ pdl ∷ device ∷ []) =

@@ -26,8 +26,9 @@ infixl 10 ◌>>=◌
 abbrev pub ◌>>=◌ : {R A B : Type 0} → Work R A → (A → Work R B) → Work R B
 first >>= next = record { gives = GivesInTurn first next; refuses = RefusesInTurn first next }
 
--- ---- what is given is one value, and then nothing is refused
+-- ---- what is given is one value, and then nothing is refused; and a refusal is one
 
 pub record IsDecided {R A : Type 0} (work : Work R A) : Type 0 where
   pub one : (a b : A) → work.gives a → work.gives b → a ≡ b
   pub apart : (a : A) (r : R) → work.gives a → work.refuses r → ⊥
+  pub alike : (r s : R) → work.refuses r → work.refuses s → r ≡ s

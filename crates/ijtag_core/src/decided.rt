@@ -4,8 +4,8 @@ ghost use Rattle.ijtag_core.specs.Runs.{WorksAreDecided};
 use icl_lexer::{cuttings_are_one, texts_are_cut_or_at_fault};
 use icl_parser::{designs_are_one, refusals_are_one};
 
-/// The work of a command on files comes to one end at most: what it leaves is one, and where it leaves something, it meets no
-/// refusal.
+/// The work of a command on files comes to one end at most: what it leaves is one, where it leaves something, it meets no
+/// refusal, and the refusal that it meets is one.
 pub fn works_are_decided()
     ensures { WorksAreDecided }
 {
