@@ -1,0 +1,7 @@
+//! Tests of files and streams, in memory and of the host.
+#![tactic(auto)]
+
+#[cfg(test)]
+mod files_and_streams;
+#[cfg(test)]
+mod host_files;
