@@ -7,7 +7,7 @@ use Rattle.icl_values.specs.Faults.{◌>>=◌, refuse_if, DoubleName, WrongKind}
 use Rattle.icl_frames.specs.FirstPass.{Frame}
 use Rattle.icl_frames.specs.Parts.{is_input, port_that}
 use Rattle.icl_frames.specs.Ranges.{positions, named_in}
-use Rattle.icl_elab.specs.Names.{Here, named}
+use Rattle.icl_references.specs.Names.{Here, named}
 use Rattle.icl_elab.specs.Bindings.{Bound, is_bound, bound_refs, bind}
 use Rattle.icl_elab.specs.Marks.{bound_in}
 use Rattle.icl_elab.proofs.Rounds.{behind}

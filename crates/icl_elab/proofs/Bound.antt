@@ -3,7 +3,7 @@ use Rattle.std.proofs.Common.{◌≡◌, ◌+◌, ◌-◌, ◌<◌, ◌&&◌, �
 use Rattle.std.specs.Prelude.{is_some, find, slice_get}
 use Rattle.std.specs.List.{list_any, list_all, position_from, range_with_len}
 use Rattle.icl_frames.specs.Scopes.{or_else}
-use Rattle.icl_elab.proofs.Targets.{some_is}
+use Rattle.icl_references.proofs.Targets.{some_is}
 
 module _ {A : Type 0} (p : A → Bool) where
   pub any_position : (s : ℕ) (xs : List A) → is_some (position_from p s xs) ≡ list_any p xs

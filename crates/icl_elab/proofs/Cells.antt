@@ -2,12 +2,12 @@
 use Rattle.std.proofs.Common.{◌≡◌, ◌<◌, ◌+◌, ℕ, zero, suc, List, [], ◌∷◌, length, map, get_or, drop, refl, ap, ◌∙◌, arith}
 use Rattle.std.specs.List.{enumerate_from}
 use Rattle.icl_frames.specs.FirstPass.{Frame}
-use Rattle.icl_elab.specs.Names.{Here, here_of}
+use Rattle.icl_references.specs.Names.{Here, here_of}
 use Rattle.icl_elab.specs.SecondPass.{cells_of}
 use Rattle.std.proofs.lemmas.List.{length-map}
 use Rattle.icl_frames.specs.SeenFrames.{seen_frame}
-use Rattle.icl_elab.specs.declared.tables.Tables.{Tables}
-use Rattle.icl_elab.specs.Tables.{AreTables, IsHere, frames_of, here_at, no_frame}
+use Rattle.icl_references.specs.declared.tables.Tables.{Tables}
+use Rattle.icl_references.specs.Tables.{AreTables, IsHere, frames_of, here_at, no_frame}
 
 abbrev heres : ℕ → List Frame → List Here
 heres s frames = map here_of (enumerate_from s frames)

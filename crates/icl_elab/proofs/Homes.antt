@@ -9,7 +9,7 @@ use Rattle.icl_elab.specs.declared.pass.Placed.{Placed}
 use Rattle.icl_elab.specs.declared.pass.CellParts.{CellParts}
 use Rattle.icl_elab.specs.Bindings.{Bound}
 use Rattle.icl_elab.specs.Hierarchy.{bindings_of, bound_at, is_this_cell}
-use Rattle.icl_elab.specs.Names.{is_in}
+use Rattle.icl_references.specs.Names.{is_in}
 use Rattle.icl_elab.specs.Placing.{bound_by, bound_of, home_in, is_of_cell, parts_of}
 use Rattle.icl_elab.specs.SecondPass.{Found}
 use Rattle.icl_elab.specs.SeenParts.{seen_pass, seen_placed}

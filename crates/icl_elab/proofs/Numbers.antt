@@ -13,16 +13,16 @@ use Rattle.icl_values.specs.Faults.{◌>>=◌, refuse_if, each, over, WrongKind,
 use Rattle.icl_frames.specs.Parts.{is_port, is_interface}
 use Rattle.icl_frames.specs.Ranges.{width}
 use Rattle.icl_frames.specs.FirstPass.{Frame, first_pass}
-use Rattle.icl_elab.specs.Names.{Here, here_of, Member, members, member_that, known_member, named, is_in, is_child_cell, child_cell, known_cell, inside}
-use Rattle.icl_elab.specs.Signals.{data_signals, select_signals, alias_signals, control_signals}
-use Rattle.icl_elab.specs.Roles.{Selection, Role, ScanInput, ScanOutput, DataInput, DataOutput, ControlPort, AScanRegister, AScanMux, AnAliasOf, AnInstance, AnInterfaceOf, AnAccessLink, PartOf, CellOf, part_of, part_at}
-use Rattle.icl_elab.specs.Muxes.{some_meet, row_in, mux_role}
+use Rattle.icl_references.specs.Names.{Here, here_of, Member, members, member_that, known_member, named, is_in, is_child_cell, child_cell, known_cell, inside}
+use Rattle.icl_references.specs.Signals.{data_signals, select_signals, alias_signals, control_signals}
+use Rattle.icl_references.specs.Roles.{Selection, Role, ScanInput, ScanOutput, DataInput, DataOutput, ControlPort, AScanRegister, AScanMux, AnAliasOf, AnInstance, AnInterfaceOf, AnAccessLink, PartOf, CellOf, part_of, part_at}
+use Rattle.icl_references.specs.Muxes.{some_meet, row_in, mux_role}
 use Rattle.icl_elab.specs.Bindings.{Bound, bind, all_whole}
 use Rattle.icl_elab.specs.SecondPass.{Found, found, words_named, first_scan, source_role, port_prop, port_role, register_prop, register_found, nothing_said, alias_prop, instance_found, port_number, selection, found_at, part_found, cell_found, cells_of, second_pass}
 use Rattle.icl_elab.specs.Hierarchy.{bindings_of, with_bound, part_in, cell_in, put_together, hierarchy}
 use Rattle.icl_elab.specs.Laws.{is_port_role, is_interface_role, HasNumbers, IsChildOf, IsInstanceOf, IsPortOf, IsSelectedBy, IsNumbered, AreNumbered, HierarchiesAreNumbered}
 use Rattle.icl_frames.proofs.Answering.{both, ok_is, each_all, over_all}
-use Rattle.icl_elab.proofs.Targets.{some_is, IsHere, known_is, child_there, named_there, member_there}
+use Rattle.icl_references.proofs.Targets.{some_is, IsHere, known_is, child_there, named_there, member_there}
 use Rattle.icl_frames.proofs.Paired.{Paired}
 use Rattle.icl_elab.proofs.Wiring.{each_paired, pair_at, get_map, here_at, all_here, all_true}
 

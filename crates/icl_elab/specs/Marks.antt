@@ -8,8 +8,8 @@ use Rattle.icl_frames.specs.FirstPass.{Frame}
 use Rattle.icl_frames.specs.Parts.{is_input, port_that}
 use Rattle.icl_frames.specs.Ranges.{positions, named_in, width}
 use Rattle.icl_elab.specs.declared.bindings.Bound.{Bound as BoundAt}
-use Rattle.icl_elab.specs.Names.{Here, Member, named}
-use Rattle.icl_elab.specs.Tables.{here_at}
+use Rattle.icl_references.specs.Names.{Here, Member, named}
+use Rattle.icl_references.specs.Tables.{here_at}
 use Rattle.icl_elab.specs.Bindings.{Bound, binds_bit, is_bound, bound_refs}
 
 abbrev pub seen_bound : BoundAt → Bound

@@ -15,9 +15,9 @@ use Rattle.icl_elab.specs.declared.registers.RegisterParts.{RegisterParts}
 use Rattle.icl_elab.specs.declared.parts.Found.{Found as FoundAt}
 use Rattle.icl_elab.specs.declared.pass.Placed.{Placed}
 use Rattle.icl_elab.specs.declared.pass.CellParts.{CellParts}
-use Rattle.icl_elab.specs.Names.{Here, Member, known_member, members}
-use Rattle.icl_elab.specs.Signals.{alias_signals}
-use Rattle.icl_elab.specs.Roles.{Word, Selection, AnAliasOf, seen_body, seen_word, seen_refs, seen_selection}
+use Rattle.icl_references.specs.Names.{Here, Member, known_member, members}
+use Rattle.icl_references.specs.Signals.{alias_signals}
+use Rattle.icl_references.specs.Roles.{Word, Selection, AnAliasOf, seen_body, seen_word, seen_refs, seen_selection}
 use Rattle.icl_elab.specs.SecondPass.{Found, found, Said, nothing_said, register_prop, register_found, alias_prop}
 
 abbrev pub seen_words : Listed (Listed ℕ × Tern) → List Word

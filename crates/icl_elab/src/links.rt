@@ -5,14 +5,14 @@ ghost use Rattle.icl_syntax.specs.Views.{bytes_of, seen_instr, seen_what};
 ghost use Rattle.icl_values.specs.Expressions.{same};
 ghost use Rattle.icl_values.specs.Faults.{Gives, each};
 ghost use Rattle.icl_frames.specs.Parts.{is_interface, is_port};
-ghost use Rattle.icl_elab.specs.Names.{known_member, member_that};
-ghost use Rattle.icl_elab.specs.Roles.{seen_selection};
+ghost use Rattle.icl_references.specs.Names.{known_member, member_that};
+ghost use Rattle.icl_references.specs.Roles.{seen_selection};
 ghost use Rattle.icl_elab.specs.SecondPass.{port_number, selection};
 ghost use Rattle.icl_elab.specs.SeenParts.{first_member, known_number, seen_numbers, seen_selections};
-ghost use Rattle.icl_elab.specs.Tables.{IsHere, frames_of, here_in, seen_member};
+ghost use Rattle.icl_references.specs.Tables.{IsHere, frames_of, here_in, seen_member};
 
-use crate::tables::{Member, Tables};
 use icl_frames::is_interface;
+use icl_references::{Member, Tables};
 use icl_syntax::{LinkInstr, What};
 use icl_values::ElabFault;
 use ij_bits::List;

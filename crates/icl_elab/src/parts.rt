@@ -2,18 +2,16 @@
 ghost use Rattle.std.specs.Prelude.{◌≡◌, map};
 ghost use Rattle.icl_syntax.specs.Views.{seen_bind, seen_what};
 ghost use Rattle.icl_values.specs.Faults.{Gives};
-ghost use Rattle.icl_elab.specs.Roles.{seen_body};
+ghost use Rattle.icl_references.specs.Roles.{seen_body};
 ghost use Rattle.icl_elab.specs.SecondPass.{found, instance_found, part_found};
 ghost use Rattle.icl_elab.specs.SeenParts.{seen_found, seen_resolved};
-ghost use Rattle.icl_elab.specs.Tables.{IsHere, frames_of, here_in, seen_member};
+ghost use Rattle.icl_references.specs.Tables.{IsHere, frames_of, here_in, seen_member};
 
 use crate::bindings::{Bindings, bind_all};
-use crate::hier::Body;
 use crate::links::{port_numbers, selections};
-use crate::muxes::mux_role;
 use crate::ports::{Resolved, alias_found, port_found};
 use crate::registers::register_found;
-use crate::tables::{Member, Tables};
+use icl_references::{Body, Member, Tables, mux_role};
 use icl_syntax::{Bind, What};
 use icl_values::ElabFault;
 use ij_bits::{List, Tern};

@@ -4,15 +4,15 @@ ghost use Rattle.icl_syntax.specs.Views.{seen_prop, seen_sig};
 ghost use Rattle.icl_values.specs.Expressions.{same};
 ghost use Rattle.icl_values.specs.Faults.{Gives, over};
 ghost use Rattle.icl_elab.specs.Marks.{nowhere};
-ghost use Rattle.icl_elab.specs.Roles.{seen_body};
+ghost use Rattle.icl_references.specs.Roles.{seen_body};
 ghost use Rattle.icl_elab.specs.SecondPass.{alias_prop, first_scan, found, port_prop, port_role, source_role};
 ghost use Rattle.icl_elab.specs.SeenParts.{alias_answer, seen_resolved};
-ghost use Rattle.icl_elab.specs.Tables.{IsHere, frames_of, here_in, seen_member};
+ghost use Rattle.icl_references.specs.Tables.{IsHere, frames_of, here_in, seen_member};
 
-use crate::hier::{Body, Ref};
-use crate::signals::{alias_signals, control_signals, data_signals, scan_signal};
-use crate::tables::{Member, Tables, width_of};
 use crate::words::words_named;
+use icl_references::{
+    Body, Member, Ref, Tables, alias_signals, control_signals, data_signals, scan_signal, width_of,
+};
 use icl_syntax::{PortKind, Prop, Sig};
 use icl_values::ElabFault;
 use ij_bits::{List, Tern};

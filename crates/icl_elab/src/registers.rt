@@ -4,13 +4,11 @@ ghost use Rattle.icl_syntax.specs.Views.{seen_prop};
 ghost use Rattle.icl_values.specs.Faults.{Gives, over};
 ghost use Rattle.icl_elab.specs.SecondPass.{nothing_said, register_prop};
 ghost use Rattle.icl_elab.specs.SeenParts.{register_answer, seen_resolved, seen_said};
-ghost use Rattle.icl_elab.specs.Tables.{IsHere, frames_of, here_in, seen_member};
+ghost use Rattle.icl_references.specs.Tables.{IsHere, frames_of, here_in, seen_member};
 
-use crate::hier::{Body, Ref};
 use crate::ports::Resolved;
-use crate::signals::{data_signals, scan_signal};
-use crate::tables::{Member, Tables, width_of};
 use crate::words::words_named;
+use icl_references::{Body, Member, Ref, Tables, data_signals, scan_signal, width_of};
 use icl_syntax::Prop;
 use icl_values::{ElabFault, value_in};
 use ij_bits::{List, Tern};

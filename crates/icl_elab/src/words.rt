@@ -7,13 +7,13 @@ ghost use Rattle.icl_frames.specs.Parts.{is_enum, words_in};
 ghost use Rattle.icl_frames.specs.SeenFrames.{seen_frame};
 ghost use Rattle.icl_values.specs.Faults.{Gives, each};
 ghost use Rattle.icl_values.specs.Tables.{seen_table};
-ghost use Rattle.icl_elab.specs.Roles.{seen_word};
+ghost use Rattle.icl_references.specs.Roles.{seen_word};
 ghost use Rattle.icl_elab.specs.SeenParts.{seen_words};
 ghost use Rattle.icl_elab.specs.SecondPass.{known_enum, word_of, words_named};
-ghost use Rattle.icl_elab.specs.Tables.{seen_member};
+ghost use Rattle.icl_references.specs.Tables.{seen_member};
 
-use crate::tables::{Member, width_of};
 use icl_frames::{Frame, is_enum};
+use icl_references::{Member, width_of};
 use icl_syntax::{EnumWord, Item, What};
 use icl_values::{ElabFault, ParamTable, value_in};
 use ij_bits::{List, Tern};

@@ -5,7 +5,7 @@ use Rattle.std.specs.List.{AllByRecursion, enumerate_from, position_from}
 use Rattle.std.proofs.lemmas.Bool.{eq-eqb, ne_eqb}
 use Rattle.std.proofs.lemmas.Iterator.Adapters.{position_from-zero}
 use Rattle.std.proofs.lemmas.List.Elements.{filter-append}
-use Rattle.icl_elab.specs.Roles.{Role, PartOf, CellOf, part_of, part_at}
+use Rattle.icl_references.specs.Roles.{Role, PartOf, CellOf, part_of, part_at}
 use Rattle.icl_signals.specs.declared.parts.Kind.{Kind}
 use Rattle.icl_signals.specs.declared.parts.Kind.TheVariants.{Output}
 use Rattle.icl_signals.specs.Moves.{Entry, entry_of, entries_in, entries, is_instrument}

@@ -2,7 +2,7 @@
 use Rattle.std.proofs.Common.{◌≡◌, ◌+◌, ◌<◌, ℕ, zero, suc, Bool, true, false, List, [], ◌∷◌, map, length, refl, sym, ap, subst, arith}
 use Rattle.std.specs.Prelude.{filter, slice_get, slice_index_or}
 use Rattle.std.specs.List.{AllByRecursion, enumerate_from}
-use Rattle.icl_elab.specs.Roles.{Role, PartOf, CellOf}
+use Rattle.icl_references.specs.Roles.{Role, PartOf, CellOf}
 use Rattle.icl_signals.specs.declared.entries.PartAt.{PartAt}
 use Rattle.icl_signals.specs.Moves.{Entry, entry_of, entries}
 use Rattle.icl_signals.specs.Connecting.{entries_that}

@@ -3,7 +3,7 @@ use Rattle.std.proofs.Common.{◌≡◌, ◌+◌, ◌++◌, ℕ, List, [], ◌�
 use Rattle.std.specs.Prelude.{sum_by, flat_map}
 use Rattle.std.specs.List.{enumerate_from}
 use Rattle.std.proofs.lemmas.List.Sums.{sum_by-cons}
-use Rattle.icl_elab.specs.Roles.{PartOf, CellOf, part_width}
+use Rattle.icl_references.specs.Roles.{PartOf, CellOf, part_width}
 use Rattle.icl_signals.specs.Moves.{Entry, entry_of, entries_in, entries}
 use Rattle.icl_signals.specs.Traces.{signal_bits}
 

@@ -1,8 +1,8 @@
 -- What a bit's part is, by what the bit stands for.
 use Rattle.std.proofs.Common.{◌≡◌, ℕ, zero, suc, Bool, true, false, cond, List, [], ◌∷◌, map, get_or, Option, Some, None, refl, sym, ap, subst, ◌∙◌}
 use Rattle.std.specs.Prelude.{slice_get}
-use Rattle.icl_elab.specs.declared.hier.Ref.{Ref}
-use Rattle.icl_elab.specs.Roles.{Role, ScanInput, ScanOutput, DataInput, DataOutput, ControlPort, AScanRegister, AScanMux, AnAliasOf, AnInstance, AnInterfaceOf, AnAccessLink, PartOf, CellOf, part_of, part_at}
+use Rattle.icl_references.specs.declared.hier.Ref.{Ref}
+use Rattle.icl_references.specs.Roles.{Role, ScanInput, ScanOutput, DataInput, DataOutput, ControlPort, AScanRegister, AScanMux, AnAliasOf, AnInstance, AnInterfaceOf, AnAccessLink, PartOf, CellOf, part_of, part_at}
 use Rattle.icl_signals.specs.declared.wires.Wire.{Wire}
 use Rattle.icl_signals.specs.declared.wires.StandsFor.{StandsFor}
 use Rattle.icl_signals.specs.declared.wires.StandsFor.TheVariants.{Another, ARegisterBit, AMuxOutput, AnInstrumentOutput, TheEntry, AFreeInput, NothingAtAll}

@@ -1,7 +1,7 @@
 -- A cell that isn't there.
 use Rattle.std.proofs.Common.{◌≡◌, ℕ, zero, suc, true, List, [], ◌∷◌, Option, Some, None, refl}
 use Rattle.std.specs.Prelude.{slice_get}
-use Rattle.icl_elab.specs.Roles.{CellOf}
+use Rattle.icl_references.specs.Roles.{CellOf}
 use Rattle.icl_signals.specs.Moves.{is_top}
 
 pub none_is_top : (cells : List CellOf) (k : ℕ) → None ≡ slice_get cells k → true ≡ is_top cells k

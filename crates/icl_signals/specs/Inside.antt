@@ -1,6 +1,6 @@
 -- The parts of an instrument's cell, with their numbers.
 use Rattle.std.specs.Prelude.{ℕ, Bool, List, filter}
-use Rattle.icl_elab.specs.Roles.{Role, PartOf, CellOf}
+use Rattle.icl_references.specs.Roles.{Role, PartOf, CellOf}
 use Rattle.icl_signals.specs.Moves.{Entry, entries_in}
 
 -- an entry as its number and its part

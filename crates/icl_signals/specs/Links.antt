@@ -2,7 +2,7 @@
 use Rattle.std.specs.Prelude.{ℕ, Bool, ◌==◌, ◌&&◌, cond, List, find, Option, Some, None}
 use Rattle.std.specs.List.{list_all}
 use Rattle.std.specs.Str.{bytes_eq}
-use Rattle.icl_elab.specs.Roles.{Role, PartOf}
+use Rattle.icl_references.specs.Roles.{Role, PartOf}
 use Rattle.icl_signals.specs.declared.links.Side.{Side}
 use Rattle.icl_signals.specs.declared.links.Side.TheVariants.{ScanIn, ScanOut}
 use Rattle.icl_signals.specs.declared.links.NetworkEnds.{NetworkEnds}

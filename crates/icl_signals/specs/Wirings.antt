@@ -1,6 +1,6 @@
 -- What following a signal looks at: the hierarchy, which cells are instruments, the numbers of parts, and where the network begins.
 use Rattle.std.specs.Prelude.{◌≡◌, ◌+◌, ℕ, List, map}
-use Rattle.icl_elab.specs.Roles.{CellOf, seen_hier}
+use Rattle.icl_references.specs.Roles.{CellOf, seen_hier}
 use Rattle.icl_signals.specs.declared.wires.Wire.{Wire}
 use Rattle.icl_signals.specs.declared.parts.Kind.TheVariants.{Register, Mux, Thing, Output}
 use Rattle.icl_signals.specs.declared.wiring.Wiring.{Wiring}

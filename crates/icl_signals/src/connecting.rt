@@ -1,6 +1,6 @@
 // The network of a hierarchy.
 ghost use Rattle.std.specs.Prelude.{◌≡◌, map};
-ghost use Rattle.icl_elab.specs.Roles.{seen_hier};
+ghost use Rattle.icl_references.specs.Roles.{seen_hier};
 ghost use Rattle.icl_signals.specs.Refusals.{Gives};
 ghost use Rattle.icl_signals.specs.PlainNets.{seen_net};
 ghost use Rattle.icl_signals.specs.Connecting.{network};

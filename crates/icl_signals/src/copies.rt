@@ -2,7 +2,7 @@
 ghost use Rattle.std.specs.Prelude.{◌≡◌, map, replicate, None, IfOk};
 ghost use Rattle.std.specs.Option.{option_map};
 ghost use Rattle.ij_text.specs.Numbers.{tern_bits};
-ghost use Rattle.icl_elab.specs.Roles.{seen_word};
+ghost use Rattle.icl_references.specs.Roles.{seen_word};
 ghost use Rattle.icl_signals.specs.Connecting.{resets};
 
 use icl_elab::Part;

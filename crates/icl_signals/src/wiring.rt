@@ -1,6 +1,6 @@
 // What following a signal looks at.
 ghost use Rattle.std.specs.Prelude.{◌≡◌, ◌+◌, map, sum_by, IfOk};
-ghost use Rattle.icl_elab.specs.Roles.{part_width, seen_part, seen_cell, seen_hier};
+ghost use Rattle.icl_references.specs.Roles.{part_width, seen_part, seen_cell, seen_hier};
 ghost use Rattle.icl_signals.specs.Wirings.{IsWiring, cells_of};
 ghost use Rattle.icl_signals.specs.Traces.{signal_bits};
 

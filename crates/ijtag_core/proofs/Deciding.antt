@@ -20,7 +20,7 @@ use Rattle.first_form.specs.Texts.{SeenForm}
 use Rattle.ijtag_core.specs.Command.{Command, Compile, Compiles, Play, Plays, Load, loads}
 use Rattle.icl_syntax.specs.Values.{SeenModule}
 use Rattle.icl_values.specs.Faults.{Fault}
-use Rattle.icl_elab.specs.Roles.{CellOf}
+use Rattle.icl_references.specs.Roles.{CellOf}
 use Rattle.icl_elab.specs.Hierarchy.{hierarchy}
 use Rattle.ijtag_core.specs.Elaborated.{elab_refusal, elaborated}
 use Rattle.ijtag_core.specs.Designs.{compiled_form, played_design}

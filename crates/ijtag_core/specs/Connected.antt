@@ -1,7 +1,7 @@
 -- The stage of the network: each signal of the hierarchy followed to where it ends, or the first fault (IEEE 1687-2014, ICL: AccessLink).
 use Rattle.std.specs.Prelude.{◌≡◌, ℕ, List, [], ◌∷◌, Ok, Err, codes}
 use Rattle.bench_file.specs.Device.{SeenDevice}
-use Rattle.icl_elab.specs.Roles.{CellOf}
+use Rattle.icl_references.specs.Roles.{CellOf}
 use Rattle.icl_signals.specs.Connecting.{network}
 use Rattle.icl_signals.specs.PlainNets.{NetOf}
 use Rattle.icl_signals.specs.Refusals.{Refusal as Fault, NoLink, Undriven, SignalLoop, BadSelect, InstrumentChain}

@@ -4,7 +4,7 @@ use Rattle.ij_text.specs.declared.Which.{Which}
 use Rattle.ij_text.specs.declared.Which.TheVariants.{Hierarchy, Cells, ScanBits, Muxes, Instruments, Ports, PortBits, Width, Groups, RunLoop, RunCycles}
 use Rattle.icl_syntax.specs.Values.{SeenModule}
 use Rattle.icl_values.specs.Faults.{Fault, NoModule, NoName, DoubleName, NoParameter, DivideByZero, BadNumber, BadRange, WidthDiffers, WrongKind, RowsOverlap, InstanceLoop, Limit}
-use Rattle.icl_elab.specs.Roles.{CellOf}
+use Rattle.icl_references.specs.Roles.{CellOf}
 use Rattle.icl_elab.specs.Hierarchy.{hierarchy}
 use Rattle.ijtag_core.specs.Refusals.{Part, Refusal, Said, Num, refused_at, refused_name, refused_word}
 use Rattle.ijtag_core.specs.declared.refusal.Stage.TheVariants.{Elab}

@@ -10,6 +10,8 @@ mod icl_hierarchies;
 #[cfg(test)]
 mod icl_printed;
 #[cfg(test)]
+mod icl_refusals;
+#[cfg(test)]
 mod icl_tokens;
 #[cfg(test)]
 mod largest;

@@ -2,7 +2,7 @@
 ghost use Rattle.std.specs.Prelude.{◌≡◌};
 ghost use Rattle.std.specs.Option.{option_map};
 ghost use Rattle.bench_file.specs.Device.{seen_device};
-ghost use Rattle.icl_elab.specs.Roles.{seen_hier};
+ghost use Rattle.icl_references.specs.Roles.{seen_hier};
 ghost use Rattle.icl_signals.specs.PlainNets.{seen_net};
 ghost use Rattle.icl_signals.specs.Refusals.{seen_fault};
 ghost use Rattle.ijtag_core.specs.Connected.{connected, connect_refusal};

@@ -3,7 +3,7 @@ ghost use Rattle.std.specs.Prelude.{◌≡◌, codes, IfOk};
 ghost use Rattle.std.specs.Option.{option_map};
 ghost use Rattle.icl_syntax.specs.Views.{seen_design};
 ghost use Rattle.icl_values.specs.Faults.{seen_fault};
-ghost use Rattle.icl_elab.specs.Roles.{seen_hier};
+ghost use Rattle.icl_references.specs.Roles.{seen_hier};
 ghost use Rattle.ijtag_core.specs.Follows.{Follows, IsToldAs};
 ghost use Rattle.ijtag_core.specs.Elaborated.{elaborated, elab_refusal, which_name};
 

@@ -8,7 +8,7 @@ use Rattle.icl_values.specs.Expressions.{same}
 use Rattle.icl_values.proofs.Each.{fails_along}
 use Rattle.icl_elab.specs.Bindings.{bind}
 use Rattle.icl_elab.specs.Marks.{bound_in, seen_bound}
-use Rattle.icl_elab.specs.Tables.{frames_of, here_in}
+use Rattle.icl_references.specs.Tables.{frames_of, here_in}
 use Rattle.icl_elab.proofs.Binding.{bind_parts}
 use Rattle.icl_elab.proofs.Rounds.{step_fails, step_goes, gives_if}
 use Rattle.icl_elab.proofs.bindings.bind.Goals as goal

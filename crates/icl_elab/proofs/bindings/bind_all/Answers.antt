@@ -3,7 +3,7 @@ use Rattle.icl_syntax.specs.Views.{seen_bind}
 use Rattle.icl_values.specs.Faults.{seen_fault}
 use Rattle.icl_values.proofs.Each.{over_stops}
 use Rattle.icl_elab.specs.Bindings.{bind}
-use Rattle.icl_elab.specs.Tables.{frames_of, here_in}
+use Rattle.icl_references.specs.Tables.{frames_of, here_in}
 use Rattle.icl_elab.proofs.bindings.bind_all.Goals as goal
 
 pub returns-in_err-bindings : goal.returns-in_err-bindings

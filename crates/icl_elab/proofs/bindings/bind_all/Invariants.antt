@@ -2,7 +2,7 @@ use Rattle.std.proofs.Common.{◌≡◌, [], map, drop}
 use Rattle.icl_syntax.specs.Views.{seen_bind}
 use Rattle.icl_values.specs.Faults.{over}
 use Rattle.icl_elab.specs.Bindings.{bind}
-use Rattle.icl_elab.specs.Tables.{frames_of, here_in}
+use Rattle.icl_references.specs.Tables.{frames_of, here_in}
 use Rattle.icl_elab.proofs.bindings.bind_all.Given as goal
 
 abbrev pub invariant-loop-binding : goal.invariant-loop-binding

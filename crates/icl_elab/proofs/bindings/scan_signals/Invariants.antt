@@ -2,8 +2,8 @@ use Rattle.std.proofs.Common.{◌≡◌, map, drop}
 use Rattle.icl_syntax.specs.Views.{seen_sig}
 use Rattle.icl_values.specs.Faults.{each}
 use Rattle.icl_values.proofs.Each.{more}
-use Rattle.icl_elab.specs.Signals.{scan_signal}
-use Rattle.icl_elab.specs.Tables.{frames_of, here_in}
+use Rattle.icl_references.specs.Signals.{scan_signal}
+use Rattle.icl_references.specs.Tables.{frames_of, here_in}
 use Rattle.icl_elab.proofs.bindings.scan_signals.Given as goal
 
 abbrev pub invariant-loop-sig : goal.invariant-loop-sig

@@ -1,8 +1,8 @@
 use Rattle.std.proofs.Common.{◌≡◌, ◌+◌, ◌++◌, drop, length, map, vec_len}
 use Rattle.std.specs.Prelude.{reverse}
 use Rattle.icl_elab.specs.Placing.{made, seen_cell_ports}
-use Rattle.icl_elab.specs.Roles.{seen_cell}
-use Rattle.icl_elab.specs.Tables.{frames_of}
+use Rattle.icl_references.specs.Roles.{seen_cell}
+use Rattle.icl_references.specs.Tables.{frames_of}
 use Rattle.icl_elab.proofs.hierarchy.all_cells.Given as goal
 
 abbrev pub invariant-loop-cell : goal.invariant-loop-cell

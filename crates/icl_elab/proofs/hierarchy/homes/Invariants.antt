@@ -1,7 +1,7 @@
 use Rattle.std.proofs.Common.{◌≡◌, ◌<◌, ℕ, length, drop}
 use Rattle.icl_frames.specs.Scopes.{or_else}
 use Rattle.icl_elab.specs.Placing.{home_at, home_in, parent_in}
-use Rattle.icl_elab.specs.Tables.{frames_of}
+use Rattle.icl_references.specs.Tables.{frames_of}
 use Rattle.icl_elab.proofs.Homes.{home_from}
 use Rattle.icl_elab.proofs.hierarchy.homes.Given as goal
 

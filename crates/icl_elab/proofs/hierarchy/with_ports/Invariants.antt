@@ -1,7 +1,7 @@
 use Rattle.std.proofs.Common.{◌≡◌, ◌++◌, map, vec_len}
 use Rattle.std.specs.Prelude.{reverse}
 use Rattle.icl_elab.specs.Placing.{parts_with, seen_ports}
-use Rattle.icl_elab.specs.Roles.{seen_part}
+use Rattle.icl_references.specs.Roles.{seen_part}
 use Rattle.icl_elab.proofs.hierarchy.with_ports.Given as goal
 
 abbrev pub invariant-loop-first : goal.invariant-loop-first

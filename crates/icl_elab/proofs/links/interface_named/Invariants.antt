@@ -1,7 +1,7 @@
 use Rattle.std.proofs.Common.{◌≡◌, map, drop}
 use Rattle.icl_frames.specs.Parts.{is_interface}
 use Rattle.icl_elab.specs.SeenParts.{first_member}
-use Rattle.icl_elab.specs.Tables.{seen_member}
+use Rattle.icl_references.specs.Tables.{seen_member}
 use Rattle.icl_elab.proofs.links.interface_named.Given as goal
 
 abbrev pub invariant-loop-m : goal.invariant-loop-m

@@ -2,7 +2,7 @@ use Rattle.std.proofs.Common.{◌∙◌}
 use Rattle.std.proofs.lemmas.Result.{err_from_is_err_and}
 use Rattle.icl_syntax.specs.Views.{bytes_of}
 use Rattle.icl_elab.specs.SecondPass.{port_number}
-use Rattle.icl_elab.specs.Tables.{frames_of, here_in}
+use Rattle.icl_references.specs.Tables.{frames_of, here_in}
 use Rattle.icl_values.specs.Faults.{seen_fault}
 use Rattle.icl_elab.proofs.Rounds.{plain_goes, plain_fails}
 use Rattle.icl_elab.proofs.links.port_numbers.Goals as goal

@@ -1,7 +1,7 @@
 use Rattle.std.proofs.Common.{◌≡◌, map, drop}
 use Rattle.icl_syntax.specs.Views.{bytes_of}
 use Rattle.icl_elab.specs.SecondPass.{port_number}
-use Rattle.icl_elab.specs.Tables.{frames_of, here_in}
+use Rattle.icl_references.specs.Tables.{frames_of, here_in}
 use Rattle.icl_values.specs.Faults.{each}
 use Rattle.icl_values.proofs.Each.{more}
 use Rattle.icl_elab.proofs.links.port_numbers.Given as goal

@@ -1,9 +1,9 @@
 use Rattle.std.proofs.Common.{◌∙◌}
 use Rattle.std.proofs.lemmas.Result.{err_from_is_err_and}
 use Rattle.icl_syntax.specs.Views.{seen_instr}
-use Rattle.icl_elab.specs.Roles.{seen_selection}
+use Rattle.icl_references.specs.Roles.{seen_selection}
 use Rattle.icl_elab.specs.SecondPass.{selection}
-use Rattle.icl_elab.specs.Tables.{frames_of, here_in}
+use Rattle.icl_references.specs.Tables.{frames_of, here_in}
 use Rattle.icl_values.specs.Faults.{seen_fault}
 use Rattle.icl_values.proofs.Each.{round_goes, round_fails}
 use Rattle.icl_elab.proofs.links.selections.Goals as goal

@@ -1,8 +1,8 @@
 use Rattle.std.proofs.Common.{◌≡◌, map, drop}
 use Rattle.icl_syntax.specs.Views.{seen_instr}
-use Rattle.icl_elab.specs.Roles.{seen_selection}
+use Rattle.icl_references.specs.Roles.{seen_selection}
 use Rattle.icl_elab.specs.SecondPass.{selection}
-use Rattle.icl_elab.specs.Tables.{frames_of, here_in}
+use Rattle.icl_references.specs.Tables.{frames_of, here_in}
 use Rattle.icl_values.specs.Faults.{each}
 use Rattle.icl_values.proofs.Each.{more}
 use Rattle.icl_elab.proofs.links.selections.Given as goal

@@ -3,7 +3,7 @@ use Rattle.icl_values.specs.Faults.{each}
 use Rattle.icl_values.proofs.Each.{more}
 use Rattle.icl_elab.specs.SecondPass.{cell_found, cells_of}
 use Rattle.icl_elab.specs.SeenParts.{heads_of_cells, heads_of_frame, seen_pass}
-use Rattle.icl_elab.specs.Tables.{frames_of}
+use Rattle.icl_references.specs.Tables.{frames_of}
 use Rattle.icl_elab.proofs.pass.second_pass.Given as goal
 
 abbrev pub invariant-loop-here : goal.invariant-loop-here

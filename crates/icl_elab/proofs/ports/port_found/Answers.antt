@@ -2,7 +2,7 @@ use Rattle.std.proofs.lemmas.Result.{err_from_is_err_and}
 use Rattle.icl_syntax.specs.Views.{seen_prop}
 use Rattle.icl_elab.specs.SecondPass.{port_prop}
 use Rattle.icl_elab.specs.SeenParts.{seen_resolved}
-use Rattle.icl_elab.specs.Tables.{frames_of, here_in, seen_member}
+use Rattle.icl_references.specs.Tables.{frames_of, here_in, seen_member}
 use Rattle.icl_values.specs.Faults.{seen_fault}
 use Rattle.icl_values.proofs.Each.{over_stops}
 use Rattle.icl_elab.proofs.ports.port_found.Goals as goal

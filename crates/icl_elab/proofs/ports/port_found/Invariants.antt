@@ -2,7 +2,7 @@ use Rattle.std.proofs.Common.{◌≡◌, map, drop}
 use Rattle.icl_syntax.specs.Views.{seen_prop}
 use Rattle.icl_elab.specs.SecondPass.{found, port_prop, port_role}
 use Rattle.icl_elab.specs.SeenParts.{seen_resolved}
-use Rattle.icl_elab.specs.Tables.{frames_of, here_in, seen_member}
+use Rattle.icl_references.specs.Tables.{frames_of, here_in, seen_member}
 use Rattle.icl_values.specs.Faults.{over}
 use Rattle.icl_elab.proofs.ports.port_found.Given as goal
 

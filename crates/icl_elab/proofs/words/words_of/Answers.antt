@@ -2,7 +2,7 @@ use Rattle.std.proofs.Common.{◌∙◌}
 use Rattle.std.proofs.lemmas.Result.{err_from_is_err_and}
 use Rattle.icl_syntax.specs.Views.{seen_enum_word}
 use Rattle.icl_values.specs.Tables.{seen_table}
-use Rattle.icl_elab.specs.Roles.{seen_word}
+use Rattle.icl_references.specs.Roles.{seen_word}
 use Rattle.icl_elab.specs.SecondPass.{word_of}
 use Rattle.icl_values.specs.Faults.{seen_fault}
 use Rattle.icl_values.proofs.Each.{round_goes, round_fails}

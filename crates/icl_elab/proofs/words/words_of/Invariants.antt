@@ -1,7 +1,7 @@
 use Rattle.std.proofs.Common.{◌≡◌, map, drop}
 use Rattle.icl_syntax.specs.Views.{seen_enum_word}
 use Rattle.icl_values.specs.Tables.{seen_table}
-use Rattle.icl_elab.specs.Roles.{seen_word}
+use Rattle.icl_references.specs.Roles.{seen_word}
 use Rattle.icl_elab.specs.SecondPass.{word_of}
 use Rattle.icl_values.specs.Faults.{each}
 use Rattle.icl_values.proofs.Each.{more}

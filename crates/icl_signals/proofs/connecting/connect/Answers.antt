@@ -1,5 +1,5 @@
 use Rattle.std.proofs.Common.{◌≡◌, sym, ap, subst, ◌∙◌, map}
-use Rattle.icl_elab.specs.Roles.{seen_hier}
+use Rattle.icl_references.specs.Roles.{seen_hier}
 use Rattle.icl_signals.specs.Connecting.{is_register}
 use Rattle.icl_signals.specs.Told.{seen_entry, ArePlaced}
 use Rattle.icl_signals.proofs.Placed.{placed}

@@ -1,5 +1,5 @@
 use Rattle.std.proofs.Common.{◌≡◌, map, take}
-use Rattle.icl_elab.specs.Roles.{seen_word}
+use Rattle.icl_references.specs.Roles.{seen_word}
 use Rattle.icl_signals.proofs.copies.words_copy.Given as goal
 
 abbrev pub invariant-loop-word : goal.invariant-loop-word

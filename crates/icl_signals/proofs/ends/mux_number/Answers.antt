@@ -1,6 +1,6 @@
 use Rattle.std.proofs.Common.{◌≡◌, ℕ, List, Bool, true, map, subst, ap, sym, ◌∙◌, Some}
 use Rattle.std.specs.Prelude.{get_or}
-use Rattle.icl_elab.specs.Roles.{PartOf, part_at}
+use Rattle.icl_references.specs.Roles.{PartOf, part_at}
 use Rattle.net_graph.specs.declared.net.BitId.{BitId}
 use Rattle.icl_signals.specs.declared.parts.Kind.TheVariants.{Register, Mux, Output}
 use Rattle.icl_signals.specs.declared.wires.StandsFor.TheVariants.{ARegisterBit, AMuxOutput, AnInstrumentOutput}

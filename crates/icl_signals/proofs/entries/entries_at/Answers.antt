@@ -1,6 +1,6 @@
 use Rattle.std.proofs.Common.{◌≡◌, ◌++◌, map, ap, ◌∙◌}
 use Rattle.std.specs.Prelude.{filter}
-use Rattle.icl_elab.specs.Roles.{seen_cell}
+use Rattle.icl_references.specs.Roles.{seen_cell}
 use Rattle.icl_signals.specs.Moves.{Entry, entries_in}
 use Rattle.icl_signals.specs.Kinds.{test_of}
 use Rattle.icl_signals.specs.Inside.{numbered}

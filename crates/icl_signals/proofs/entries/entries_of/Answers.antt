@@ -3,8 +3,8 @@ use Rattle.std.specs.Prelude.{filter, flat_map}
 use Rattle.std.specs.List.{enumerate_from}
 use Rattle.std.proofs.lemmas.List.Elements.{filter-append}
 use Rattle.icl_signals.proofs.Rounds.{split_at}
-use Rattle.icl_elab.specs.declared.hier.Cell.{Cell}
-use Rattle.icl_elab.specs.Roles.{CellOf, seen_cell, seen_hier}
+use Rattle.icl_references.specs.declared.hier.Cell.{Cell}
+use Rattle.icl_references.specs.Roles.{CellOf, seen_cell, seen_hier}
 use Rattle.icl_signals.specs.Moves.{Entry, entries_in}
 use Rattle.icl_signals.specs.Kinds.{test_of}
 use Rattle.icl_signals.specs.Told.{seen_entry}

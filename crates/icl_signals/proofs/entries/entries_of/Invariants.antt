@@ -1,7 +1,7 @@
 use Rattle.std.proofs.Common.{◌≡◌, ◌++◌, map, drop}
 use Rattle.std.specs.Prelude.{filter, flat_map}
 use Rattle.std.specs.List.{enumerate_from}
-use Rattle.icl_elab.specs.Roles.{seen_cell, seen_hier}
+use Rattle.icl_references.specs.Roles.{seen_cell, seen_hier}
 use Rattle.icl_signals.specs.Moves.{entries_in}
 use Rattle.icl_signals.specs.Connecting.{entries_that}
 use Rattle.icl_signals.specs.Kinds.{test_of}

@@ -1,7 +1,7 @@
 use Rattle.std.proofs.Common.{◌≡◌, ◌++◌, map, drop}
 use Rattle.std.specs.Prelude.{filter}
 use Rattle.std.specs.List.{enumerate_from}
-use Rattle.icl_elab.specs.Roles.{seen_part, seen_cell}
+use Rattle.icl_references.specs.Roles.{seen_part, seen_cell}
 use Rattle.icl_signals.specs.Moves.{entry_of, entries_in}
 use Rattle.icl_signals.specs.Kinds.{test_of}
 use Rattle.icl_signals.specs.Told.{seen_entry}

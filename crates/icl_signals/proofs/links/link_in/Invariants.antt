@@ -1,5 +1,5 @@
 use Rattle.std.proofs.Common.{◌≡◌, map, drop}
-use Rattle.icl_elab.specs.Roles.{seen_part}
+use Rattle.icl_references.specs.Roles.{seen_part}
 use Rattle.icl_signals.specs.Links.{named_link}
 use Rattle.icl_signals.proofs.links.link_in.Given as goal
 

@@ -1,6 +1,6 @@
 use Rattle.std.proofs.Common.{◌≡◌, drop}
 use Rattle.std.specs.Prelude.{filter}
-use Rattle.icl_elab.specs.Roles.{part_at, seen_hier}
+use Rattle.icl_references.specs.Roles.{part_at, seen_hier}
 use Rattle.icl_signals.specs.Connecting.{passes, only}
 use Rattle.icl_signals.specs.Links.{test_of_side, only_with}
 use Rattle.icl_signals.proofs.links.only_among.Given as goal

@@ -1,5 +1,5 @@
 use Rattle.std.proofs.Common.{[]}
-use Rattle.icl_elab.specs.Roles.{seen_hier}
+use Rattle.icl_references.specs.Roles.{seen_hier}
 use Rattle.icl_signals.proofs.Nowhere.{none_at}
 use Rattle.icl_signals.proofs.links.top_parts.Goals as goal
 

@@ -2,7 +2,7 @@ use Rattle.std.proofs.Common.{◌≡◌, map, drop}
 use Rattle.icl_values.specs.Faults.{each}
 use Rattle.icl_signals.specs.Refusals.{behind}
 use Rattle.icl_signals.specs.Wirings.{cells_of}
-use Rattle.icl_elab.specs.Roles.{seen_row as seen_choice}
+use Rattle.icl_references.specs.Roles.{seen_row as seen_choice}
 use Rattle.icl_signals.specs.Connecting.{row_from}
 use Rattle.icl_signals.specs.PlainNets.{seen_row}
 use Rattle.icl_signals.proofs.muxes.rows.Given as goal

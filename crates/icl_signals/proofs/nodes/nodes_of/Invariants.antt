@@ -1,5 +1,5 @@
 use Rattle.std.proofs.Common.{◌≡◌, [], map, take, drop}
-use Rattle.icl_elab.specs.Roles.{seen_cell, seen_hier}
+use Rattle.icl_references.specs.Roles.{seen_cell, seen_hier}
 use Rattle.icl_signals.specs.Connecting.{paths_from}
 use Rattle.icl_signals.specs.PlainNets.{seen_node}
 use Rattle.icl_signals.proofs.nodes.nodes_of.Given as goal

@@ -1,5 +1,5 @@
 use Rattle.std.proofs.Common.{◌≡◌, ◌++◌, map, drop}
-use Rattle.icl_elab.specs.Roles.{seen_part}
+use Rattle.icl_references.specs.Roles.{seen_part}
 use Rattle.icl_signals.specs.Kinds.{is_of, in_front, with_all}
 use Rattle.icl_signals.proofs.numbers.in_front.Given as goal
 

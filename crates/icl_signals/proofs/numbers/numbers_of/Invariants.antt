@@ -1,5 +1,5 @@
 use Rattle.std.proofs.Common.{◌≡◌, ◌++◌, map, drop}
-use Rattle.icl_elab.specs.Roles.{seen_cell}
+use Rattle.icl_references.specs.Roles.{seen_cell}
 use Rattle.icl_signals.specs.Kinds.{numbers_from}
 use Rattle.icl_signals.proofs.numbers.numbers_of.Given as goal
 

@@ -1,5 +1,5 @@
 use Rattle.std.proofs.Common.{◌≡◌, map, take}
-use Rattle.icl_elab.specs.Roles.{seen_cell}
+use Rattle.icl_references.specs.Roles.{seen_cell}
 use Rattle.icl_signals.specs.declared.parts.Kind.TheVariants.{Output}
 use Rattle.icl_signals.specs.Kinds.{is_of, in_front}
 use Rattle.icl_signals.proofs.numbers.outputs_of.Given as goal

@@ -1,4 +1,4 @@
-use Rattle.icl_elab.specs.Roles.{seen_hier}
+use Rattle.icl_references.specs.Roles.{seen_hier}
 use Rattle.icl_signals.proofs.Tops.{none_is_top}
 use Rattle.icl_signals.proofs.parts.is_top.Goals as goal
 

@@ -1,5 +1,5 @@
 use Rattle.std.proofs.Common.{◌≡◌, ◌+◌, map, drop}
-use Rattle.icl_elab.specs.Roles.{seen_cell}
+use Rattle.icl_references.specs.Roles.{seen_cell}
 use Rattle.icl_signals.proofs.SignalBits.{bits_of_cells}
 use Rattle.icl_signals.proofs.wiring.count_bits.Given as goal
 

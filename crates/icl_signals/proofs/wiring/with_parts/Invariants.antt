@@ -1,6 +1,6 @@
 use Rattle.std.proofs.Common.{◌≡◌, ◌+◌, map, drop}
 use Rattle.std.specs.Prelude.{sum_by}
-use Rattle.icl_elab.specs.Roles.{part_width, seen_part}
+use Rattle.icl_references.specs.Roles.{part_width, seen_part}
 use Rattle.icl_signals.proofs.wiring.with_parts.Given as goal
 
 abbrev pub invariant-loop-part : goal.invariant-loop-part

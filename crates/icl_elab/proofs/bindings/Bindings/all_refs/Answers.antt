@@ -1,6 +1,6 @@
 use Rattle.std.proofs.Common.{◌∙◌, ◌∷◌, ◌++◌, [], List, sym, ap, arith}
 use Rattle.std.proofs.lemmas.List.FromFn.{map-range_with_len_more}
-use Rattle.icl_elab.specs.declared.hier.Ref.{Ref}
+use Rattle.icl_references.specs.declared.hier.Ref.{Ref}
 use Rattle.icl_elab.specs.Bindings.{ref_at}
 use Rattle.icl_elab.proofs.bindings.Bindings.all_refs.Goals as goal
 

@@ -1,7 +1,7 @@
 use Rattle.std.proofs.Common.{◌≡◌, map, drop}
 use Rattle.std.specs.List.{list_all}
 use Rattle.icl_elab.specs.Marks.{is_whole_part}
-use Rattle.icl_elab.specs.Tables.{seen_member}
+use Rattle.icl_references.specs.Tables.{seen_member}
 use Rattle.icl_elab.proofs.bindings.Bindings.are_whole.Given as goal
 
 abbrev pub invariant-loop-m : goal.invariant-loop-m

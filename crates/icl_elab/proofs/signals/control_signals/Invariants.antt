@@ -1,9 +1,0 @@
-use Rattle.std.proofs.Common.{◌≡◌, map, drop}
-use Rattle.icl_syntax.specs.Views.{seen_sig}
-use Rattle.icl_values.specs.Faults.{over}
-use Rattle.icl_elab.specs.Signals.{control_meant}
-use Rattle.icl_elab.specs.Tables.{frames_of, here_in}
-use Rattle.icl_elab.proofs.signals.control_signals.Given as goal
-
-abbrev pub invariant-loop-sig : goal.invariant-loop-sig
-invariant-loop-sig l = over (λ u s. control_meant (frames_of l.tables) (here_in l.tables l.here) s.at s.what) tt (map seen_sig (drop l.sig-index l.sigs)) ≡ over (λ u s. control_meant (frames_of l.tables) (here_in l.tables l.here) s.at s.what) tt (map seen_sig l.sigs)

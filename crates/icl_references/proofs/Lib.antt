@@ -1,0 +1,10 @@
+pub mod Targets
+pub mod SignalRefs
+pub mod Everywhere
+pub mod Members
+pub mod NamedParts
+pub mod Children
+pub mod Steps
+pub mod Digits
+pub mod RowWidths
+pub mod Overlapping

@@ -1,0 +1,86 @@
+// The bits that signals name.
+ghost use Rattle.std.specs.Prelude.{◌≡◌, ◌++◌, map, IfOk, OnOk};
+ghost use Rattle.ij_bits.specs.BitLists.{flip_if};
+ghost use Rattle.ij_text.specs.Numbers.{tern_bits};
+ghost use Rattle.icl_values.specs.Widths.{joined};
+ghost use Rattle.icl_frames.specs.Ranges.{positions};
+ghost use Rattle.icl_references.specs.Roles.{seen_refs};
+ghost use Rattle.icl_references.specs.Signals.{constants};
+
+use crate::hier::Ref;
+use icl_frames::Stretch;
+use icl_values::bit_at;
+use ij_bits::{List, OutOfMemory, Tern};
+use std::alloc::Global;
+
+/// Bits of a part, the lowest position first.
+pub(crate) fn bits_between(
+    alloc: Global,
+    cell: u32,
+    part: u32,
+    inverted: bool,
+    s: Stretch,
+) -> Result<List<Ref>, OutOfMemory>
+    ensures { IfOk result (λ refs. refs.items ≡ map (λ pos. Ref.Bit cell part pos inverted) (positions s)) }
+{
+    let mut refs = List::new(alloc);
+    let end = u64::from(s.high) + 1;
+    let count = end.saturating_sub(u64::from(s.low));
+    refs.reserve(count as usize)?;
+    for k in 0..count {
+        refs.push_reserved(Ref::Bit {
+            cell,
+            part,
+            pos: s.low + k as u32,
+            inverted,
+        });
+    }
+    Ok(refs)
+}
+
+/// A bit, inverted or not.
+fn flip_if(inverted: bool, bit: bool) -> bool
+    ensures { result ≡ flip_if inverted bit }
+{
+    if inverted { !bit } else { bit }
+}
+
+/// The bits of a number without x, inverted or not.
+pub(crate) fn constants(
+    alloc: Global,
+    inverted: bool,
+    bits: &Tern,
+) -> Result<List<Ref>, OutOfMemory>
+    ensures { IfOk result (λ refs. refs.items ≡ constants inverted (tern_bits bits.now)) }
+{
+    let mut refs = List::new(alloc);
+    refs.reserve(bits.len() as usize)?;
+    for k in 0..bits.len() {
+        let bit = bit_at(bits, k).unwrap_or(false);
+        refs.push_reserved(Ref::Fixed(flip_if(inverted, bit)));
+    }
+    Ok(refs)
+}
+
+/// Adds bits at the far end.
+fn append(refs: &mut List<Ref>, more: &List<Ref>) -> Result<(), OutOfMemory>
+    ensures { OnOk result (refs.new.items ≡ refs.old.items ++ more.now.items) }
+{
+    refs.reserve(more.len())?;
+    for r in more.as_slice() {
+        refs.push_reserved(*r);
+    }
+    Ok(())
+}
+
+/// Signals side by side, the leftmost first: position 0 is in the last one.
+pub(crate) fn side_by_side(alloc: Global, parts: &[List<Ref>]) -> Result<List<Ref>, OutOfMemory>
+    ensures { IfOk result (λ refs. refs.items ≡ joined (map seen_refs parts.now)) }
+{
+    let mut refs = List::new(alloc);
+    let n = parts.len();
+    for i in 0..n {
+        append(&mut refs, &parts[n - 1 - i])?;
+    }
+    Ok(refs)
+}
