@@ -1,0 +1,31 @@
+-- What the grammar gives each design (IEEE 1687-2014, ICL): names are names of ICL, a multiplexer has a select and rows, and each row
+-- has a value.
+use Rattle.std.specs.Prelude.{◌≤◌, ◌<◌, ◌^◌, ℕ, List, length, IsTrue}
+use Rattle.std.specs.List.{AllByRecursion}
+use Rattle.ij_text.specs.Words.{is_name}
+use Rattle.icl_lexer.specs.declared.token.Token.{Token}
+use Rattle.icl_lexer.specs.Cutting.{AreTokens}
+use Rattle.icl_syntax.specs.Tokens.{seen_tokens}
+use Rattle.icl_syntax.specs.Values.{SeenRow, SeenEnumWord, SeenWhat, AMux, SomeWords, SeenItem, SeenModule}
+use Rattle.icl_syntax.specs.Modules.{design}
+
+-- a multiplexer has a select bit and rows, with values; the words of an enumeration have names of ICL
+abbrev pub IsWrittenWhat : SeenWhat → Type 0
+IsWrittenWhat (AMux select rows) = (1 ≤ length select) × (1 ≤ length rows) × (length rows < 2 ^ 32) × AllByRecursion (λ (row : SeenRow). 1 ≤ length row.values) rows
+IsWrittenWhat (SomeWords words) = AllByRecursion (λ (w : SeenEnumWord). IsTrue (is_name w.name)) words
+IsWrittenWhat what = Unit {0}
+
+pub record IsWrittenItem (item : SeenItem) : Type 0 where
+  pub name : IsTrue (is_name item.name)
+  pub what : IsWrittenWhat item.what
+
+pub record IsWritten (block : SeenModule) : Type 0 where
+  pub name : IsTrue (is_name block.name)
+  pub items : AllByRecursion IsWrittenItem block.items
+
+abbrev pub AreWritten : List SeenModule → Type 0
+AreWritten blocks = AllByRecursion IsWritten blocks
+
+-- every design that is read from a text of fewer than 2^32 tokens is so
+abbrev pub DesignsAreWritten : Type 0
+DesignsAreWritten = (text : List ℕ) (tokens : List Token) (blocks : List SeenModule) → AreTokens text tokens → length tokens < 2 ^ 32 → design.derives (seen_tokens text tokens) blocks → AreWritten blocks
