@@ -6,3 +6,5 @@ pub mod InnerNames
 pub mod Passing
 pub mod Modules
 pub mod Levels
+pub mod Differing
+pub mod Filling
