@@ -218,3 +218,84 @@ counted c d b (AParameter local value) h = none_counted c d (AParameter local va
 counted c d b (AnInterface ports) h = none_counted c d (AnInterface ports) b refl refl h
 counted c d b (ALink kind entity instrs) h = none_counted c d (ALink kind entity instrs) b refl refl h
 counted c d b (AnAttribute value) h = none_counted c d (AnAttribute value) b refl refl h
+
+-- ---- the items of a cell
+
+-- after some items, from these counts on
+pub record AreFilled (ps : Params) (c : Counts) (s : Passed) (items : List SeenItem) : Type 0 where
+  pub items_are : s.items ≡ items
+  pub bounded : AreBounded ps (parts_among items) s.bounds
+  pub signals : AreDifferent (signal_names items)
+  pub inner : AllByRecursion (λ item. AreDifferent (inner_names item.what)) items
+  pub bits : s.counts.bits ≡ c.bits + bits_among (parts_among items) s.bounds
+  pub muxes : s.counts.muxes ≡ c.muxes + count_by (λ item. is_mux item.what) items
+  pub instruments : s.counts.instruments ≡ c.instruments
+  pub few_bits : c.bits ≤ 4096 → s.counts.bits ≤ 4096
+  pub few_muxes : c.muxes ≤ 1024 → s.counts.muxes ≤ 1024
+
+-- what one item adds
+pub record IsLookedAt (ps : Params) (before : List SeenItem) (c : Counts) (item : SeenItem) (a : Added) : Type 0 where
+  pub new : is_taken before item ≡ false
+  pub inner : AreDifferent (inner_names item.what)
+  pub bounds : declared ps (range_in item.what) ≡ Ok a.bounds
+  pub counted : IsCounted c a.counts item.what a.bounds
+
+module _ (blocks : List SeenModule) (above : List (List ℕ)) (ps : Params) where
+  looked : (before : List SeenItem) (c : Counts) (item : SeenItem) (l : Added) → look_at blocks above ps before c item ≡ Ok l → IsLookedAt ps before c item l
+  unfolding look_at
+  looked before c item l h =
+      let a = both (new_names before item) _ l h in
+      let n = both (refuse_if (is_taken before item) (DoubleName item.at item.name)) _ a.first a.is in
+      let b = both (declared ps (range_in item.what)) _ l a.then' in
+      let r = both (request blocks above ps item item.what) _ l b.then' in
+      let d = both (count_part c b.first item.what) _ l r.then' in
+      subst (IsLookedAt ps before c item) (ok_is _ l d.then') (record {
+        new = not_refused (is_taken before item) (DoubleName item.at item.name) n.first n.is;
+        inner = distinct_differ item.at (inner_names item.what) a.first n.then';
+        bounds = b.is;
+        counted = counted c d.first b.first item.what d.is;
+      })
+
+  fill_one : (c : Counts) (s t : Passed) (items : List SeenItem) (item : SeenItem) → AreFilled ps c s items → pass_item blocks above ps s item ≡ Ok t → AreFilled ps c t (items ++ item ∷ [])
+  unfolding pass_item
+  fill_one c s t items item p h =
+      let a = both (look_at blocks above ps s.items s.counts item) _ t h in
+      let l = looked s.items s.counts item a.first a.is in
+      let parts : parts_among (items ++ item ∷ []) ≡ parts_among items ++ cond (is_part item.what) (item ∷ []) [] = filter-append (λ (i : SeenItem). is_part i.what) items (item ∷ []) in
+      subst (λ (u : Passed). AreFilled ps c u (items ++ item ∷ [])) (ok_is (with_added s item a.first) t a.then')
+      (record {
+        items_are = ap (λ k. k ++ item ∷ []) p.items_are;
+        bounded = subst (λ xs. AreBounded ps xs (s.bounds ++ bounds_of item.what a.first.bounds)) (sym parts) (bounded_more ps (parts_among items) s.bounds item a.first.bounds (is_part item.what) p.bounded l.bounds);
+        signals = signals_one items item p.signals (subst (λ k. is_taken k item ≡ false) p.items_are l.new);
+        inner = all_one (λ (i : SeenItem). AreDifferent (inner_names i.what)) items item p.inner l.inner;
+        bits =
+          let more = bits_more (parts_among items) s.bounds item a.first.bounds (is_part item.what) p.bounded.all in
+          let sum = l.counted.bits in
+          let old = p.bits in
+          rw parts (omega (arith, more, sum, old));
+        muxes = let more = sum_by_push (λ (i : SeenItem). cond (is_mux i.what) 1 0) items item in let sum = l.counted.muxes in let old = p.muxes in omega (arith, more, sum, old);
+        instruments = l.counted.instruments ∙ p.instruments;
+        few_bits = λ k. l.counted.few_bits (p.few_bits k);
+        few_muxes = λ k. l.counted.few_muxes (p.few_muxes k);
+      })
+
+  fill_all : (c : Counts) (s t : Passed) (items more : List SeenItem) → AreFilled ps c s items → over (pass_item blocks above ps) s more ≡ Ok t → AreFilled ps c t (items ++ more)
+  fill_all c s t items [] p h = subst (AreFilled ps c t) (sym (append-nil items)) (subst (λ (u : Passed). AreFilled ps c u items) (ok_is s t h) p)
+  fill_all c s t items (x ∷ more) p h =
+      let a = both (pass_item blocks above ps s x) _ t h in
+      subst (AreFilled ps c t) (append_assoc items (x ∷ []) more) (fill_all c a.first t (items ++ x ∷ []) more (fill_one c s a.first items x p a.is) a.then')
+
+  pub filled : (c : Counts) (block : SeenModule) (s : Passed) → pass_items blocks above ps c block ≡ Ok s → AreFilled ps c s block.items
+  filled c block s h = fill_all c (nothing_passed c) s [] block.items
+    (record {
+      items_are = refl;
+      bounded = record { declared_are = refl; all = refl; widths = tt };
+      signals = tt;
+      inner = tt;
+      bits = omega arith;
+      muxes = omega arith;
+      instruments = refl;
+      few_bits = λ k. k;
+      few_muxes = λ k. k;
+    })
+    h
