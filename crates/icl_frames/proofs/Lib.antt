@@ -8,3 +8,4 @@ pub mod Modules
 pub mod Levels
 pub mod Differing
 pub mod Filling
+pub mod Holding
