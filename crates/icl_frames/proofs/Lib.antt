@@ -9,3 +9,4 @@ pub mod Levels
 pub mod Differing
 pub mod Filling
 pub mod Holding
+pub mod Trees
