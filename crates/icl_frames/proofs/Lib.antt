@@ -10,3 +10,4 @@ pub mod Differing
 pub mod Filling
 pub mod Holding
 pub mod Trees
+pub mod Siblings

@@ -130,7 +130,7 @@ module _ (blocks : List SeenModule) where
       (λ c k. names c (later_in d c ds k)) others in
       subst IsTree (append_assoc front xs ys ∙ ap (λ l. front ++ l) (sym e)) all
 
-  instance_tree : (levels number : ℕ) (parent : Option ℕ) (name : List ℕ) (block : SeenModule) (given : Params) (front fs : List Frame) → IsRoom levels number parent name front
+  pub instance_tree : (levels number : ℕ) (parent : Option ℕ) (name : List ℕ) (block : SeenModule) (given : Params) (front fs : List Frame) → IsRoom levels number parent name front
       → AreOfInstance blocks levels number parent name block given fs → IsTree (front ++ fs)
   instance_tree zero number parent name block given front fs r h = absurd h
   instance_tree (suc levels) number parent name block given front [] r h = absurd h
