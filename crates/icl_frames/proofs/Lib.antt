@@ -11,3 +11,4 @@ pub mod Filling
 pub mod Holding
 pub mod Trees
 pub mod Siblings
+pub mod Derivations
