@@ -269,10 +269,10 @@ module _ (blocks : List SeenModule) (above : List (List ℕ)) (ps : Params) wher
         signals = signals_one items item p.signals (subst (λ k. is_taken k item ≡ false) p.items_are l.new);
         inner = all_one (λ (i : SeenItem). AreDifferent (inner_names i.what)) items item p.inner l.inner;
         bits =
-          let more = bits_more (parts_among items) s.bounds item a.first.bounds (is_part item.what) p.bounded.all in
-          let sum = l.counted.bits in
-          let old = p.bits in
-          rw parts (omega (arith, more, sum, old));
+            let more = bits_more (parts_among items) s.bounds item a.first.bounds (is_part item.what) p.bounded.all in
+            let sum = l.counted.bits in
+            let old = p.bits in
+            rw parts (omega (arith, more, sum, old));
         muxes = let more = sum_by_push (λ (i : SeenItem). cond (is_mux i.what) 1 0) items item in let sum = l.counted.muxes in let old = p.muxes in omega (arith, more, sum, old);
         instruments = l.counted.instruments ∙ p.instruments;
         few_bits = λ k. l.counted.few_bits (p.few_bits k);
@@ -287,15 +287,15 @@ module _ (blocks : List SeenModule) (above : List (List ℕ)) (ps : Params) wher
 
   pub filled : (c : Counts) (block : SeenModule) (s : Passed) → pass_items blocks above ps c block ≡ Ok s → AreFilled ps c s block.items
   filled c block s h = fill_all c (nothing_passed c) s [] block.items
-    (record {
-      items_are = refl;
-      bounded = record { declared_are = refl; all = refl; widths = tt };
-      signals = tt;
-      inner = tt;
-      bits = omega arith;
-      muxes = omega arith;
-      instruments = refl;
-      few_bits = λ k. k;
-      few_muxes = λ k. k;
-    })
-    h
+      (record {
+        items_are = refl;
+        bounded = record { declared_are = refl; all = refl; widths = tt };
+        signals = tt;
+        inner = tt;
+        bits = omega arith;
+        muxes = omega arith;
+        instruments = refl;
+        few_bits = λ k. k;
+        few_muxes = λ k. k;
+      })
+      h

@@ -148,13 +148,15 @@ all_held blocks top frames h =
       few_instruments = omega arith;
     } in
     let p = held 65 blocks [] None nothing_entered c.first (record { name = []; block = b.first; given = [] }) none c.is in
-    subst (λ (fs : List Frame). AllByRecursion IsFrame fs × AreFew fs) (ok_is c.first.frames frames c.then')
-    (p.frames_are, record {
-      few_cells = p.few;
-      few_bits = subst (λ n. n ≤ 4096) (sym p.bits) p.few_bits;
-      few_muxes = subst (λ n. n ≤ 1024) (sym p.muxes) p.few_muxes;
-      few_instruments = subst (λ n. n ≤ 256) (sym p.instruments) p.few_instruments;
-    })
+    subst (λ (fs : List Frame). AllByRecursion IsFrame fs × AreFew fs) (ok_is c.first.frames frames c.then') (
+      p.frames_are,
+      record {
+        few_cells = p.few;
+        few_bits = subst (λ n. n ≤ 4096) (sym p.bits) p.few_bits;
+        few_muxes = subst (λ n. n ≤ 1024) (sym p.muxes) p.few_muxes;
+        few_instruments = subst (λ n. n ≤ 256) (sym p.instruments) p.few_instruments;
+      },
+    )
 
 pub frames_are_declared : FramesAreDeclared
 frames_are_declared blocks top frames h = (all_held blocks top frames h).0

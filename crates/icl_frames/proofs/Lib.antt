@@ -12,3 +12,4 @@ pub mod Holding
 pub mod Trees
 pub mod Siblings
 pub mod Derivations
+pub mod WrittenFrames

@@ -25,7 +25,7 @@ all_back : {A : Type 0} (P : A → Type 0) (xs ys : List A) → AllByRecursion P
 all_back P [] ys h = h
 all_back P (x ∷ xs) ys h = all_back P xs ys h.1
 
-all_weaker : {A : Type 0} (P Q : A → Type 0) (xs : List A) → ((x : A) → P x → Q x) → AllByRecursion P xs → AllByRecursion Q xs
+pub all_weaker : {A : Type 0} (P Q : A → Type 0) (xs : List A) → ((x : A) → P x → Q x) → AllByRecursion P xs → AllByRecursion Q xs
 all_weaker P Q [] so h = tt
 all_weaker P Q (x ∷ xs) so h = (so x h.0, all_weaker P Q xs so h.1)
 
@@ -150,12 +150,12 @@ module _ (blocks : List SeenModule) where
       let keys : keys_of (xs ++ ys) ≡ keys_of xs ++ keys_of ys = map_more (λ (f : Frame). (f.parent, f.name)) xs ys in
       subst (AreChildKeys number parent (d ∷ ds)) (sym e) (record {
         differ = subst AreDifferent (sym keys) (different_more (keys_of xs) (keys_of ys) one.differ rest.differ
-          (λ k c b. keys_apart number (number + length xs) (number + length xs + length ys) parent d ds k lt (omega arith) differ.0
+            (λ k c b. keys_apart number (number + length xs) (number + length xs + length ys) parent d ds k lt (omega arith) differ.0
             (all_in (IsOwnKey number (number + length xs) (Some parent) d.name) (keys_of xs) k one.each c) (all_in (IsChildKey (number + length xs) (number + length xs + length ys) parent ds) (keys_of ys) k rest.each b)));
         each = subst (AllByRecursion (IsChildKey number (number + length (xs ++ ys)) parent (d ∷ ds))) (sym keys) (all_both (IsChildKey number (number + length (xs ++ ys)) parent (d ∷ ds)) (keys_of xs) (keys_of ys)
-          (all_weaker (IsOwnKey number (number + length xs) (Some parent) d.name) (IsChildKey number (number + length (xs ++ ys)) parent (d ∷ ds)) (keys_of xs)
+            (all_weaker (IsOwnKey number (number + length xs) (Some parent) d.name) (IsChildKey number (number + length (xs ++ ys)) parent (d ∷ ds)) (keys_of xs)
             (λ k o. own_is_child number (number + length xs) (number + length (xs ++ ys)) parent d ds k (omega (arith, long)) o) one.each)
-          (all_weaker (IsChildKey (number + length xs) (number + length xs + length ys) parent ds) (IsChildKey number (number + length (xs ++ ys)) parent (d ∷ ds)) (keys_of ys)
+            (all_weaker (IsChildKey (number + length xs) (number + length xs + length ys) parent ds) (IsChildKey number (number + length (xs ++ ys)) parent (d ∷ ds)) (keys_of ys)
             (λ k o. later_child number (number + length xs) (number + length xs + length ys) (number + length (xs ++ ys)) parent d ds k (omega arith) (omega (arith, long)) o) rest.each));
       })
 
@@ -177,7 +177,7 @@ module _ (blocks : List SeenModule) where
       record {
         differ = (new, rest.differ);
         each =
-          (inl own, all_weaker (λ (k : Key). IsWithin number (number + suc (length fs)) k.0) (IsOwnKey number (number + suc (length fs)) parent name) (keys_of fs) (λ k w. inr w) within);
+            (inl own, all_weaker (λ (k : Key). IsWithin number (number + suc (length fs)) k.0) (IsOwnKey number (number + suc (length fs)) parent name) (keys_of fs) (λ k w. inr w) within);
       }
 
   -- ---- modules
@@ -195,9 +195,10 @@ module _ (blocks : List SeenModule) where
       → AreOfInstance blocks levels number parent name block given fs → AllByRecursion (λ (f : Frame). Contains blocks f.block) fs
   instance_blocks zero number parent name block given fs c h = absurd h
   instance_blocks (suc levels) number parent name block given [] c h = absurd h
-  instance_blocks (suc levels) number parent name block given (f ∷ fs) c (called, parent_is, block_is, params_are, kids) =
-      (subst (Contains blocks) (sym block_is) c,
-        children_blocks levels (suc number) number f.params (children_of block.items) fs (λ n m b g gs i j. instance_blocks levels n (Some number) m b g gs i j) kids)
+  instance_blocks (suc levels) number parent name block given (f ∷ fs) c (called, parent_is, block_is, params_are, kids) = (
+    subst (Contains blocks) (sym block_is) c,
+    children_blocks levels (suc number) number f.params (children_of block.items) fs (λ n m b g gs i j. instance_blocks levels n (Some number) m b g gs i j) kids,
+  )
 
 some_frame : (blocks : List SeenModule) (levels number : ℕ) (parent : Option ℕ) (name : List ℕ) (block : SeenModule) (given : Params) (fs : List Frame) → AreOfInstance blocks levels number parent name block given fs → 1 ≤ length fs
 some_frame blocks zero number parent name block given fs h = absurd h

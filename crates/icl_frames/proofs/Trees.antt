@@ -98,7 +98,7 @@ below_one n (q ∷ ps) p h b = (h.0, let e : n + suc (length ps) ≡ n + 1 + len
 tree_one : (front : List Frame) (f : Frame) → IsTree front → IsBelow (length front) f.parent → level_below (levels_of front) f.parent ≤ 64 → IsDeclaredIn front f → IsTree (front ++ f ∷ [])
 tree_one front f t b l d = record {
   below = let e : length front ≡ 0 + length (parents_of front) = let m = map_long (λ (g : Frame). g.parent) front in omega (arith, m) in
-    subst AreBelow (sym (map_more (λ (g : Frame). g.parent) front (f ∷ []))) (below_one 0 (parents_of front) f.parent t.below (subst (λ k. IsBelow k f.parent) e b));
+      subst AreBelow (sym (map_more (λ (g : Frame). g.parent) front (f ∷ []))) (below_one 0 (parents_of front) f.parent t.below (subst (λ k. IsBelow k f.parent) e b));
   few_levels = subst (AllByRecursion (λ (n : ℕ). n ≤ 64)) (sym (levels_one front f)) (all_one (λ (n : ℕ). n ≤ 64) (levels_of front) (level_below (levels_of front) f.parent) t.few_levels l);
   declared_are = all_one (IsDeclaredIn (front ++ f ∷ [])) front f (all_kept front (f ∷ []) front t.declared_are) (stands_kept front (f ∷ []) f.parent f.name d);
 }
