@@ -267,12 +267,9 @@ mux_written ts w f h =
     let first = row_some r.0 r.2 r.4 in
     let tokens = ap length r.3 ∙ length-append r.0 r.1 in
     let fit = g4.first.few in
-    subst IsWrittenWhat (sym h4.5.5.1) (
-      parted_some sig 44 h2.0 h2.2 h2.4,
-      omega (arith, long),
-      omega (arith, long, few, first, tokens, fit),
-      parts_all row (λ (x : SeenRow). 1 ≤ length x.values) row_written r.5.0 (r.2 ∷ []) r.1 h4.2 g5.second r.5.1 (row_written r.0 r.2 g5.first r.4, tt),
-    )
+    let all = parts_all row (λ (x : SeenRow). 1 ≤ length x.values) row_written r.5.0 (r.2 ∷ []) r.1 h4.2 g5.second r.5.1 (row_written r.0 r.2 g5.first r.4, tt) in
+    subst IsWrittenWhat (sym h4.5.5.1)
+    (record { select_some = parted_some sig 44 h2.0 h2.2 h2.4; rows_some = omega (arith, long); rows_few = omega (arith, long, few, first, tokens, fit); values_some = all })
 
 -- ---- other items
 

@@ -7,7 +7,7 @@ use Rattle.icl_values.specs.Values.{Params}
 use Rattle.icl_frames.specs.Parts.{is_signal, block_named}
 use Rattle.icl_frames.specs.FirstPass.{Frame, first_pass}
 use Rattle.icl_frames.specs.Preorder.{Declared, declared_by, children_of, AreOfChild, AreOfChildren, AreOfInstance, ArePreorder}
-use Rattle.icl_frames.specs.Laws.{IsBelow, IsFrame, AreTree, FramesAreTree}
+use Rattle.icl_frames.specs.Laws.{IsBelow, child_names, IsFrame, AreTree, FramesAreTree}
 use Rattle.icl_frames.proofs.Answering.{all_both}
 use Rattle.icl_frames.proofs.Differing.{first_in, later_in, none_in, cases_in, all_in, find_in, different_more}
 use Rattle.icl_frames.proofs.Filling.{signal_names}
@@ -30,9 +30,6 @@ all_weaker P Q [] so h = tt
 all_weaker P Q (x ∷ xs) so h = (so x h.0, all_weaker P Q xs so h.1)
 
 -- ---- the names of a module's instances
-
-abbrev pub child_names : List SeenItem → List (List ℕ)
-child_names items = map (λ d. d.name) (children_of items)
 
 children_in : (items : List SeenItem) (n : List ℕ) → Contains (child_names items) n → Contains (signal_names items) n
 children_in [] n h = absurd (none_in n h)
@@ -138,9 +135,15 @@ child_within number last last' ds k le room (inl (o, c)) = subst (IsWithin numbe
 child_within number last last' ds k le room (inr w) = wider (suc number) last number last' k.0 (omega arith) le w
 
 module _ (blocks : List SeenModule) where
-  children_keys : (levels number parent : ℕ) (params : Params) (ds : List Declared) (fs : List Frame)
-      → ((n : ℕ) (name : List ℕ) (block : SeenModule) (given : Params) (gs : List Frame) → IsBelow n (Some parent) → AllByRecursion AreNamed gs → AreOfInstance blocks levels n (Some parent) name block given gs → AreOwnKeys n (Some parent) name gs)
-      → parent < number → AreDifferent (map (λ (d : Declared). d.name) ds) → AllByRecursion AreNamed fs → AreOfChildren blocks (AreOfInstance blocks levels) number parent params ds fs → AreChildKeys number parent ds fs
+  -- each child's frames
+  abbrev EachKeys : ℕ → ℕ → Type 0
+  EachKeys levels parent =
+      (n : ℕ) (name : List ℕ) (block : SeenModule) (given : Params) (gs : List Frame) → IsBelow n (Some parent) → AllByRecursion AreNamed gs
+      → AreOfInstance blocks levels n (Some parent) name block given gs → AreOwnKeys n (Some parent) name gs
+
+  children_keys : (levels number parent : ℕ) (params : Params) (ds : List Declared) (fs : List Frame) → EachKeys levels parent
+      → parent < number → AreDifferent (map (λ (d : Declared). d.name) ds) → AllByRecursion AreNamed fs
+      → AreOfChildren blocks (AreOfInstance blocks levels) number parent params ds fs → AreChildKeys number parent ds fs
   children_keys levels number parent params [] fs each lt differ named h = subst (AreChildKeys number parent []) (sym h) (record { differ = tt; each = tt })
   children_keys levels number parent params (d ∷ ds) fs each lt differ named (xs, ys, e, child, others) =
       let all = subst (AllByRecursion AreNamed) e named in
@@ -182,8 +185,13 @@ module _ (blocks : List SeenModule) where
 
   -- ---- modules
 
-  children_blocks : (levels number parent : ℕ) (params : Params) (ds : List Declared) (fs : List Frame)
-      → ((n : ℕ) (name : List ℕ) (block : SeenModule) (given : Params) (gs : List Frame) → Contains blocks block → AreOfInstance blocks levels n (Some parent) name block given gs → AllByRecursion (λ (f : Frame). Contains blocks f.block) gs)
+  -- each child's frames
+  abbrev EachBlocks : ℕ → ℕ → Type 0
+  EachBlocks levels parent =
+      (n : ℕ) (name : List ℕ) (block : SeenModule) (given : Params) (gs : List Frame) → Contains blocks block
+      → AreOfInstance blocks levels n (Some parent) name block given gs → AllByRecursion (λ (f : Frame). Contains blocks f.block) gs
+
+  children_blocks : (levels number parent : ℕ) (params : Params) (ds : List Declared) (fs : List Frame) → EachBlocks levels parent
       → AreOfChildren blocks (AreOfInstance blocks levels) number parent params ds fs → AllByRecursion (λ (f : Frame). Contains blocks f.block) fs
   children_blocks levels number parent params [] fs each h = subst (AllByRecursion (λ (f : Frame). Contains blocks f.block)) (sym h) tt
   children_blocks levels number parent params (d ∷ ds) fs each (xs, ys, e, child, others) =
@@ -200,7 +208,8 @@ module _ (blocks : List SeenModule) where
     children_blocks levels (suc number) number f.params (children_of block.items) fs (λ n m b g gs i j. instance_blocks levels n (Some number) m b g gs i j) kids,
   )
 
-some_frame : (blocks : List SeenModule) (levels number : ℕ) (parent : Option ℕ) (name : List ℕ) (block : SeenModule) (given : Params) (fs : List Frame) → AreOfInstance blocks levels number parent name block given fs → 1 ≤ length fs
+some_frame : (blocks : List SeenModule) (levels number : ℕ) (parent : Option ℕ) (name : List ℕ) (block : SeenModule) (given : Params) (fs : List Frame)
+    → AreOfInstance blocks levels number parent name block given fs → 1 ≤ length fs
 some_frame blocks zero number parent name block given fs h = absurd h
 some_frame blocks (suc levels) number parent name block given [] h = absurd h
 some_frame blocks (suc levels) number parent name block given (f ∷ fs) h = omega arith

@@ -7,7 +7,7 @@ use Rattle.icl_values.specs.Values.{Params}
 use Rattle.icl_frames.specs.Parts.{block_named}
 use Rattle.icl_frames.specs.FirstPass.{Frame, first_pass}
 use Rattle.icl_frames.specs.Preorder.{Declared, children_of, AreOfChild, AreOfChildren, AreOfInstance, ArePreorder}
-use Rattle.icl_frames.specs.Laws.{parents_of, IsBelow, AreBelow, level_below, levels_from, IsDeclaredIn, AreTree}
+use Rattle.icl_frames.specs.Laws.{parents_of, IsBelow, AreBelow, level_below, levels_from, child_names, IsDeclaredIn}
 use Rattle.icl_frames.proofs.Answering.{all_both}
 use Rattle.icl_frames.proofs.Differing.{all_one, map_in, find_in, first_in, later_in}
 
@@ -71,7 +71,7 @@ level_kept front more k lt =
 
 -- an instance of this name stands in its parent's module
 abbrev pub Stands : List Frame → Option ℕ → List ℕ → Type 0
-Stands frames parent name = IfSome parent (λ p. IsSomeAnd (slice_get frames p) (λ q. Contains (map (λ d. d.name) (children_of q.block.items)) name))
+Stands frames parent name = IfSome parent (λ p. IsSomeAnd (slice_get frames p) (λ q. Contains (child_names q.block.items) name))
 
 pub record IsTree (frames : List Frame) : Type 0 where
   pub below : AreBelow (parents_of frames)
@@ -82,9 +82,9 @@ stands_kept : (front more : List Frame) (parent : Option ℕ) (name : List ℕ) 
 stands_kept front more None name h = tt
 stands_kept front more (Some p) name h = by_frame (slice_get front p) refl h
   where
-    by_frame : (o : Option Frame) → slice_get front p ≡ o → IsSomeAnd o (λ q. Contains (map (λ d. d.name) (children_of q.block.items)) name) → Stands (front ++ more) (Some p) name
+    by_frame : (o : Option Frame) → slice_get front p ≡ o → IsSomeAnd o (λ q. Contains (child_names q.block.items) name) → Stands (front ++ more) (Some p) name
     by_frame None e k = absurd k
-    by_frame (Some q) e k = subst (λ (o : Option Frame). IsSomeAnd o (λ q. Contains (map (λ d. d.name) (children_of q.block.items)) name)) (sym (get_kept front more p q e)) k
+    by_frame (Some q) e k = subst (λ (o : Option Frame). IsSomeAnd o (λ q. Contains (child_names q.block.items) name)) (sym (get_kept front more p q e)) k
 
 all_kept : (front more fs : List Frame) → AllByRecursion (IsDeclaredIn front) fs → AllByRecursion (IsDeclaredIn (front ++ more)) fs
 all_kept front more [] h = tt
@@ -114,14 +114,19 @@ pub record IsRoom (levels number : ℕ) (parent : Option ℕ) (name : List ℕ) 
   pub stands : Stands front parent name
 
 module _ (blocks : List SeenModule) where
-  children_tree : (levels number parent : ℕ) (params : Params) (ds : List Declared) (front fs : List Frame) (q : Frame)
-      → ((n : ℕ) (name : List ℕ) (block : SeenModule) (given : Params) (before gs : List Frame) → IsRoom levels n (Some parent) name before → AreOfInstance blocks levels n (Some parent) name block given gs → IsTree (before ++ gs))
+  -- each child's frames
+  abbrev EachTree : ℕ → ℕ → Type 0
+  EachTree levels parent =
+      (n : ℕ) (name : List ℕ) (block : SeenModule) (given : Params) (before gs : List Frame) → IsRoom levels n (Some parent) name before
+      → AreOfInstance blocks levels n (Some parent) name block given gs → IsTree (before ++ gs)
+
+  children_tree : (levels number parent : ℕ) (params : Params) (ds : List Declared) (front fs : List Frame) (q : Frame) → EachTree levels parent
       → length front ≡ number → IsTree front → parent < number → suc (get_or (levels_of front) parent 0) + levels ≤ 65 → slice_get front parent ≡ Some q
-      → ((d : Declared) → Contains ds d → Contains (map (λ e. e.name) (children_of q.block.items)) d.name)
+      → ((d : Declared) → Contains ds d → Contains (child_names q.block.items) d.name)
       → AreOfChildren blocks (AreOfInstance blocks levels) number parent params ds fs → IsTree (front ++ fs)
   children_tree levels number parent params [] front fs q each long t lt room is names h = subst (λ l. IsTree (front ++ l)) (sym h) (subst IsTree (sym (append-nil front)) t)
   children_tree levels number parent params (d ∷ ds) front fs q each long t lt room is names (xs, ys, e, child, others) =
-      let stands : Stands front (Some parent) d.name = subst (λ (o : Option Frame). IsSomeAnd o (λ r. Contains (map (λ e. e.name) (children_of r.block.items)) d.name)) (sym is) (names d (first_in d ds)) in
+      let stands : Stands front (Some parent) d.name = subst (λ (o : Option Frame). IsSomeAnd o (λ r. Contains (child_names r.block.items) d.name)) (sym is) (names d (first_in d ds)) in
       let one = each number d.name child.block child.given front xs (record { long = long; tree = t; below = lt; room = room; stands = stands }) child.instance in
       let kept = level_kept front xs parent (subst (λ n. parent < n) (sym long) lt) in
       let more = length-append front xs in
@@ -145,8 +150,8 @@ module _ (blocks : List SeenModule) where
       ap (λ l. get_or l number 0) (levels_one front f) ∙ ap (λ n. get_or (levels_of front ++ level_below (levels_of front) f.parent ∷ []) n 0) (sym same) ∙ level_last (levels_of front) (level_below (levels_of front) f.parent)
       ∙ ap (level_below (levels_of front)) parent_is in
       let is : slice_get (front ++ f ∷ []) number ≡ Some f = ap (slice_get (front ++ f ∷ [])) (sym r.long) ∙ get_last front f in
-      let names : (d : Declared) → Contains (children_of block.items) d → Contains (map (λ e. e.name) (children_of f.block.items)) d.name = λ (d : Declared) k.
-      subst (λ (b : SeenModule). Contains (map (λ e. e.name) (children_of b.items)) d.name) (sym block_is) (map_in (λ (e : Declared). e.name) (children_of block.items) d k) in
+      let names : (d : Declared) → Contains (children_of block.items) d → Contains (child_names f.block.items) d.name = λ (d : Declared) k.
+      subst (λ (b : SeenModule). Contains (child_names b.items) d.name) (sym block_is) (map_in (λ (e : Declared). e.name) (children_of block.items) d k) in
       subst IsTree (append_assoc front (f ∷ []) fs)
       (children_tree levels (suc number) number f.params (children_of block.items) (front ++ f ∷ []) fs f
       (λ n m b g before gs s i. instance_tree levels n (Some number) m b g before gs s i) long t (omega arith) (omega (arith, level, room)) is names kids)

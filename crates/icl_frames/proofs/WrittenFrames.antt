@@ -5,10 +5,10 @@ use Rattle.ij_text.specs.Words.{is_name}
 use Rattle.icl_syntax.specs.Values.{SeenWhat, APort, ARegister, AMux, AChild, AnAlias, SomeWords, AParameter, AnInterface, ALink, AnAttribute, SeenItem, SeenModule}
 use Rattle.icl_frames.specs.FirstPass.{Frame}
 use Rattle.icl_frames.specs.Preorder.{Declared, declared_by, children_of}
-use Rattle.icl_frames.specs.Laws.{IsDeclaredIn}
+use Rattle.icl_frames.specs.Laws.{child_names, IsDeclaredIn}
 use Rattle.icl_frames.specs.Written.{IsWrittenItem, IsWritten, IsWrittenFrame, FramesAreWritten}
 use Rattle.icl_frames.proofs.Differing.{all_in}
-use Rattle.icl_frames.proofs.Siblings.{child_names, all_weaker, frames_are_tree}
+use Rattle.icl_frames.proofs.Siblings.{all_weaker, frames_are_tree}
 
 children_written : (items : List SeenItem) → AllByRecursion IsWrittenItem items → AllByRecursion (λ n. IsTrue (is_name n)) (child_names items)
 children_written [] h = tt

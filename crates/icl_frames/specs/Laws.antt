@@ -33,9 +33,13 @@ abbrev pub levels_from : List ℕ → List (Option ℕ) → List ℕ
 levels_from levels [] = levels
 levels_from levels (p ∷ ps) = levels_from (levels ++ level_below levels p ∷ []) ps
 
+-- the names of the instances among some items
+abbrev pub child_names : List SeenItem → List (List ℕ)
+child_names items = map (λ d. d.name) (children_of items)
+
 -- a frame with a parent is one of the instances that the parent's module declares
 abbrev pub IsDeclaredIn : List Frame → Frame → Type 0
-IsDeclaredIn frames f = IfSome f.parent (λ parent. IsSomeAnd (slice_get frames parent) (λ p. Contains (map (λ d. d.name) (children_of p.block.items)) f.name))
+IsDeclaredIn frames f = IfSome f.parent (λ parent. IsSomeAnd (slice_get frames parent) (λ p. Contains (child_names p.block.items) f.name))
 
 pub record AreTree (blocks : List SeenModule) (frames : List Frame) : Type 0 where
   pub some : 1 ≤ length frames
@@ -91,10 +95,13 @@ pub record AreFew (frames : List Frame) : Type 0 where
 -- ---- the laws
 
 abbrev pub FramesAreTree : Type 0
-FramesAreTree = (blocks : List SeenModule) (top : List ℕ) (frames : List Frame) → first_pass blocks top ≡ Ok frames → AreTree blocks frames
+FramesAreTree =
+    (blocks : List SeenModule) (top : List ℕ) (frames : List Frame) → first_pass blocks top ≡ Ok frames → AreTree blocks frames
 
 abbrev pub FramesAreDeclared : Type 0
-FramesAreDeclared = (blocks : List SeenModule) (top : List ℕ) (frames : List Frame) → first_pass blocks top ≡ Ok frames → AllByRecursion IsFrame frames
+FramesAreDeclared =
+    (blocks : List SeenModule) (top : List ℕ) (frames : List Frame) → first_pass blocks top ≡ Ok frames → AllByRecursion IsFrame frames
 
 abbrev pub FramesAreFew : Type 0
-FramesAreFew = (blocks : List SeenModule) (top : List ℕ) (frames : List Frame) → first_pass blocks top ≡ Ok frames → AreFew frames
+FramesAreFew =
+    (blocks : List SeenModule) (top : List ℕ) (frames : List Frame) → first_pass blocks top ≡ Ok frames → AreFew frames

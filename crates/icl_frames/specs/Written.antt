@@ -6,13 +6,20 @@ use Rattle.ij_text.specs.Words.{is_name}
 use Rattle.icl_lexer.specs.declared.token.Token.{Token}
 use Rattle.icl_lexer.specs.Cutting.{AreTokens}
 use Rattle.icl_syntax.specs.Tokens.{seen_tokens}
-use Rattle.icl_syntax.specs.Values.{SeenRow, SeenEnumWord, SeenWhat, AMux, SomeWords, SeenItem, SeenModule}
+use Rattle.icl_syntax.specs.Values.{SeenSig, SeenRow, SeenEnumWord, SeenWhat, AMux, SomeWords, SeenItem, SeenModule}
 use Rattle.icl_syntax.specs.Modules.{design}
 use Rattle.icl_frames.specs.FirstPass.{Frame, first_pass}
 
--- a multiplexer has a select bit and rows, with values; the words of an enumeration have names of ICL
+-- a multiplexer has a select and rows, with values
+pub record IsWrittenMux (select : List SeenSig) (rows : List SeenRow) : Type 0 where
+  pub select_some : 1 ≤ length select
+  pub rows_some : 1 ≤ length rows
+  pub rows_few : length rows < 2 ^ 32
+  pub values_some : AllByRecursion (λ (row : SeenRow). 1 ≤ length row.values) rows
+
+-- the words of an enumeration have names of ICL
 abbrev pub IsWrittenWhat : SeenWhat → Type 0
-IsWrittenWhat (AMux select rows) = (1 ≤ length select) × (1 ≤ length rows) × (length rows < 2 ^ 32) × AllByRecursion (λ (row : SeenRow). 1 ≤ length row.values) rows
+IsWrittenWhat (AMux select rows) = IsWrittenMux select rows
 IsWrittenWhat (SomeWords words) = AllByRecursion (λ (w : SeenEnumWord). IsTrue (is_name w.name)) words
 IsWrittenWhat what = Unit {0}
 
@@ -30,8 +37,8 @@ AreWritten blocks = AllByRecursion IsWritten blocks
 -- every design that is read from a text of fewer than 2^32 tokens is so
 abbrev pub DesignsAreWritten : Type 0
 DesignsAreWritten =
-    (text : List ℕ) (tokens : List Token) (blocks : List SeenModule) → AreTokens text tokens → length tokens < 2 ^ 32 → design.derives (seen_tokens text tokens) blocks
-    → AreWritten blocks
+    (text : List ℕ) (tokens : List Token) (blocks : List SeenModule) → AreTokens text tokens → length tokens < 2 ^ 32
+    → design.derives (seen_tokens text tokens) blocks → AreWritten blocks
 
 -- ---- frames
 
@@ -42,4 +49,6 @@ pub record IsWrittenFrame (f : Frame) : Type 0 where
 
 -- and so is each frame of an accepted design
 abbrev pub FramesAreWritten : Type 0
-FramesAreWritten = (blocks : List SeenModule) (top : List ℕ) (frames : List Frame) → AreWritten blocks → first_pass blocks top ≡ Ok frames → AllByRecursion IsWrittenFrame frames
+FramesAreWritten =
+    (blocks : List SeenModule) (top : List ℕ) (frames : List Frame) → AreWritten blocks → first_pass blocks top ≡ Ok frames
+    → AllByRecursion IsWrittenFrame frames
