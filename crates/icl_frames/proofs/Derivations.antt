@@ -204,7 +204,8 @@ module _ {A : Type 0} (S : Of A) where
   parts_long zero s ts last h = ap length h.1 ∙ omega arith
   parts_long (suc n) s ts last (front, back, a, e, one, others) = let again = parts_long n (s ++ a ∷ []) back last others in let long = length-append s (a ∷ []) in omega (arith, again, long)
 
-  parts_few : ((ts : List SeenToken) (a : A) → S.derives ts a → 1 ≤ length ts) → (n : ℕ) (s : List A) (ts : List SeenToken) (last : List A) → Parts (λ (xs : List A). S) appended n s ts last → n ≤ length ts
+  parts_few : ((ts : List SeenToken) (a : A) → S.derives ts a → 1 ≤ length ts) → (n : ℕ) (s : List A) (ts : List SeenToken) (last : List A)
+      → Parts (λ (xs : List A). S) appended n s ts last → n ≤ length ts
   parts_few some zero s ts last h = omega arith
   parts_few some (suc n) s ts last (front, back, a, e, one, others) =
       let again = parts_few some n (s ++ a ∷ []) back last others in

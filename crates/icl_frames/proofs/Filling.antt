@@ -150,7 +150,8 @@ each_one f (z ∷ xs) ys x y h k =
     let b = both (each f xs) (λ zs. Ok (a.first ∷ zs)) ys a.then' in
     rw (a.is, each_one f xs b.first x y b.is k) (ap (λ l. Ok (l ++ y ∷ [])) (ok_is (a.first ∷ b.first) ys b.then'))
 
-bounded_one : (ps : Params) (parts : List SeenItem) (bounds : List Bounds) (item : SeenItem) (b : Bounds) → AreBounded ps parts bounds → declared ps (range_in item.what) ≡ Ok b → AreBounded ps (parts ++ item ∷ []) (bounds ++ b ∷ [])
+bounded_one : (ps : Params) (parts : List SeenItem) (bounds : List Bounds) (item : SeenItem) (b : Bounds) → AreBounded ps parts bounds → declared ps (range_in item.what) ≡ Ok b
+    → AreBounded ps (parts ++ item ∷ []) (bounds ++ b ∷ [])
 bounded_one ps parts bounds item b p h = record {
   declared_are = each_one (λ (i : SeenItem). declared ps (range_in i.what)) parts bounds item b p.declared_are h;
   all = length-append bounds (b ∷ []) ∙ ap (λ n. n + 1) p.all ∙ sym (length-append parts (item ∷ []));
@@ -265,7 +266,9 @@ module _ (blocks : List SeenModule) (above : List (List ℕ)) (ps : Params) wher
       subst (λ (u : Passed). AreFilled ps c u (items ++ item ∷ [])) (ok_is (with_added s item a.first) t a.then')
       (record {
         items_are = ap (λ k. k ++ item ∷ []) p.items_are;
-        bounded = subst (λ xs. AreBounded ps xs (s.bounds ++ bounds_of item.what a.first.bounds)) (sym parts) (bounded_more ps (parts_among items) s.bounds item a.first.bounds (is_part item.what) p.bounded l.bounds);
+        bounded =
+            let more = bounded_more ps (parts_among items) s.bounds item a.first.bounds (is_part item.what) p.bounded l.bounds in
+            subst (λ xs. AreBounded ps xs (s.bounds ++ bounds_of item.what a.first.bounds)) (sym parts) more;
         signals = signals_one items item p.signals (subst (λ k. is_taken k item ≡ false) p.items_are l.new);
         inner = all_one (λ (i : SeenItem). AreDifferent (inner_names i.what)) items item p.inner l.inner;
         bits =

@@ -126,7 +126,8 @@ own_is_child number high last parent d ds k le (inl e) =
     inl (ap (λ (q : Key). q.0) e, subst (Contains (d.name ∷ map (λ (e : Declared). e.name) ds)) (sym (ap (λ (q : Key). q.1) e)) (first_in d.name (map (λ (e : Declared). e.name) ds)))
 own_is_child number high last parent d ds k le (inr w) = inr (wider number high number last k.0 (omega arith) le w)
 
-later_child : (number high last last' parent : ℕ) (d : Declared) (ds : List Declared) (k : Key) → number ≤ high → last ≤ last' → IsChildKey high last parent ds k → IsChildKey number last' parent (d ∷ ds) k
+later_child : (number high last last' parent : ℕ) (d : Declared) (ds : List Declared) (k : Key) → number ≤ high → last ≤ last'
+    → IsChildKey high last parent ds k → IsChildKey number last' parent (d ∷ ds) k
 later_child number high last last' parent d ds k le le' (inl (o, c)) = inl (o, later_in d.name k.1 (map (λ (e : Declared). e.name) ds) c)
 later_child number high last last' parent d ds k le le' (inr w) = inr (wider high last number last' k.0 le le' w)
 

@@ -142,12 +142,15 @@ module _ (blocks : List SeenModule) where
   instance_tree (suc levels) number parent name block given front (f ∷ fs) r (called, parent_is, block_is, params_are, kids) =
       let room = r.room in
       let low : level_below (levels_of front) parent ≤ 64 = omega (arith, room) in
-      let t : IsTree (front ++ f ∷ []) = tree_one front f r.tree (subst (λ k. IsBelow k f.parent) (sym r.long) (subst (IsBelow number) (sym parent_is) r.below)) (subst (λ p. level_below (levels_of front) p ≤ 64) (sym parent_is) low)
+      let below : IsBelow (length front) f.parent = subst (λ k. IsBelow k f.parent) (sym r.long) (subst (IsBelow number) (sym parent_is) r.below) in
+      let t : IsTree (front ++ f ∷ []) = tree_one front f r.tree below (subst (λ p. level_below (levels_of front) p ≤ 64) (sym parent_is) low)
       (subst (Stands front f.parent) (sym called) (subst (λ p. Stands front p name) (sym parent_is) r.stands)) in
       let long : length (front ++ f ∷ []) ≡ suc number = let m = length-append front (f ∷ []) in let n = r.long in omega (arith, m, n) in
       let same : length (levels_of front) ≡ number = frames_long front ∙ r.long in
       let level : get_or (levels_of (front ++ f ∷ [])) number 0 ≡ level_below (levels_of front) parent =
-      ap (λ l. get_or l number 0) (levels_one front f) ∙ ap (λ n. get_or (levels_of front ++ level_below (levels_of front) f.parent ∷ []) n 0) (sym same) ∙ level_last (levels_of front) (level_below (levels_of front) f.parent)
+      ap (λ l. get_or l number 0) (levels_one front f)
+      ∙ ap (λ n. get_or (levels_of front ++ level_below (levels_of front) f.parent ∷ []) n 0) (sym same)
+      ∙ level_last (levels_of front) (level_below (levels_of front) f.parent)
       ∙ ap (level_below (levels_of front)) parent_is in
       let is : slice_get (front ++ f ∷ []) number ≡ Some f = ap (slice_get (front ++ f ∷ [])) (sym r.long) ∙ get_last front f in
       let names : (d : Declared) → Contains (children_of block.items) d → Contains (child_names f.block.items) d.name = λ (d : Declared) k.
