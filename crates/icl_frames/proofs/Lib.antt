@@ -6,3 +6,10 @@ pub mod InnerNames
 pub mod Passing
 pub mod Modules
 pub mod Levels
+pub mod Differing
+pub mod Filling
+pub mod Holding
+pub mod Trees
+pub mod Siblings
+pub mod Derivations
+pub mod WrittenFrames

@@ -5,3 +5,5 @@ pub mod Preorder
 pub mod Scopes
 pub mod Taken
 pub mod SeenFrames
+pub mod Laws
+pub mod Written
