@@ -128,7 +128,8 @@ in_numbered x n s (suc k) (y ∷ xs) e h = in_later (n, x) (s, y) (enumerate_fro
 
 -- ---- the number of an item
 
-pub position_at : {A : Type 0} (test : A → Bool) (i k : ℕ) (xs : List A) (x : A) → slice_get xs k ≡ Some x → test x ≡ true → Apart (λ y z. test y ≡ true → test z ≡ true → ⊥) xs → position_from test i xs ≡ Some (i + k)
+pub position_at : {A : Type 0} (test : A → Bool) (i k : ℕ) (xs : List A) (x : A) → slice_get xs k ≡ Some x → test x ≡ true
+    → Apart (λ y z. test y ≡ true → test z ≡ true → ⊥) xs → position_from test i xs ≡ Some (i + k)
 position_at test i k [] x h t a = absurd cc
 position_at test i zero (y ∷ xs) x h t a =
     let u : test y ≡ true = ap test (some_is y x h) ∙ t in
@@ -136,11 +137,13 @@ position_at test i zero (y ∷ xs) x h t a =
     rw u (ap (λ j. Some j) n)
 position_at {A} test i (suc k) (y ∷ xs) x h t a = by_test (test y) refl (position_at test (i + 1) k xs x h t a.1)
   where
-    by_test : (b : Bool) → test y ≡ b → position_from test (i + 1) xs ≡ Some (i + 1 + k) → cond b (Some i) (position_from test (i + 1) xs) ≡ Some (i + suc k)
+    by_test : (b : Bool) → test y ≡ b → position_from test (i + 1) xs ≡ Some (i + 1 + k)
+        → cond b (Some i) (position_from test (i + 1) xs) ≡ Some (i + suc k)
     by_test true e g = absurd (all_at (λ z. test y ≡ true → test z ≡ true → ⊥) xs k x a.0 h e t)
     by_test false e g = let n : i + 1 + k ≡ i + suc k = omega arith in g ∙ ap (λ j. Some j) n
 
-pub number_is : {A : Type 0} (test : A → Bool) (xs : List A) (k : ℕ) (x : A) → slice_get xs k ≡ Some x → test x ≡ true → Apart (λ y z. test y ≡ true → test z ≡ true → ⊥) xs → unwrap_or (position test xs) 0 ≡ k
+pub number_is : {A : Type 0} (test : A → Bool) (xs : List A) (k : ℕ) (x : A) → slice_get xs k ≡ Some x → test x ≡ true
+    → Apart (λ y z. test y ≡ true → test z ≡ true → ⊥) xs → unwrap_or (position test xs) 0 ≡ k
 number_is test xs k x h t a =
     let z : 0 + k ≡ k = omega arith in
     ap (λ o. unwrap_or o 0) (position_from-zero test xs ∙ position_at test 0 k xs x h t a) ∙ z
@@ -156,7 +159,8 @@ numbers_rise s [] = tt
 numbers_rise s (x ∷ xs) = (all_above s (s + 1) xs (omega arith), numbers_rise (s + 1) xs)
 
 -- the numbers are those of the places
-pub all_numbered : {A : Type 0} (s : ℕ) (xs ys : List A) → ((i : ℕ) → slice_get xs (s + i) ≡ slice_get ys i) → AllByRecursion (λ (q : ℕ × A). slice_get xs q.0 ≡ Some q.1) (enumerate_from s ys)
+pub all_numbered : {A : Type 0} (s : ℕ) (xs ys : List A) → ((i : ℕ) → slice_get xs (s + i) ≡ slice_get ys i)
+    → AllByRecursion (λ (q : ℕ × A). slice_get xs q.0 ≡ Some q.1) (enumerate_from s ys)
 all_numbered s xs [] h = tt
 all_numbered s xs (y ∷ ys) h =
     let e : s ≡ s + 0 = omega arith in
@@ -167,12 +171,17 @@ known_numbers xs = all_numbered 0 xs xs (λ i. let z : 0 + i ≡ i = omega arith
 
 -- an item that is kept, at its number
 pub kept_number : {A : Type 0} (test : A → Bool) (xs : List A) (j : ℕ) (x : A) → slice_get xs j ≡ Some x → test x ≡ true
-    → slice_get (filter (λ q. test q.1) (enumerate_from 0 xs)) (unwrap_or (position (λ (q : ℕ × A). q.0 == j) (filter (λ q. test q.1) (enumerate_from 0 xs))) 0) ≡ Some (j, x)
+    → slice_get (filter (λ q. test q.1) (enumerate_from 0 xs))
+    (unwrap_or (position (λ (q : ℕ × A). q.0 == j) (filter (λ q. test q.1) (enumerate_from 0 xs))) 0) ≡ Some (j, x)
 kept_number {A} test xs j x h t =
-    let kept : In (j, x) (filter (λ q. test q.1) (enumerate_from 0 xs)) = in_kept (λ q. test q.1) (j, x) (enumerate_from 0 xs) (in_numbered x j 0 j xs (omega arith) h) t in
+    let kept : In (j, x) (filter (λ q. test q.1) (enumerate_from 0 xs)) = in_kept (λ q. test q.1) (j, x) (enumerate_from 0 xs)
+    (in_numbered x j 0 j xs (omega arith) h) t in
     let rise = apart_kept (λ (p q : ℕ × A). p.0 < q.0) (λ q. test q.1) (enumerate_from 0 xs) (numbers_rise 0 xs) in
-    let apart = apart_weaker (λ (p q : ℕ × A). p.0 < q.0) (λ p q. (p.0 == j) ≡ true → (q.0 == j) ≡ true → ⊥) not_both (filter (λ q. test q.1) (enumerate_from 0 xs)) rise in
-    ap (slice_get (filter (λ q. test q.1) (enumerate_from 0 xs))) (number_is (λ (q : ℕ × A). q.0 == j) (filter (λ q. test q.1) (enumerate_from 0 xs)) kept.place (j, x) kept.is (eq-eqb j j refl) apart) ∙ kept.is
+    let apart = apart_weaker (λ (p q : ℕ × A). p.0 < q.0) (λ p q. (p.0 == j) ≡ true → (q.0 == j) ≡ true → ⊥) not_both
+    (filter (λ q. test q.1) (enumerate_from 0 xs)) rise in
+    ap (slice_get (filter (λ q. test q.1) (enumerate_from 0 xs)))
+    (number_is (λ (q : ℕ × A). q.0 == j) (filter (λ q. test q.1) (enumerate_from 0 xs)) kept.place (j, x) kept.is
+    (eq-eqb j j refl) apart) ∙ kept.is
   where
     not_both : (p q : ℕ × A) → p.0 < q.0 → (p.0 == j) ≡ true → (q.0 == j) ≡ true → ⊥
     not_both p q lt e f =
@@ -181,11 +190,13 @@ kept_number {A} test xs j x h t =
         omega (arith, lt, a, b)
 
 -- the items alone
-pub kept_items : {A : Type 0} (test : A → Bool) (s : ℕ) (xs : List A) → map (λ (q : ℕ × A). q.1) (filter (λ q. test q.1) (enumerate_from s xs)) ≡ filter test xs
+pub kept_items : {A : Type 0} (test : A → Bool) (s : ℕ) (xs : List A)
+    → map (λ (q : ℕ × A). q.1) (filter (λ q. test q.1) (enumerate_from s xs)) ≡ filter test xs
 kept_items test s [] = refl
 kept_items {A} test s (x ∷ xs) = by_test (test x) (kept_items test (s + 1) xs)
   where
     by_test : (b : Bool) → map (λ (q : ℕ × A). q.1) (filter (λ q. test q.1) (enumerate_from (s + 1) xs)) ≡ filter test xs
-        → map (λ (q : ℕ × A). q.1) (cond b ((s, x) ∷ filter (λ q. test q.1) (enumerate_from (s + 1) xs)) (filter (λ q. test q.1) (enumerate_from (s + 1) xs))) ≡ cond b (x ∷ filter test xs) (filter test xs)
+        → map (λ (q : ℕ × A). q.1) (cond b ((s, x) ∷ filter (λ q. test q.1) (enumerate_from (s + 1) xs))
+        (filter (λ q. test q.1) (enumerate_from (s + 1) xs))) ≡ cond b (x ∷ filter test xs) (filter test xs)
     by_test true g = ap (λ l. x ∷ l) g
     by_test false g = g

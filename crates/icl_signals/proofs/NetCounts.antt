@@ -29,11 +29,14 @@ module _ (test : Role → Bool) where
   cell_count : (s : ℕ) (c : CellOf) → length (keep (entries_in (s, c))) ≡ count_that test c
   cell_count s c = sym (length-map (keep (entries_in (s, c))) (λ (e : Entry). e.what)) ∙ ap length (whats test s 0 c.parts)
 
-  all_widths : (s : ℕ) (cells : List CellOf) → sum_by (λ (e : Entry). part_width e.what) (keep (flat_map entries_in (enumerate_from s cells))) ≡ sum_by (width_that test) cells
+  all_widths : (s : ℕ) (cells : List CellOf)
+      → sum_by (λ (e : Entry). part_width e.what) (keep (flat_map entries_in (enumerate_from s cells))) ≡ sum_by (width_that test) cells
   all_widths s [] = refl
   all_widths s (c ∷ cells) =
       let rest = flat_map entries_in (enumerate_from (s + 1) cells) in
-      let both = ap (sum_by (λ (e : Entry). part_width e.what)) (filter-append (λ (e : Entry). test e.what.role) (entries_in (s, c)) rest) ∙ sum_by-append (λ (e : Entry). part_width e.what) (keep (entries_in (s, c))) (keep rest) in
+      let both = ap (sum_by (λ (e : Entry). part_width e.what))
+      (filter-append (λ (e : Entry). test e.what.role) (entries_in (s, c)) rest)
+      ∙ sum_by-append (λ (e : Entry). part_width e.what) (keep (entries_in (s, c))) (keep rest) in
       let more = sum_by-cons (width_that test) c cells in
       let one = cell_width s c in
       let others = all_widths (s + 1) cells in
@@ -43,7 +46,8 @@ module _ (test : Role → Bool) where
   all_counts s [] = refl
   all_counts s (c ∷ cells) =
       let rest = flat_map entries_in (enumerate_from (s + 1) cells) in
-      let both = ap length (filter-append (λ (e : Entry). test e.what.role) (entries_in (s, c)) rest) ∙ length-append (keep (entries_in (s, c))) (keep rest) in
+      let both = ap length (filter-append (λ (e : Entry). test e.what.role) (entries_in (s, c)) rest)
+      ∙ length-append (keep (entries_in (s, c))) (keep rest) in
       let more = sum_by-cons (count_that test) c cells in
       let one = cell_count s c in
       let others = all_counts (s + 1) cells in
@@ -52,7 +56,8 @@ module _ (test : Role → Bool) where
 module _ (cells : List CellOf) (entry : Wire) (net : Net) (shaped : IsShaped cells entry net) (h : IsHierarchy cells) where
   pub few_bits : sum (map (λ (reg : Reg). reg.width) net.regs.items) ≤ 4096
   few_bits =
-      let same : sum (map (λ (reg : Reg). reg.width) net.regs.items) ≡ sum_by (width_that is_register) cells = ap sum shaped.widths ∙ sum-map (λ (e : Entry). part_width e.what) (entries_that is_register cells) ∙ all_widths is_register 0 cells in
+      let same : sum (map (λ (reg : Reg). reg.width) net.regs.items) ≡ sum_by (width_that is_register) cells = ap sum shaped.widths
+      ∙ sum-map (λ (e : Entry). part_width e.what) (entries_that is_register cells) ∙ all_widths is_register 0 cells in
       let few = h.few_bits in
       omega (arith, same, few)
 
@@ -66,7 +71,8 @@ module _ (cells : List CellOf) (entry : Wire) (net : Net) (shaped : IsShaped cel
   pub few_insts : length net.insts.items ≤ 256
   few_insts =
       let same = shaped.insts in
-      let count : length (instruments cells) ≡ length (filter is_instrument cells) = sym (length-map (instruments cells) (λ (c : ℕ × CellOf). c.1)) ∙ ap length (kept_items is_instrument 0 cells) in
+      let count : length (instruments cells) ≡ length (filter is_instrument cells) =
+      sym (length-map (instruments cells) (λ (c : ℕ × CellOf). c.1)) ∙ ap length (kept_items is_instrument 0 cells) in
       let few = h.few_instruments in
       omega (arith, same, count, few)
 

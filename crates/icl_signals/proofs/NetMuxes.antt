@@ -34,16 +34,20 @@ module _ (cells : List CellOf) (entry : Wire) (net : Net) (shaped : IsShaped cel
   abbrev IsWideRow : ℕ → Choice → Type 0
   IsWideRow width c = IsChoice (IsRefOf cells) width c × (1 ≤ length c.values)
 
-  row_good : (at : Place) (width : ℕ) (c : Choice) (row : Row) → IsWideRow width c → row_from cells entry at c ≡ Ok (seen_row row) → IsRow net width row
+  row_good : (at : Place) (width : ℕ) (c : Choice) (row : Row) → IsWideRow width c → row_from cells entry at c ≡ Ok (seen_row row)
+      → IsRow net width row
   row_good at width c row k h =
       let r = row_is cells entry at c row h in
       let long : length c.values ≡ length row.values.items = ap length r.values ∙ length-map row.values.items tern_bits in
       let some = k.1 in
-      let wide : AllByRecursion (λ (v : OpenBits). length v ≡ width) (map tern_bits row.values.items) = subst (AllByRecursion (λ (v : OpenBits). length v ≡ width)) r.values k.0.0 in
+      let wide : AllByRecursion (λ (v : OpenBits). length v ≡ width) (map tern_bits row.values.items) =
+      subst (AllByRecursion (λ (v : OpenBits). length v ≡ width)) r.values k.0.0 in
       record {
         some_values = omega (arith, some, long);
         values = All-from_recursion (λ (v : Tern). length v.value.items ≡ width) row.values.items
-            (all_weaker (λ (v : Tern). length (tern_bits v) ≡ width) (λ v. length v.value.items ≡ width) (λ v e. sym (tern_length v) ∙ e) row.values.items (all_in_map tern_bits (λ (v : OpenBits). length v ≡ width) row.values.items wide));
+            (all_weaker (λ (v : Tern). length (tern_bits v) ≡ width) (λ v. length v.value.items ≡ width)
+            (λ v e. sym (tern_length v) ∙ e) row.values.items
+            (all_in_map tern_bits (λ (v : OpenBits). length v ≡ width) row.values.items wide));
         source = scan_there cells entry net shaped at c.source row.from r.from;
       }
 
@@ -51,7 +55,8 @@ module _ (cells : List CellOf) (entry : Wire) (net : Net) (shaped : IsShaped cel
   mux_good e mux k h =
       let m = mux_is cells entry e mux h in
       let part = part_wired cells wired e.cell e.part e.what k.0 in
-      let role : IsRole (IsRefOf cells) (part_width e.what) (AScanMux m.select m.rows) = subst (IsRole (IsRefOf cells) (part_width e.what)) m.role part.role in
+      let role : IsRole (IsRefOf cells) (part_width e.what) (AScanMux m.select m.rows) =
+      subst (IsRole (IsRefOf cells) (part_width e.what)) m.role part.role in
       let names = part_named cells named e.cell e.part e.what k.0 in
       let has : HasRows (AScanMux m.select m.rows) = subst HasRows m.role names.rows in
       let R = λ (r : Ref) (b : BitId). select_from cells entry e.what.at r ≡ Ok b in
@@ -66,21 +71,28 @@ module _ (cells : List CellOf) (entry : Wire) (net : Net) (shaped : IsShaped cel
       let below = cell_below cells e.cell e.part e.what k.0 in
       let node = m.node in
       let nodes = shaped.nodes in
-      let values = paired_maps S (λ (c : Choice). c.values) (λ (row : Row). map tern_bits row.values.items) (λ c row g. (row_is cells entry e.what.at c row g).values) m.rows mux.rows.items rows in
+      let values = paired_maps S (λ (c : Choice). c.values) (λ (row : Row). map tern_bits row.values.items)
+      (λ c row g. (row_is cells entry e.what.at c row g).values) m.rows mux.rows.items rows in
       record {
         some_bits = omega (arith, some_bits, width);
-        select = All-from_recursion (IsBitOf net) mux.select.items (paired_all (IsRefOf cells) R (IsBitOf net) (λ r b g d. select_there cells entry net shaped wired e.what.at r b g d) m.select mux.select.items role.0 bits);
+        select = All-from_recursion (IsBitOf net) mux.select.items
+            (paired_all (IsRefOf cells) R (IsBitOf net) (λ r b g d. select_there cells entry net shaped wired e.what.at r b g d) m.select mux.select.items role.0 bits);
         some_rows = omega (arith, some_rows, long);
         few_rows = omega (arith, few_rows, long);
         rows = All-from_recursion (IsRow net (length mux.select.items)) mux.rows.items
-            (paired_all (IsWideRow (length mux.select.items)) S (IsRow net (length mux.select.items)) (row_good e.what.at (length mux.select.items)) m.rows mux.rows.items
-            (subst (λ n. AllByRecursion (IsWideRow n) m.rows) width (all_and (IsChoice (IsRefOf cells) (length m.select)) (λ (c : Choice). 1 ≤ length c.values) m.rows role.1 has.3)) rows);
+            (paired_all (IsWideRow (length mux.select.items)) S (IsRow net (length mux.select.items))
+            (row_good e.what.at (length mux.select.items)) m.rows mux.rows.items
+            (subst (λ n. AllByRecursion (IsWideRow n) m.rows) width
+            (all_and (IsChoice (IsRefOf cells) (length m.select)) (λ (c : Choice). 1 ≤ length c.values) m.rows role.1 has.3)) rows);
         one_row = one_row_with m.rows mux.rows.items role.2 values;
         node = omega (arith, below, node, nodes);
       }
 
-pub muxes_good : (cells : List CellOf) (net : Net) (n : IsNetOf cells net) → IsShaped cells n.entry net → AreWired cells → AllByRecursion IsCell cells → All (IsMux net) net.muxes.items
+pub muxes_good : (cells : List CellOf) (net : Net) (n : IsNetOf cells net) → IsShaped cells n.entry net → AreWired cells
+    → AllByRecursion IsCell cells → All (IsMux net) net.muxes.items
 muxes_good cells net n shaped wired named =
     All-from_recursion (IsMux net) net.muxes.items
-    (paired_all (IsKept cells is_mux) (λ (e : Entry) (m : Mux). mux_of cells n.entry e ≡ Ok (seen_mux m)) (IsMux net) (mux_good cells n.entry net shaped wired named)
-    (entries_that is_mux cells) net.muxes.items (all_kept_known cells is_mux) (each_paired (mux_of cells n.entry) seen_mux (entries_that is_mux cells) net.muxes.items n.muxes))
+    (paired_all (IsKept cells is_mux) (λ (e : Entry) (m : Mux). mux_of cells n.entry e ≡ Ok (seen_mux m)) (IsMux net)
+    (mux_good cells n.entry net shaped wired named)
+    (entries_that is_mux cells) net.muxes.items (all_kept_known cells is_mux)
+    (each_paired (mux_of cells n.entry) seen_mux (entries_that is_mux cells) net.muxes.items n.muxes))

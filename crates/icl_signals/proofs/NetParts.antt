@@ -34,11 +34,13 @@ pub net_is : (cells : List CellOf) (link instr : List ℕ) (net : Net) → netwo
 unfolding network
 net_is cells link instr net h =
     let e = both (ends cells link instr) _ (seen_net net) h in
-    let out = both (scan_from cells e.first.entry e.first.exit_place (one_bit_of e.first.exit.cell e.first.exit.part 0)) _ (seen_net net) e.then' in
+    let out = both (scan_from cells e.first.entry e.first.exit_place (one_bit_of e.first.exit.cell e.first.exit.part 0)) _
+    (seen_net net) e.then' in
     let regs = both (each (register_of cells e.first.entry) (entries_that is_register cells)) _ (seen_net net) out.then' in
     let muxes = both (each (mux_of cells e.first.entry) (entries_that is_mux cells)) _ (seen_net net) regs.then' in
     let insts = both (each (instrument_of cells e.first.entry) (instruments cells)) _ (seen_net net) muxes.then' in
-    let n : NetOf = record { regs = regs.first; muxes = muxes.first; insts = insts.first; out = out.first; nodes = nodes_of cells; things = map (thing_of cells e.first.entry) (entries_that is_thing cells) } in
+    let n : NetOf =
+    record { regs = regs.first; muxes = muxes.first; insts = insts.first; out = out.first; nodes = nodes_of cells; things = map (thing_of cells e.first.entry) (entries_that is_thing cells) } in
     let same = ok_is n (seen_net net) insts.then' in
     record {
       entry = e.first.entry;
@@ -72,7 +74,8 @@ module _ (cells : List CellOf) (entry : Wire) where
       by_role (AScanRegister scan capture reset) r g =
           let from = both (scan_source cells entry e.what.at scan) _ (seen_reg reg) g in
           let signals = both (captures cells entry e.what.at (part_width e.what) capture) _ (seen_reg reg) from.then' in
-          let n : RegisterOf = record { width = part_width e.what; from = from.first; capture = signals.first; reset = resets (part_width e.what) reset; thing = number_among is_thing cells e.cell e.part } in
+          let n : RegisterOf =
+          record { width = part_width e.what; from = from.first; capture = signals.first; reset = resets (part_width e.what) reset; thing = number_among is_thing cells e.cell e.part } in
           let same = ok_is n (seen_reg reg) signals.then' in
           record {
             scan = scan;

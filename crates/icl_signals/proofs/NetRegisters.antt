@@ -42,24 +42,32 @@ module _ (cells : List CellOf) (entry : Wire) (net : Net) (shaped : IsShaped cel
   source_there at (Some r) p h = scan_there cells entry net shaped at r p h
 
   module _ (wired : AreWired cells) where
-    captures_long : (at : Place) (width : ℕ) (o : Option (List Ref)) (signals : List Sig) → IfSome o (AreWide (IsRefOf cells) width) → captures cells entry at width o ≡ Ok signals → length signals ≡ width
+    captures_long : (at : Place) (width : ℕ) (o : Option (List Ref)) (signals : List Sig) → IfSome o (AreWide (IsRefOf cells) width)
+        → captures cells entry at width o ≡ Ok signals → length signals ≡ width
     captures_long at width None signals w h = ap length (sym (ok_is (replicate width Absent) signals h)) ∙ length-replicate width Absent
     captures_long at width (Some refs) signals w h =
-        sym (paired_length (λ (r : Ref) (s : Sig). data_from cells entry at r ≡ Ok s) refs signals (each_itself (data_from cells entry at) refs signals h)) ∙ w.1
+        sym (paired_length (λ (r : Ref) (s : Sig). data_from cells entry at r ≡ Ok s) refs signals
+        (each_itself (data_from cells entry at) refs signals h)) ∙ w.1
 
-    captures_there : (at : Place) (width : ℕ) (o : Option (List Ref)) (signals : List Sig) → IfSome o (AreWide (IsRefOf cells) width) → captures cells entry at width o ≡ Ok signals → AllByRecursion (IsSignalOf net) signals
-    captures_there at width None signals w h = subst (AllByRecursion (IsSignalOf net)) (ok_is (replicate width Absent) signals h) (all_replicated (IsSignalOf net) width Absent tt)
+    captures_there : (at : Place) (width : ℕ) (o : Option (List Ref)) (signals : List Sig)
+        → IfSome o (AreWide (IsRefOf cells) width) → captures cells entry at width o ≡ Ok signals
+        → AllByRecursion (IsSignalOf net) signals
+    captures_there at width None signals w h = subst (AllByRecursion (IsSignalOf net)) (ok_is (replicate width Absent) signals h)
+        (all_replicated (IsSignalOf net) width Absent tt)
     captures_there at width (Some refs) signals w h =
-        paired_all (IsRefOf cells) (λ (r : Ref) (s : Sig). data_from cells entry at r ≡ Ok s) (IsSignalOf net) (λ r s g d. driven_signal net s (data_there cells entry net shaped wired at r s g d)) refs signals w.0
+        paired_all (IsRefOf cells) (λ (r : Ref) (s : Sig). data_from cells entry at r ≡ Ok s) (IsSignalOf net)
+        (λ r s g d. driven_signal net s (data_there cells entry net shaped wired at r s g d)) refs signals w.0
         (each_itself (data_from cells entry at) refs signals h)
 
     pub register_good : (e : Entry) (reg : Reg) → IsKept cells is_register e → register_of cells entry e ≡ Ok (seen_reg reg) → IsReg net reg
     register_good e reg k h =
         let r = register_is cells entry e reg h in
         let part = part_wired cells wired e.cell e.part e.what k.0 in
-        let role : IsRole (IsRefOf cells) (part_width e.what) (AScanRegister r.scan r.capture r.reset) = subst (IsRole (IsRefOf cells) (part_width e.what)) r.role part.role in
+        let role : IsRole (IsRefOf cells) (part_width e.what) (AScanRegister r.scan r.capture r.reset) =
+        subst (IsRole (IsRefOf cells) (part_width e.what)) r.role part.role in
         let is_there : is_thing e.what.role ≡ true = ap is_thing r.role in
-        let below = place_below (entries_that is_thing cells) (number_among is_thing cells e.cell e.part) (the_entry e.cell e.part e.what) (entry_of_number is_thing cells e.cell e.part e.what k.0 is_there) in
+        let below = place_below (entries_that is_thing cells) (number_among is_thing cells e.cell e.part)
+        (the_entry e.cell e.part e.what) (entry_of_number is_thing cells e.cell e.part e.what k.0 is_there) in
         let some = some_width e.what in
         let width = r.width in
         let thing = r.thing in
@@ -68,13 +76,17 @@ module _ (cells : List CellOf) (entry : Wire) (net : Net) (shaped : IsShaped cel
           some_bits = omega (arith, some, width);
           source = source_there e.what.at r.scan reg.from r.from;
           captures = captures_long e.what.at (part_width e.what) r.capture reg.capture.items role.1 r.signals ∙ width;
-          signals = All-from_recursion (IsSignalOf net) reg.capture.items (captures_there e.what.at (part_width e.what) r.capture reg.capture.items role.1 r.signals);
+          signals = All-from_recursion (IsSignalOf net) reg.capture.items
+              (captures_there e.what.at (part_width e.what) r.capture reg.capture.items role.1 r.signals);
           resets = sym (tern_length reg.reset) ∙ ap length (sym r.values) ∙ length_resets (part_width e.what) r.reset role.2 ∙ width;
           thing = omega (arith, below, thing, things);
         }
 
-pub registers_good : (cells : List CellOf) (net : Net) (n : IsNetOf cells net) → IsShaped cells n.entry net → AreWired cells → All (IsReg net) net.regs.items
+pub registers_good : (cells : List CellOf) (net : Net) (n : IsNetOf cells net) → IsShaped cells n.entry net → AreWired cells
+    → All (IsReg net) net.regs.items
 registers_good cells net n shaped wired =
     All-from_recursion (IsReg net) net.regs.items
-    (paired_all (IsKept cells is_register) (λ (e : Entry) (reg : Reg). register_of cells n.entry e ≡ Ok (seen_reg reg)) (IsReg net) (register_good cells n.entry net shaped wired)
-    (entries_that is_register cells) net.regs.items (all_kept_known cells is_register) (each_paired (register_of cells n.entry) seen_reg (entries_that is_register cells) net.regs.items n.regs))
+    (paired_all (IsKept cells is_register) (λ (e : Entry) (reg : Reg). register_of cells n.entry e ≡ Ok (seen_reg reg)) (IsReg net)
+    (register_good cells n.entry net shaped wired)
+    (entries_that is_register cells) net.regs.items (all_kept_known cells is_register)
+    (each_paired (register_of cells n.entry) seen_reg (entries_that is_register cells) net.regs.items n.regs))

@@ -61,9 +61,11 @@ pub length_numbered : {A : Type 0} (s : ℕ) (xs : List A) → length (enumerate
 length_numbered s [] = refl
 length_numbered s (x ∷ xs) = ap suc (length_numbered (s + 1) xs)
 
-widths_same : (cells : List CellOf) (entry : Wire) (c : ℕ × CellOf) (i : Inst) → IsInstrumentOf cells entry c i → map (λ (port : PortOut). port.width) i.outs.items ≡ output_widths_of c
+widths_same : (cells : List CellOf) (entry : Wire) (c : ℕ × CellOf) (i : Inst) → IsInstrumentOf cells entry c i
+    → map (λ (port : PortOut). port.width) i.outs.items ≡ output_widths_of c
 widths_same cells entry c i h =
-    sym (paired_maps (λ (p : ℕ × PartOf) (o : PortOut). output_of p ≡ seen_output o) (λ p. part_width p.1) (λ o. o.width) (λ p o e. ap (λ (x : OutputOf). x.width) e)
+    sym (paired_maps (λ (p : ℕ × PartOf) (o : PortOut). output_of p ≡ seen_output o) (λ p. part_width p.1) (λ o. o.width)
+    (λ p o e. ap (λ (x : OutputOf). x.width) e)
     (parts_that is_data_out c.1) i.outs.items (mapped_paired output_of seen_output (parts_that is_data_out c.1) i.outs.items h.outs))
 
 pub net_shaped : (cells : List CellOf) (net : Net) (n : IsNetOf cells net) → IsShaped cells n.entry net
@@ -76,14 +78,25 @@ net_shaped cells net n =
     let insts = each_paired (instrument_of cells n.entry) seen_inst (instruments cells) net.insts.items n.insts in
     let things = mapped_paired (thing_of cells n.entry) seen_thing (entries_that is_thing cells) net.things.items n.things in
     record {
-      widths = sym (paired_maps R (λ e. part_width e.what) (λ reg. reg.width) (λ e reg h. (register_is cells n.entry e reg h).width) (entries_that is_register cells) net.regs.items regs);
-      numbers = sym (paired_maps R (λ e. number_among is_thing cells e.cell e.part) (λ reg. reg.thing) (λ e reg h. (register_is cells n.entry e reg h).thing) (entries_that is_register cells) net.regs.items regs);
+      widths =
+          sym (paired_maps R (λ e. part_width e.what) (λ reg. reg.width) (λ e reg h. (register_is cells n.entry e reg h).width)
+          (entries_that is_register cells) net.regs.items regs);
+      numbers =
+          sym (paired_maps R (λ e. number_among is_thing cells e.cell e.part) (λ reg. reg.thing)
+          (λ e reg h. (register_is cells n.entry e reg h).thing) (entries_that is_register cells) net.regs.items regs);
       regs = sym (paired_length R (entries_that is_register cells) net.regs.items regs);
-      muxes = sym (paired_length (λ (e : Entry) (m : Mux). mux_of cells n.entry e ≡ Ok (seen_mux m)) (entries_that is_mux cells) net.muxes.items muxes);
-      outputs = sym (paired_maps S output_widths_of (λ i. map (λ (port : PortOut). port.width) i.outs.items) (λ c i h. sym (widths_same cells n.entry c i (instrument_is cells n.entry c i h))) (instruments cells) net.insts.items insts);
+      muxes =
+          sym (paired_length (λ (e : Entry) (m : Mux). mux_of cells n.entry e ≡ Ok (seen_mux m))
+          (entries_that is_mux cells) net.muxes.items muxes);
+      outputs =
+          sym (paired_maps S output_widths_of (λ i. map (λ (port : PortOut). port.width) i.outs.items)
+          (λ c i h. sym (widths_same cells n.entry c i (instrument_is cells n.entry c i h))) (instruments cells) net.insts.items insts);
       insts = sym (paired_length S (instruments cells) net.insts.items insts);
-      nodes = sym (length-map net.nodes.items seen_node) ∙ sym (ap length n.nodes) ∙ length-map (enumerate_from 0 cells) (node_of (paths_from [] cells)) ∙ length_numbered 0 cells;
-      bits = sym (paired_maps T (bits_of_entry cells n.entry) (λ t. t.bits.items) (λ e t h. (thing_is cells n.entry e t h).bits) (entries_that is_thing cells) net.things.items things);
+      nodes = sym (length-map net.nodes.items seen_node) ∙ sym (ap length n.nodes)
+          ∙ length-map (enumerate_from 0 cells) (node_of (paths_from [] cells)) ∙ length_numbered 0 cells;
+      bits =
+          sym (paired_maps T (bits_of_entry cells n.entry) (λ t. t.bits.items) (λ e t h. (thing_is cells n.entry e t h).bits)
+          (entries_that is_thing cells) net.things.items things);
       things = sym (paired_length T (entries_that is_thing cells) net.things.items things);
     }
 
@@ -124,42 +137,51 @@ driven_signal net (Out inst port pos inverted) h = h
 
 -- a register, a multiplexer and an instrument's output, where a bit stands for one
 module _ (cells : List CellOf) (entry : Wire) (net : Net) (shaped : IsShaped cells entry net) where
-  pub register_wide : (cell part : ℕ) (p : PartOf) → part_at cells cell part ≡ Some p → is_register p.role ≡ true → width_of net (number_among is_register cells cell part) ≡ part_width p
+  pub register_wide : (cell part : ℕ) (p : PartOf) → part_at cells cell part ≡ Some p → is_register p.role ≡ true
+      → width_of net (number_among is_register cells cell part) ≡ part_width p
   register_wide cell part p h t =
       ap (λ l. get_or l (number_among is_register cells cell part) 0) shaped.widths
-      ∙ mapped_place (λ (e : Entry). part_width e.what) 0 (entries_that is_register cells) (number_among is_register cells cell part) (the_entry cell part p) (entry_of_number is_register cells cell part p h t)
+      ∙ mapped_place (λ (e : Entry). part_width e.what) 0 (entries_that is_register cells)
+      (number_among is_register cells cell part) (the_entry cell part p) (entry_of_number is_register cells cell part p h t)
 
   -- a bit that is there of a part that is there
   pos_there : (w : Wire) (p : PartOf) → part_at cells w.cell w.part ≡ Some p → IsBitThere cells w → w.pos < part_width p
   pos_there w p e h = subst (λ o. IsSomeAnd o (λ q. w.pos < part_width q)) e h
 
-  pub register_bit_there : (w : Wire) (p : PartOf) → part_at cells w.cell w.part ≡ Some p → is_register p.role ≡ true → IsBitThere cells w → IsBitOf net (register_bit cells w)
+  pub register_bit_there : (w : Wire) (p : PartOf) → part_at cells w.cell w.part ≡ Some p → is_register p.role ≡ true
+      → IsBitThere cells w → IsBitOf net (register_bit cells w)
   register_bit_there w p e t h =
       let lt = pos_there w p e h in
       let wide = register_wide w.cell w.part p e t in
       omega (arith, lt, wide)
 
-  at_register : (w : Wire) → stands_for cells entry w ≡ ARegisterBit → IsAtPart ARegisterBit (is_instrument_cell cells w.cell) (part_at cells w.cell w.part)
+  at_register : (w : Wire) → stands_for cells entry w ≡ ARegisterBit
+      → IsAtPart ARegisterBit (is_instrument_cell cells w.cell) (part_at cells w.cell w.part)
   at_register w e = subst (λ s. IsAtSome s (is_instrument_cell cells w.cell) (part_at cells w.cell w.part)) e (stands_at cells entry w)
 
   at_mux : (w : Wire) → stands_for cells entry w ≡ AMuxOutput → IsAtPart AMuxOutput (is_instrument_cell cells w.cell) (part_at cells w.cell w.part)
   at_mux w e = subst (λ s. IsAtSome s (is_instrument_cell cells w.cell) (part_at cells w.cell w.part)) e (stands_at cells entry w)
 
-  at_output : (w : Wire) → stands_for cells entry w ≡ AnInstrumentOutput → IsAtPart AnInstrumentOutput (is_instrument_cell cells w.cell) (part_at cells w.cell w.part)
+  at_output : (w : Wire) → stands_for cells entry w ≡ AnInstrumentOutput
+      → IsAtPart AnInstrumentOutput (is_instrument_cell cells w.cell) (part_at cells w.cell w.part)
   at_output w e = subst (λ s. IsAtSome s (is_instrument_cell cells w.cell) (part_at cells w.cell w.part)) e (stands_at cells entry w)
 
-  output_there_in : (w : Wire) → stands_for cells entry w ≡ AnInstrumentOutput → IsBitThere cells w → w.pos < get_or (output_widths net (instrument_number cells w.cell)) (output_number cells w.cell w.part) 0
+  output_there_in : (w : Wire) → stands_for cells entry w ≡ AnInstrumentOutput → IsBitThere cells w
+      → w.pos < get_or (output_widths net (instrument_number cells w.cell)) (output_number cells w.cell w.part) 0
   output_there_in w e h =
       let a = at_output w e in
       let c = in_cell cells w.cell w.part a.part a.there in
       let lt = pos_there w a.part a.there h in
       let inst : is_instrument c.inside ≡ true = sym (mapped_place is_instrument false cells w.cell c.inside c.cell_is) ∙ a.role.1 in
       let row : output_widths net (instrument_number cells w.cell) ≡ output_widths_of (w.cell, c.inside) =
-      ap (λ l. get_or l (instrument_number cells w.cell) []) shaped.outputs ∙ mapped_place output_widths_of [] (instruments cells) (instrument_number cells w.cell) (w.cell, c.inside) (instrument_there cells w.cell c.inside c.cell_is inst)
+      ap (λ l. get_or l (instrument_number cells w.cell) []) shaped.outputs
+      ∙ mapped_place output_widths_of [] (instruments cells) (instrument_number cells w.cell) (w.cell, c.inside)
+      (instrument_there cells w.cell c.inside c.cell_is inst)
       in
       let wide : get_or (output_widths net (instrument_number cells w.cell)) (output_number cells w.cell w.part) 0 ≡ part_width a.part =
       ap (λ l. get_or l (output_number cells w.cell w.part) 0) row
-      ∙ mapped_place (λ (p : ℕ × PartOf). part_width p.1) 0 (parts_that is_data_out c.inside) (output_number cells w.cell w.part) (w.part, a.part) (output_there cells w.cell w.part c.inside a.part c.cell_is c.part_is a.role.0)
+      ∙ mapped_place (λ (p : ℕ × PartOf). part_width p.1) 0 (parts_that is_data_out c.inside) (output_number cells w.cell w.part)
+      (w.part, a.part) (output_there cells w.cell w.part c.inside a.part c.cell_is c.part_is a.role.0)
       in
       omega (arith, lt, wide)
 
@@ -175,7 +197,8 @@ module _ (cells : List CellOf) (entry : Wire) (net : Net) (shaped : IsShaped cel
       let a = at_register w t.1 in
       subst (IsDriven net) (ok_is (Bit (register_bit cells w) inverted) s h) (register_bit_there w a.part a.there a.role t.0)
   data_driven at (AtBit w inverted AnInstrumentOutput) s t h =
-      subst (IsDriven net) (ok_is (Out (instrument_number cells w.cell) (output_number cells w.cell w.part) w.pos inverted) s h) (output_there_in w t.1 t.0)
+      subst (IsDriven net) (ok_is (Out (instrument_number cells w.cell) (output_number cells w.cell w.part) w.pos inverted) s h)
+      (output_there_in w t.1 t.0)
   data_driven at (AtBit w inverted AFreeInput) s t h = subst (IsDriven net) (ok_is (constant inverted) s h) (constant_driven inverted)
   data_driven at (AtBit w inverted AMuxOutput) s t h = absurd cc
   data_driven at (AtBit w inverted TheEntry) s t h = absurd cc
@@ -217,21 +240,25 @@ module _ (cells : List CellOf) (entry : Wire) (net : Net) (shaped : IsShaped cel
   register_there : (w : Wire) → stands_for cells entry w ≡ ARegisterBit → number_among is_register cells w.cell w.part < length net.regs.items
   register_there w e =
       let a = at_register w e in
-      let lt = place_below (entries_that is_register cells) (number_among is_register cells w.cell w.part) (the_entry w.cell w.part a.part) (entry_of_number is_register cells w.cell w.part a.part a.there a.role) in
+      let lt = place_below (entries_that is_register cells) (number_among is_register cells w.cell w.part)
+      (the_entry w.cell w.part a.part) (entry_of_number is_register cells w.cell w.part a.part a.there a.role) in
       let long = shaped.regs in
       omega (arith, lt, long)
 
   mux_there : (w : Wire) → stands_for cells entry w ≡ AMuxOutput → number_among is_mux cells w.cell w.part < length net.muxes.items
   mux_there w e =
       let a = at_mux w e in
-      let lt = place_below (entries_that is_mux cells) (number_among is_mux cells w.cell w.part) (the_entry w.cell w.part a.part) (entry_of_number is_mux cells w.cell w.part a.part a.there a.role) in
+      let lt = place_below (entries_that is_mux cells) (number_among is_mux cells w.cell w.part) (the_entry w.cell w.part a.part)
+      (entry_of_number is_mux cells w.cell w.part a.part a.there a.role) in
       let long = shaped.muxes in
       omega (arith, lt, long)
 
   scan_good : (at : Place) (e : End) (p : Point) → Told cells entry e → scan_end cells at e ≡ Ok p → IsPointOf net p
   scan_good at (AtConstant b) p t h = absurd cc
-  scan_good at (AtBit w inverted ARegisterBit) p t h = subst (IsPointOf net) (ok_is (FromReg (number_among is_register cells w.cell w.part)) p h) (register_there w t)
-  scan_good at (AtBit w inverted AMuxOutput) p t h = subst (IsPointOf net) (ok_is (FromMux (number_among is_mux cells w.cell w.part)) p h) (mux_there w t)
+  scan_good at (AtBit w inverted ARegisterBit) p t h = subst (IsPointOf net)
+      (ok_is (FromReg (number_among is_register cells w.cell w.part)) p h) (register_there w t)
+  scan_good at (AtBit w inverted AMuxOutput) p t h = subst (IsPointOf net)
+      (ok_is (FromMux (number_among is_mux cells w.cell w.part)) p h) (mux_there w t)
   scan_good at (AtBit w inverted TheEntry) p t h = subst (IsPointOf net) (ok_is FromEntry p h) tt
   scan_good at (AtBit w inverted AnInstrumentOutput) p t h = absurd cc
   scan_good at (AtBit w inverted AFreeInput) p t h = absurd cc

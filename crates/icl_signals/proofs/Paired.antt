@@ -44,7 +44,8 @@ pub all_passing : {A : Type 0} (test : A → Bool) (xs : List A) → AllByRecurs
 all_passing test [] = tt
 all_passing {A} test (x ∷ xs) = by_test (test x) refl (all_passing test xs)
   where
-    by_test : (b : Bool) → test x ≡ b → AllByRecursion (λ y. test y ≡ true) (filter test xs) → AllByRecursion (λ y. test y ≡ true) (filter test (x ∷ xs))
+    by_test : (b : Bool) → test x ≡ b → AllByRecursion (λ y. test y ≡ true) (filter test xs)
+        → AllByRecursion (λ y. test y ≡ true) (filter test (x ∷ xs))
     by_test true e g = rw e (e, g)
     by_test false e g = rw e g
 
@@ -80,21 +81,24 @@ module _ {A B : Type 0} (R : A → B → Type 0) where
   paired_length (x ∷ xs) [] h = absurd h
   paired_length (x ∷ xs) (y ∷ ys) h = ap suc (paired_length xs ys h.1)
 
-  pub paired_maps : {C : Type 0} (f : A → C) (g : B → C) → ((x : A) (y : B) → R x y → f x ≡ g y) → (xs : List A) (ys : List B) → Paired xs ys → map f xs ≡ map g ys
+  pub paired_maps : {C : Type 0} (f : A → C) (g : B → C) → ((x : A) (y : B) → R x y → f x ≡ g y) → (xs : List A) (ys : List B)
+      → Paired xs ys → map f xs ≡ map g ys
   paired_maps f g e [] [] h = refl
   paired_maps f g e [] (y ∷ ys) h = absurd h
   paired_maps f g e (x ∷ xs) [] h = absurd h
   paired_maps f g e (x ∷ xs) (y ∷ ys) h = ap (λ l. f x ∷ l) (paired_maps f g e xs ys h.1) ∙ ap (λ z. z ∷ map g ys) (e x y h.0)
 
 module _ {A B : Type 0} (P : A → Type 0) (R : A → B → Type 0) where
-  pub paired_all : (Q : B → Type 0) → ((x : A) (y : B) → P x → R x y → Q y) → (xs : List A) (ys : List B) → AllByRecursion P xs → Paired R xs ys → AllByRecursion Q ys
+  pub paired_all : (Q : B → Type 0) → ((x : A) (y : B) → P x → R x y → Q y) → (xs : List A) (ys : List B) → AllByRecursion P xs
+      → Paired R xs ys → AllByRecursion Q ys
   paired_all Q f [] [] p h = tt
   paired_all Q f [] (y ∷ ys) p h = absurd h
   paired_all Q f (x ∷ xs) [] p h = absurd h
   paired_all Q f (x ∷ xs) (y ∷ ys) p h = (f x y p.0 h.0, paired_all Q f xs ys p.1 h.1)
 
 -- what is given for each item
-pub each_paired : {A B C E : Type 0} (f : A → Result B E) (g : C → B) (xs : List A) (zs : List C) → each f xs ≡ Ok (map g zs) → Paired (λ x z. f x ≡ Ok (g z)) xs zs
+pub each_paired : {A B C E : Type 0} (f : A → Result B E) (g : C → B) (xs : List A) (zs : List C) → each f xs ≡ Ok (map g zs)
+    → Paired (λ x z. f x ≡ Ok (g z)) xs zs
 each_paired f g [] [] h = tt
 each_paired f g [] (z ∷ zs) h = absurd cc
 each_paired f g (x ∷ xs) [] h =
@@ -105,8 +109,11 @@ each_paired f g (x ∷ xs) [] h =
 each_paired f g (x ∷ xs) (z ∷ zs) h =
     let a = both (f x) (λ y. each f xs >>= λ ys. Ok (y ∷ ys)) (g z ∷ map g zs) h in
     let b = both (each f xs) (λ ys. Ok (a.first ∷ ys)) (g z ∷ map g zs) a.then' in
-    let e = ok_is (a.first ∷ b.first) (g z ∷ map g zs) b.then' in
-    (a.is ∙ ap (λ y. Ok y) (head_is a.first (g z) b.first (map g zs) e), each_paired f g xs zs (b.is ∙ ap (λ l. Ok l) (tail_is a.first (g z) b.first (map g zs) e)))
+    let e = ok_is (a.first ∷ b.first) (g z ∷ map g zs) b.then' in (
+      a.is ∙ ap (λ y. Ok y) (head_is a.first (g z) b.first (map g zs) e),
+      each_paired f g xs zs
+          (b.is ∙ ap (λ l. Ok l) (tail_is a.first (g z) b.first (map g zs) e)),
+    )
 
 pub each_itself : {A B E : Type 0} (f : A → Result B E) (xs : List A) (ys : List B) → each f xs ≡ Ok ys → Paired (λ x y. f x ≡ Ok y) xs ys
 each_itself {B = B} f xs ys h = each_paired f (λ y. y) xs ys (h ∙ ap (λ l. Ok l) (same ys))
@@ -119,7 +126,8 @@ pub mapped_paired : {A B C : Type 0} (f : A → B) (g : C → B) (xs : List A) (
 mapped_paired f g [] [] h = tt
 mapped_paired f g [] (z ∷ zs) h = absurd cc
 mapped_paired f g (x ∷ xs) [] h = absurd cc
-mapped_paired f g (x ∷ xs) (z ∷ zs) h = (head_is (f x) (g z) (map f xs) (map g zs) h, mapped_paired f g xs zs (tail_is (f x) (g z) (map f xs) (map g zs) h))
+mapped_paired f g (x ∷ xs) (z ∷ zs) h =
+    (head_is (f x) (g z) (map f xs) (map g zs) h, mapped_paired f g xs zs (tail_is (f x) (g z) (map f xs) (map g zs) h))
 
 -- ---- places
 

@@ -16,7 +16,8 @@ use Rattle.icl_signals.proofs.Paired.{all_at, all_of_map, all_weaker, place_belo
 pub cell_below : (cells : List CellOf) (cell part : ℕ) (p : PartOf) → part_at cells cell part ≡ Some p → cell < length cells
 cell_below cells cell part p h = let c = in_cell cells cell part p h in place_below cells cell c.inside c.cell_is
 
-pub part_named : (cells : List CellOf) → AllByRecursion IsCell cells → (cell part : ℕ) (p : PartOf) → part_at cells cell part ≡ Some p → IsPartNamed p
+pub part_named : (cells : List CellOf) → AllByRecursion IsCell cells → (cell part : ℕ) (p : PartOf)
+    → part_at cells cell part ≡ Some p → IsPartNamed p
 part_named cells all cell part p h =
     let c = in_cell cells cell part p h in
     let whole = all_at IsCell cells cell c.inside all c.cell_is in
@@ -41,7 +42,9 @@ length_own e = length-map (range_with_len 0 (part_width e.what)) (one_bit_of e.c
 pub own_there : (cells : List CellOf) (e : Entry) → part_at cells e.cell e.part ≡ Some e.what → AllByRecursion (IsRefOf cells) (own_bits e)
 own_there cells e h =
     all_of_map (one_bit_of e.cell e.part) (IsRefOf cells) (range_with_len 0 (part_width e.what))
-    (all_weaker (λ (k : ℕ). k < part_width e.what) (λ k. IsRefOf cells (one_bit_of e.cell e.part k)) (λ k lt. subst (λ o. IsSomeAnd o (λ p. k < part_width p)) (sym h) lt) (range_with_len 0 (part_width e.what)) (range_below 0 (part_width e.what) (part_width e.what) (omega arith)))
+    (all_weaker (λ (k : ℕ). k < part_width e.what) (λ k. IsRefOf cells (one_bit_of e.cell e.part k))
+    (λ k lt. subst (λ o. IsSomeAnd o (λ p. k < part_width p)) (sym h) lt) (range_with_len 0 (part_width e.what))
+    (range_below 0 (part_width e.what) (part_width e.what) (omega arith)))
 
 -- ---- open bits
 

@@ -24,7 +24,8 @@ both_false false y h = (refl, h)
 
 -- ---- values that list the same bits meet
 
-bits_meet : (c d x y z : Bool) → (not c || same_bit x z) ≡ true → (not d || same_bit y z) ≡ true → meet_at (cond c (Some x) None) (cond d (Some y) None) ≡ true
+bits_meet : (c d x y z : Bool) → (not c || same_bit x z) ≡ true → (not d || same_bit y z) ≡ true
+    → meet_at (cond c (Some x) None) (cond d (Some y) None) ≡ true
 bits_meet false d x y z h g = refl
 bits_meet true false x y z h g = refl
 bits_meet true true true true z h g = refl
@@ -50,7 +51,8 @@ lists_meet (x ∷ v) (y ∷ c) (u ∷ w) (k ∷ d) (z ∷ b) h g =
 abbrev values_meet : List OpenBits → List OpenBits → Bool
 values_meet us vs = list_any (λ (u : OpenBits). list_any (meet u) vs) us
 
-one_meets : (t : Tern) (us : List Tern) (bits : List Bool) → matches t bits ≡ true → some_matches us bits ≡ true → list_any (meet (tern_bits t)) (map tern_bits us) ≡ true
+one_meets : (t : Tern) (us : List Tern) (bits : List Bool) → matches t bits ≡ true → some_matches us bits ≡ true
+    → list_any (meet (tern_bits t)) (map tern_bits us) ≡ true
 one_meets t [] bits h g = absurd (true≢false (sym g))
 one_meets t (u ∷ us) bits h g = by_test (matches u bits) refl g (λ k. one_meets t us bits h k)
   where
@@ -58,11 +60,14 @@ one_meets t (u ∷ us) bits h g = by_test (matches u bits) refl g (λ k. one_mee
     or_true true = refl
     or_true false = refl
 
-    by_test : (b : Bool) → matches u bits ≡ b → (b || some_matches us bits) ≡ true → (some_matches us bits ≡ true → list_any (meet (tern_bits t)) (map tern_bits us) ≡ true) → (meet (tern_bits t) (tern_bits u) || list_any (meet (tern_bits t)) (map tern_bits us)) ≡ true
+    by_test : (b : Bool) → matches u bits ≡ b → (b || some_matches us bits) ≡ true
+        → (some_matches us bits ≡ true → list_any (meet (tern_bits t)) (map tern_bits us) ≡ true)
+        → (meet (tern_bits t) (tern_bits u) || list_any (meet (tern_bits t)) (map tern_bits us)) ≡ true
     by_test true e k again = rw (lists_meet t.value.items t.care.items u.value.items u.care.items bits h e) refl
     by_test false e k again = rw (again k) (or_true (meet (tern_bits t) (tern_bits u)))
 
-some_meets : (ts us : List Tern) (bits : List Bool) → some_matches ts bits ≡ true → some_matches us bits ≡ true → values_meet (map tern_bits ts) (map tern_bits us) ≡ true
+some_meets : (ts us : List Tern) (bits : List Bool) → some_matches ts bits ≡ true → some_matches us bits ≡ true
+    → values_meet (map tern_bits ts) (map tern_bits us) ≡ true
 some_meets [] us bits h g = absurd (true≢false (sym h))
 some_meets (t ∷ ts) us bits h g = by_test (matches t bits) refl h (λ k. some_meets ts us bits k g)
   where
@@ -70,7 +75,9 @@ some_meets (t ∷ ts) us bits h g = by_test (matches t bits) refl h (λ k. some_
     or_true true = refl
     or_true false = refl
 
-    by_test : (b : Bool) → matches t bits ≡ b → (b || some_matches ts bits) ≡ true → (some_matches ts bits ≡ true → values_meet (map tern_bits ts) (map tern_bits us) ≡ true) → (list_any (meet (tern_bits t)) (map tern_bits us) || values_meet (map tern_bits ts) (map tern_bits us)) ≡ true
+    by_test : (b : Bool) → matches t bits ≡ b → (b || some_matches ts bits) ≡ true
+        → (some_matches ts bits ≡ true → values_meet (map tern_bits ts) (map tern_bits us) ≡ true)
+        → (list_any (meet (tern_bits t)) (map tern_bits us) || values_meet (map tern_bits ts) (map tern_bits us)) ≡ true
     by_test true e k again = rw (one_meets t us bits e g) refl
     by_test false e k again = rw (again k) (or_true (list_any (meet (tern_bits t)) (map tern_bits us)))
 
@@ -80,9 +87,11 @@ none_any test (x ∷ xs) h = let p = both_false (test x) (list_any test xs) h in
 
 rows_apart : (rows : List Choice) → some_meet rows ≡ false → Apart (λ (r s : Choice). values_meet r.values s.values ≡ false) rows
 rows_apart [] h = tt
-rows_apart (r ∷ rows) h = let p = both_false (list_any (rows_meet r) rows) (some_meet rows) h in (none_any (rows_meet r) rows p.0, rows_apart rows p.1)
+rows_apart (r ∷ rows) h = let p = both_false (list_any (rows_meet r) rows) (some_meet rows) h in
+    (none_any (rows_meet r) rows p.0, rows_apart rows p.1)
 
-few : {A : Type 0} (test : A → Bool) (ys : List A) → AllByRecursion (λ y. test y ≡ true) ys → Apart (λ y z. test y ≡ true → test z ≡ true → ⊥) ys → length ys ≤ 1
+few : {A : Type 0} (test : A → Bool) (ys : List A) → AllByRecursion (λ y. test y ≡ true) ys
+    → Apart (λ y z. test y ≡ true → test z ≡ true → ⊥) ys → length ys ≤ 1
 few test [] p a = omega arith
 few test (y ∷ []) p a = omega arith
 few test (y ∷ z ∷ ys) p a = absurd (a.0.0 p.0 p.1.0)
@@ -90,10 +99,15 @@ few test (y ∷ z ∷ ys) p a = absurd (a.0.0 p.0 p.1.0)
 one_kept : {A : Type 0} (test : A → Bool) (xs : List A) → Apart (λ y z. test y ≡ true → test z ≡ true → ⊥) xs → length (filter test xs) ≤ 1
 one_kept test xs a = few test (filter test xs) (all_passing test xs) (apart_kept (λ y z. test y ≡ true → test z ≡ true → ⊥) test xs a)
 
-pub one_row_with : (choices : List Choice) (rows : List Row) → some_meet choices ≡ false → map (λ (c : Choice). c.values) choices ≡ map (λ (row : Row). map tern_bits row.values.items) rows → (bits : List Bool) → length (rows_with rows bits) ≤ 1
+pub one_row_with : (choices : List Choice) (rows : List Row) → some_meet choices ≡ false
+    → map (λ (c : Choice). c.values) choices ≡ map (λ (row : Row). map tern_bits row.values.items) rows → (bits : List Bool)
+    → length (rows_with rows bits) ≤ 1
 one_row_with choices rows h e bits =
-    let apart : Apart (λ us vs. values_meet us vs ≡ false) (map (λ (c : Choice). c.values) choices) = apart_of_map (λ (c : Choice). c.values) (λ us vs. values_meet us vs ≡ false) choices (rows_apart choices h) in
-    let seen = apart_in_map (λ (row : Row). map tern_bits row.values.items) (λ us vs. values_meet us vs ≡ false) rows (subst (Apart (λ us vs. values_meet us vs ≡ false)) e apart) in
+    let apart : Apart (λ us vs. values_meet us vs ≡ false) (map (λ (c : Choice). c.values) choices) =
+    apart_of_map (λ (c : Choice). c.values) (λ us vs. values_meet us vs ≡ false) choices (rows_apart choices h) in
+    let seen = apart_in_map (λ (row : Row). map tern_bits row.values.items) (λ us vs. values_meet us vs ≡ false) rows
+    (subst (Apart (λ us vs. values_meet us vs ≡ false)) e apart) in
     one_kept (λ (row : Row). some_matches row.values.items bits) rows
-    (apart_weaker (λ (r s : Row). values_meet (map tern_bits r.values.items) (map tern_bits s.values.items) ≡ false) (λ r s. some_matches r.values.items bits ≡ true → some_matches s.values.items bits ≡ true → ⊥)
+    (apart_weaker (λ (r s : Row). values_meet (map tern_bits r.values.items) (map tern_bits s.values.items) ≡ false)
+    (λ r s. some_matches r.values.items bits ≡ true → some_matches s.values.items bits ≡ true → ⊥)
     (λ r s no p q. true≢false (sym (some_meets r.values.items s.values.items bits p q) ∙ no)) rows seen)

@@ -28,9 +28,12 @@ module _ (cells : List CellOf) (entry : Wire) where
     follow_there zero inverted w h = tt
     follow_there (suc n) inverted w h = by_move (stands_for cells entry w) refl (λ b v. follow_there n b v)
       where
-        by_move : (s : StandsFor) → stands_for cells entry w ≡ s → ((b : Bool) (v : Wire) → IsBitThere cells v → EndsThere (follow cells entry n b v)) → EndsThere (from_move (follow cells entry n) inverted w s)
+        by_move : (s : StandsFor) → stands_for cells entry w ≡ s
+            → ((b : Bool) (v : Wire) → IsBitThere cells v → EndsThere (follow cells entry n b v))
+            → EndsThere (from_move (follow cells entry n) inverted w s)
         by_move (Another (Fixed c)) e again = tt
-        by_move (Another (Bit cell part pos turned)) e again = again (flip_if turned inverted) (record { cell = cell; part = part; pos = pos }) (move_good cells entry w (Bit cell part pos turned) wired e)
+        by_move (Another (Bit cell part pos turned)) e again = again (flip_if turned inverted)
+            (record { cell = cell; part = part; pos = pos }) (move_good cells entry w (Bit cell part pos turned) wired e)
         by_move ARegisterBit e again = (h, e)
         by_move AMuxOutput e again = (h, e)
         by_move AnInstrumentOutput e again = (h, e)
@@ -41,4 +44,5 @@ module _ (cells : List CellOf) (entry : Wire) where
     pub trace_there : (r : Ref) → IsRefOf cells r → EndsThere (trace cells entry r)
     unfolding trace
     trace_there (Fixed b) h = tt
-    trace_there (Bit cell part pos turned) h = follow_there (signal_bits cells + 1) (flip_if turned false) (record { cell = cell; part = part; pos = pos }) h
+    trace_there (Bit cell part pos turned) h = follow_there (signal_bits cells + 1) (flip_if turned false)
+        (record { cell = cell; part = part; pos = pos }) h
