@@ -18,6 +18,9 @@ use Rattle.icl_elab.specs.Placing.{made, part_with, parts_with, port_bound, port
 use Rattle.icl_references.specs.Roles.{Role, ScanInput, ScanOutput, DataInput, DataOutput, ControlPort, AScanRegister, AScanMux, AnAliasOf, AnInstance, AnInterfaceOf, AnAccessLink, PartOf, CellOf, seen_hier}
 use Rattle.icl_elab.specs.SecondPass.{Found}
 use Rattle.icl_elab.specs.SeenParts.{PartHead, head_of_member, head_of_placed, heads_of_cells, heads_of_frame, seen_cell_parts, seen_placed}
+use Rattle.icl_frames.specs.Written.{AreWritten}
+use Rattle.icl_elab.specs.WellFormed.{IsHierarchy}
+use Rattle.icl_elab.proofs.NamedCells.{hierarchies_are_well_formed}
 use Rattle.icl_elab.specs.Preorder.{AreInstances}
 use Rattle.icl_elab.proofs.SameCells.{hierarchies_are_preorder}
 use Rattle.icl_elab.proofs.Wiring.{hierarchies_are_wired}
@@ -96,3 +99,7 @@ numbered_if (Err e) blocks top g = tt
 pub instances_if : (r : Result Hier ElabFault) (blocks : List SeenModule) (top : List ℕ) → Gives seen_hier r (hierarchy blocks top) → IfOk r (λ h. AreInstances blocks top (seen_hier h))
 instances_if (Ok h) blocks top g = hierarchies_are_preorder blocks top (seen_hier h) g
 instances_if (Err e) blocks top g = tt
+
+pub well_formed_if : (r : Result Hier ElabFault) (blocks : List SeenModule) (top : List ℕ) → Gives seen_hier r (hierarchy blocks top) → IfOk r (λ h. AreWritten blocks → IsHierarchy (seen_hier h))
+well_formed_if (Ok h) blocks top g = λ w. hierarchies_are_well_formed blocks top (seen_hier h) w g
+well_formed_if (Err e) blocks top g = tt

@@ -3,6 +3,8 @@ ghost use Rattle.std.specs.Prelude.{◌≡◌, ℕ, ◌+◌, ◌<◌, ◌==◌, 
 ghost use Rattle.std.specs.List.{position_from};
 ghost use Rattle.std.specs.Option.{option_map};
 ghost use Rattle.icl_syntax.specs.Views.{seen_design};
+ghost use Rattle.icl_frames.specs.Written.{AreWritten};
+ghost use Rattle.icl_elab.specs.WellFormed.{IsHierarchy};
 ghost use Rattle.icl_values.specs.Faults.{Gives};
 ghost use Rattle.icl_frames.specs.Ranges.{width};
 ghost use Rattle.icl_frames.specs.Scopes.{or_else};
@@ -386,6 +388,7 @@ pub fn elaborate(alloc: Global, design: &Design, top: &Name) -> Result<Hier, Ela
     ensures wired { IfOk result (λ h. AreWired (seen_hier h)) }
     ensures numbered { IfOk result (λ h. AreNumbered (seen_hier h)) }
     ensures instances { IfOk result (λ h. AreInstances (seen_design design.now) top.now.items (seen_hier h)) }
+    ensures well_formed { IfOk result (λ h. AreWritten (seen_design design.now) → IsHierarchy (seen_hier h)) }
 {
     hierarchy_of(alloc, design, top)
 }

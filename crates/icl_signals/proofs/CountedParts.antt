@@ -5,10 +5,11 @@ use Rattle.std.specs.List.{AllByRecursion, enumerate_from, position_from}
 use Rattle.std.proofs.lemmas.Bool.{eq-eqb, ne_eqb}
 use Rattle.std.proofs.lemmas.Iterator.Adapters.{position_from-zero}
 use Rattle.std.proofs.lemmas.List.Elements.{filter-append}
+use Rattle.icl_elab.specs.WellFormed.{is_instrument}
 use Rattle.icl_references.specs.Roles.{Role, PartOf, CellOf, part_of, part_at}
 use Rattle.icl_signals.specs.declared.parts.Kind.{Kind}
 use Rattle.icl_signals.specs.declared.parts.Kind.TheVariants.{Output}
-use Rattle.icl_signals.specs.Moves.{Entry, entry_of, entries_in, entries, is_instrument}
+use Rattle.icl_signals.specs.Moves.{Entry, entry_of, entries_in, entries}
 use Rattle.icl_signals.specs.Connecting.{is_same, entries_that, number_among, instruments, instrument_number, parts_that, outputs_at, output_number}
 use Rattle.icl_signals.specs.Kinds.{test_of, is_of, one_if, in_front, with_all, numbers_from, number_at}
 

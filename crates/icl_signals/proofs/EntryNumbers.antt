@@ -4,9 +4,10 @@ use Rattle.std.specs.Prelude.{slice_get, position, unwrap_or}
 use Rattle.std.specs.List.{AllByRecursion, enumerate_from}
 use Rattle.std.proofs.lemmas.Bool.{eq-eqb, eqb-true, true≢false}
 use Rattle.std.proofs.lemmas.List.Elements.{filter-append}
-use Rattle.icl_elab.specs.Roles.{Role, PartOf, CellOf, part_at}
-use Rattle.icl_signals.specs.Moves.{Entry, entry_of, entries_in, entries, is_instrument}
-use Rattle.icl_signals.specs.Connecting.{entries_that, is_same, number_among, instruments, instrument_number, is_data_out, parts_that, output_number}
+use Rattle.icl_elab.specs.WellFormed.{is_data_out, is_instrument}
+use Rattle.icl_references.specs.Roles.{Role, PartOf, CellOf, part_at}
+use Rattle.icl_signals.specs.Moves.{Entry, entry_of, entries_in, entries}
+use Rattle.icl_signals.specs.Connecting.{entries_that, is_same, number_among, instruments, instrument_number, parts_that, output_number}
 use Rattle.icl_signals.proofs.Joined.{Known, all_known}
 use Rattle.icl_signals.proofs.Standing.{in_cell}
 use Rattle.icl_signals.proofs.Paired.{all_kept, all_passing, all_and, mapped_place}

@@ -4,13 +4,13 @@ use Rattle.std.specs.List.{enumerate_from}
 use Rattle.std.proofs.lemmas.List.{length-map}
 use Rattle.std.proofs.lemmas.List.Elements.{filter-append}
 use Rattle.std.proofs.lemmas.List.Sums.{sum-map, sum_by-cons, sum_by-append}
-use Rattle.icl_elab.specs.Roles.{Role, CellOf, part_width}
+use Rattle.icl_elab.specs.WellFormed.{is_register, is_mux, is_instrument, width_that, count_that, IsHierarchy}
+use Rattle.icl_references.specs.Roles.{Role, CellOf, part_width}
 use Rattle.net_graph.specs.declared.net.Net.{Net}
 use Rattle.net_graph.specs.declared.net.Reg.{Reg}
 use Rattle.icl_signals.specs.declared.wires.Wire.{Wire}
-use Rattle.icl_signals.specs.Moves.{Entry, entries_in, is_instrument}
-use Rattle.icl_signals.specs.Connecting.{is_register, is_mux, entries_that, instruments}
-use Rattle.icl_signals.specs.WellFormed.{width_that, count_that, IsHierarchy}
+use Rattle.icl_signals.specs.Moves.{Entry, entries_in}
+use Rattle.icl_signals.specs.Connecting.{entries_that, instruments}
 use Rattle.icl_signals.proofs.ApartItems.{kept_items}
 use Rattle.icl_signals.proofs.NetSignals.{IsShaped}
 use Rattle.icl_signals.proofs.NetThings.{whats}

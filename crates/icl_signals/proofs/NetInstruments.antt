@@ -6,8 +6,9 @@ use Rattle.std.proofs.lemmas.Bool.{true≢false}
 use Rattle.std.proofs.lemmas.List.{length-map}
 use Rattle.std.proofs.lemmas.List.Elements.{All-from_recursion}
 use Rattle.ij_bits.specs.Different.{AreDifferent}
-use Rattle.icl_elab.specs.declared.hier.Ref.{Ref}
-use Rattle.icl_elab.specs.Roles.{Role, DataInput, DataOutput, PartOf, CellOf, part_of, part_at, part_width}
+use Rattle.icl_elab.specs.WellFormed.{is_thing, is_data_in, is_data_out, is_data_port, is_instrument, things_in, HasFewPorts, IsCell}
+use Rattle.icl_references.specs.declared.hier.Ref.{Ref}
+use Rattle.icl_references.specs.Roles.{Role, DataInput, DataOutput, PartOf, CellOf, part_of, part_at, part_width}
 use Rattle.icl_elab.specs.Laws.{IsRefOf, AreWired}
 use Rattle.net_graph.specs.declared.net.Inst.{Inst}
 use Rattle.net_graph.specs.declared.net.Net.{Net}
@@ -17,10 +18,9 @@ use Rattle.net_graph.specs.declared.net.Sig.{Sig}
 use Rattle.net_graph.specs.Named.{IsInputOf}
 use Rattle.net_graph.specs.Nets.{IsInst}
 use Rattle.icl_signals.specs.declared.wires.Wire.{Wire}
-use Rattle.icl_signals.specs.Moves.{Entry, is_data_port, is_instrument}
+use Rattle.icl_signals.specs.Moves.{Entry}
 use Rattle.icl_signals.specs.PlainNets.{OutputOf, seen_input, seen_output, seen_inst}
-use Rattle.icl_signals.specs.Connecting.{is_thing, is_data_in, is_data_out, instruments, parts_that, own_bits, output_of, input_from, input_of, instrument_of}
-use Rattle.icl_signals.specs.WellFormed.{things_in, HasFewPorts, IsCell}
+use Rattle.icl_signals.specs.Connecting.{instruments, parts_that, own_bits, output_of, input_from, input_of, instrument_of}
 use Rattle.icl_signals.proofs.Paired.{paired_length, paired_maps, paired_all, each_paired, each_itself, mapped_paired, all_at, all_kept, all_passing, all_and, place_below}
 use Rattle.icl_signals.proofs.ApartItems.{Apart, apart_kept, apart_weaker, apart_of_map, apart_in_map, apart_different, different_apart, in_kept, known_numbers, kept_items, numbers_rise}
 use Rattle.icl_signals.proofs.EntryNumbers.{all_instruments_known}

@@ -8,8 +8,9 @@ use Rattle.ij_bits.specs.declared.tern.Tern.{Tern}
 use Rattle.ij_text.specs.declared.Place.{Place}
 use Rattle.ij_text.specs.Numbers.{tern_bits}
 use Rattle.icl_values.specs.Values.{OpenBits}
-use Rattle.icl_elab.specs.declared.hier.Ref.{Ref}
-use Rattle.icl_elab.specs.Roles.{Choice, AScanMux, CellOf, part_width}
+use Rattle.icl_elab.specs.WellFormed.{is_mux, HasRows, IsCell}
+use Rattle.icl_references.specs.declared.hier.Ref.{Ref}
+use Rattle.icl_references.specs.Roles.{Choice, AScanMux, CellOf, part_width}
 use Rattle.icl_elab.specs.Laws.{IsRefOf, IsChoice, IsRole, AreWired}
 use Rattle.net_graph.specs.declared.net.BitId.{BitId}
 use Rattle.net_graph.specs.declared.net.Mux.{Mux}
@@ -20,8 +21,7 @@ use Rattle.net_graph.specs.Nets.{IsRow, IsMux}
 use Rattle.icl_signals.specs.declared.wires.Wire.{Wire}
 use Rattle.icl_signals.specs.Moves.{Entry}
 use Rattle.icl_signals.specs.PlainNets.{seen_row, seen_mux}
-use Rattle.icl_signals.specs.Connecting.{is_mux, entries_that, select_from, row_from, mux_of}
-use Rattle.icl_signals.specs.WellFormed.{HasRows, IsCell}
+use Rattle.icl_signals.specs.Connecting.{entries_that, select_from, row_from, mux_of}
 use Rattle.icl_signals.proofs.Joined.{part_wired}
 use Rattle.icl_signals.proofs.Paired.{paired_length, paired_maps, paired_all, each_paired, each_itself, all_and, all_in_map, all_weaker}
 use Rattle.icl_signals.proofs.EntryNumbers.{IsKept, all_kept_known}

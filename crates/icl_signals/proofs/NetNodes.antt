@@ -7,13 +7,14 @@ use Rattle.std.proofs.lemmas.List.Elements.{All-from_recursion}
 use Rattle.ij_bits.specs.Different.{AreDifferent}
 use Rattle.ij_bits.specs.Room.{Listed}
 use Rattle.ij_text.specs.Words.{is_name}
-use Rattle.icl_elab.specs.Roles.{CellOf}
+use Rattle.icl_frames.specs.Laws.{IsBelow, level_below}
+use Rattle.icl_elab.specs.WellFormed.{levels_from, IsCell, IsHierarchy}
+use Rattle.icl_references.specs.Roles.{CellOf}
 use Rattle.net_graph.specs.declared.net.Net.{Net}
 use Rattle.net_graph.specs.declared.net.Node.{Node}
 use Rattle.net_graph.specs.Nets.{path_of}
 use Rattle.icl_signals.specs.PlainNets.{NodeOf, seen_node}
 use Rattle.icl_signals.specs.Connecting.{path_with, paths_from, node_of}
-use Rattle.icl_signals.specs.WellFormed.{IsBelow, level_below, levels_from, IsCell, IsHierarchy}
 use Rattle.icl_signals.proofs.Paired.{some_is, head_is, tail_is, paired_maps, mapped_paired, all_and, all_weaker, all_in_map, place_below, at_place}
 use Rattle.icl_signals.proofs.ApartItems.{Apart, apart_at, apart_of_map, apart_in_map, apart_different, different_apart, numbers_rise, known_numbers}
 use Rattle.icl_signals.proofs.NetParts.{IsNetOf}

@@ -4,8 +4,9 @@ use Rattle.ij_text.specs.declared.Place.{Place}
 use Rattle.ij_text.specs.Numbers.{tern_bits}
 use Rattle.icl_values.specs.Faults.{each}
 use Rattle.icl_values.specs.Values.{OpenBits}
-use Rattle.icl_elab.specs.declared.hier.Ref.{Ref}
-use Rattle.icl_elab.specs.Roles.{Choice, Role, AScanRegister, AScanMux, PartOf, CellOf, part_width, seen_word}
+use Rattle.icl_elab.specs.WellFormed.{is_register, is_mux, is_thing, is_data_in, is_data_out}
+use Rattle.icl_references.specs.declared.hier.Ref.{Ref}
+use Rattle.icl_references.specs.Roles.{Choice, Role, AScanRegister, AScanMux, PartOf, CellOf, part_width, seen_word}
 use Rattle.icl_frames.proofs.Answering.{both, ok_is}
 use Rattle.net_graph.specs.declared.net.Inst.{Inst}
 use Rattle.net_graph.specs.declared.net.Mux.{Mux}
@@ -17,7 +18,7 @@ use Rattle.net_graph.specs.declared.net.Thing.{Thing}
 use Rattle.icl_signals.specs.declared.wires.Wire.{Wire}
 use Rattle.icl_signals.specs.Moves.{Entry}
 use Rattle.icl_signals.specs.PlainNets.{RegisterOf, RowOf, MuxOf, InputOf, InstrumentOf, ThingOf, NetOf, seen_reg, seen_row, seen_mux, seen_input, seen_output, seen_inst, seen_node, seen_thing, seen_net}
-use Rattle.icl_signals.specs.Connecting.{is_register, is_mux, is_thing, is_data_in, is_data_out, entries_that, number_among, instruments, parts_that, own_bits, one_bit_of, resets, output_of, scan_from, scan_source, captures, register_from, register_of, select_from, row_from, mux_from, mux_of, input_from, input_of, instrument_of, spot_of, refs_of, thing_of, nodes_of, ends, network}
+use Rattle.icl_signals.specs.Connecting.{entries_that, number_among, instruments, parts_that, own_bits, one_bit_of, resets, output_of, scan_from, scan_source, captures, register_from, register_of, select_from, row_from, mux_from, mux_of, input_from, input_of, instrument_of, spot_of, refs_of, thing_of, nodes_of, ends, network}
 
 pub record IsNetOf (cells : List CellOf) (net : Net) : Type 0 where
   pub entry : Wire

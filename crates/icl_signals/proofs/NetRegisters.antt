@@ -6,8 +6,9 @@ use Rattle.std.proofs.lemmas.List.{length-replicate}
 use Rattle.std.proofs.lemmas.List.Elements.{All-from_recursion}
 use Rattle.ij_text.specs.declared.Place.{Place}
 use Rattle.icl_values.specs.Values.{OpenBits}
-use Rattle.icl_elab.specs.declared.hier.Ref.{Ref}
-use Rattle.icl_elab.specs.Roles.{AScanRegister, CellOf, part_width}
+use Rattle.icl_elab.specs.WellFormed.{is_register, is_thing}
+use Rattle.icl_references.specs.declared.hier.Ref.{Ref}
+use Rattle.icl_references.specs.Roles.{AScanRegister, CellOf, part_width}
 use Rattle.icl_elab.specs.Laws.{IsRefOf, AreWide, IsRole, AreWired}
 use Rattle.icl_frames.proofs.Answering.{ok_is}
 use Rattle.net_graph.specs.declared.net.Net.{Net}
@@ -20,7 +21,7 @@ use Rattle.net_graph.specs.Nets.{IsReg}
 use Rattle.icl_signals.specs.declared.wires.Wire.{Wire}
 use Rattle.icl_signals.specs.Moves.{Entry}
 use Rattle.icl_signals.specs.PlainNets.{seen_reg}
-use Rattle.icl_signals.specs.Connecting.{is_register, is_thing, entries_that, number_among, resets, data_from, scan_source, captures, register_of}
+use Rattle.icl_signals.specs.Connecting.{entries_that, number_among, resets, data_from, scan_source, captures, register_of}
 use Rattle.icl_signals.proofs.Joined.{part_wired}
 use Rattle.icl_signals.proofs.Paired.{paired_length, paired_all, each_paired, each_itself, place_below}
 use Rattle.icl_signals.proofs.EntryNumbers.{IsKept, all_kept_known, the_entry, entry_of_number}

@@ -4,9 +4,10 @@ use Rattle.std.specs.List.{enumerate_from}
 use Rattle.std.proofs.lemmas.List.{length-map}
 use Rattle.ij_bits.specs.BitLists.{flip_if}
 use Rattle.ij_text.specs.declared.Place.{Place}
-use Rattle.icl_elab.specs.declared.hier.Ref.{Ref}
-use Rattle.icl_elab.specs.declared.hier.Ref.TheVariants.{Fixed, Bit as RefBit}
-use Rattle.icl_elab.specs.Roles.{PartOf, CellOf, part_at, part_width}
+use Rattle.icl_elab.specs.WellFormed.{is_register, is_mux, is_thing, is_data_out, is_instrument}
+use Rattle.icl_references.specs.declared.hier.Ref.{Ref}
+use Rattle.icl_references.specs.declared.hier.Ref.TheVariants.{Fixed, Bit as RefBit}
+use Rattle.icl_references.specs.Roles.{PartOf, CellOf, part_at, part_width}
 use Rattle.icl_elab.specs.Laws.{IsRefOf, AreWired}
 use Rattle.icl_frames.proofs.Answering.{both, ok_is}
 use Rattle.net_graph.specs.declared.net.BitId.{BitId}
@@ -26,11 +27,11 @@ use Rattle.icl_signals.specs.declared.wires.Wire.{Wire}
 use Rattle.icl_signals.specs.declared.wires.StandsFor.TheVariants.{Another, ARegisterBit, AMuxOutput, AnInstrumentOutput, TheEntry, AFreeInput, NothingAtAll}
 use Rattle.icl_signals.specs.declared.wires.End.{End}
 use Rattle.icl_signals.specs.declared.wires.End.TheVariants.{AtConstant, AtBit, InLoop}
-use Rattle.icl_signals.specs.Moves.{Entry, is_instrument, is_instrument_cell, stands_for}
+use Rattle.icl_signals.specs.Moves.{Entry, is_instrument_cell, stands_for}
 use Rattle.icl_signals.specs.Traces.{signal_bits, follow, trace}
 use Rattle.icl_signals.specs.Laws.{Stop}
 use Rattle.icl_signals.specs.PlainNets.{OutputOf, seen_reg, seen_mux, seen_output, seen_inst, seen_node, seen_thing}
-use Rattle.icl_signals.specs.Connecting.{is_register, is_mux, is_thing, is_data_out, entries_that, number_among, instruments, instrument_number, output_number, parts_that, constant, register_bit, output_of, data_end, scan_end, select_bit, input_bit, data_from, scan_from, select_from, input_from, register_of, mux_of, instrument_of, spot_of, refs_of, thing_of, node_of, paths_from}
+use Rattle.icl_signals.specs.Connecting.{entries_that, number_among, instruments, instrument_number, output_number, parts_that, constant, register_bit, output_of, data_end, scan_end, select_bit, input_bit, data_from, scan_from, select_from, input_from, register_of, mux_of, instrument_of, spot_of, refs_of, thing_of, node_of, paths_from}
 use Rattle.icl_signals.proofs.Chains.{EndsOrGoesOn, ends}
 use Rattle.icl_signals.proofs.Standing.{IsAtPart, IsAtSome, stands_at, in_cell}
 use Rattle.icl_signals.proofs.Paired.{paired_length, paired_maps, each_paired, mapped_paired, place_below, mapped_place}

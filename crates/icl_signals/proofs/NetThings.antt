@@ -9,9 +9,10 @@ use Rattle.ij_bits.specs.Room.{Listed}
 use Rattle.ij_bits.specs.declared.tern.Tern.{Tern}
 use Rattle.ij_text.specs.Numbers.{tern_bits}
 use Rattle.ij_text.specs.Words.{is_name}
-use Rattle.icl_elab.specs.declared.hier.Ref.{Ref}
-use Rattle.icl_elab.specs.declared.hier.Ref.TheVariants.{Fixed, Bit as RefBit}
-use Rattle.icl_elab.specs.Roles.{Role, DataInput, AScanRegister, AnAliasOf, Word, PartOf, CellOf, part_at, part_width, seen_word}
+use Rattle.icl_elab.specs.WellFormed.{is_register, is_thing, things_in, IsCell}
+use Rattle.icl_references.specs.declared.hier.Ref.{Ref}
+use Rattle.icl_references.specs.declared.hier.Ref.TheVariants.{Fixed, Bit as RefBit}
+use Rattle.icl_references.specs.Roles.{Role, DataInput, AScanRegister, AnAliasOf, Word, PartOf, CellOf, part_at, part_width, seen_word}
 use Rattle.icl_elab.specs.Laws.{IsRefOf, IsRole, AreWired}
 use Rattle.net_graph.specs.declared.net.Net.{Net}
 use Rattle.net_graph.specs.declared.net.Sig.{Sig}
@@ -24,8 +25,7 @@ use Rattle.icl_signals.specs.declared.wires.Wire.{Wire}
 use Rattle.icl_signals.specs.Moves.{Entry, entry_of, entries_in}
 use Rattle.icl_signals.specs.Refusals.{Answer}
 use Rattle.icl_signals.specs.PlainNets.{seen_thing}
-use Rattle.icl_signals.specs.Connecting.{is_register, is_thing, entries_that, number_among, constant, or_absent, one_bit_of, own_bits, data_from, signal_from, spot_by, spot_in, spot_of, refs_of, thing_of}
-use Rattle.icl_signals.specs.WellFormed.{things_in, IsCell}
+use Rattle.icl_signals.specs.Connecting.{entries_that, number_among, constant, or_absent, one_bit_of, own_bits, data_from, signal_from, spot_by, spot_in, spot_of, refs_of, thing_of}
 use Rattle.icl_signals.proofs.Joined.{part_wired}
 use Rattle.icl_signals.proofs.Paired.{paired_maps, paired_all, mapped_paired, all_at, all_weaker, all_of_map, all_in_map, at_place, mapped_place}
 use Rattle.icl_signals.proofs.ApartItems.{Apart, apart_weaker, apart_of_map, apart_in_map, apart_different, different_apart}

@@ -1,6 +1,14 @@
 -- The network of every well formed hierarchy is well formed.
-use Rattle.std.proofs.Common.{arith}
-use Rattle.icl_signals.specs.Connecting.{one_bit_of}
+use Rattle.std.proofs.Common.{ℕ, List, arith}
+use Rattle.std.specs.Prelude.{Result, Ok, Err, IfOk}
+use Rattle.icl_references.specs.Roles.{CellOf}
+use Rattle.icl_elab.specs.WellFormed.{IsHierarchy}
+use Rattle.net_graph.specs.declared.net.Net.{Net}
+use Rattle.net_graph.specs.Nets.{IsNet}
+use Rattle.icl_signals.specs.declared.fault.ConnectFault.{ConnectFault}
+use Rattle.icl_signals.specs.Refusals.{Gives}
+use Rattle.icl_signals.specs.PlainNets.{seen_net}
+use Rattle.icl_signals.specs.Connecting.{network, one_bit_of}
 use Rattle.icl_signals.specs.WellFormed.{NetsAreWellFormed}
 use Rattle.icl_signals.proofs.NetParts.{net_is}
 use Rattle.icl_signals.proofs.NetSignals.{net_shaped, scan_there}
@@ -36,3 +44,7 @@ nets_are_well_formed cells link instr net h e =
       few_nodes = few_nodes cells n.entry net shaped h;
       few_levels = few_levels cells h net n;
     }
+
+pub well_formed_if : (r : Result Net ConnectFault) (cells : List CellOf) (link instr : List ℕ) → Gives seen_net r (network cells link instr) → IfOk r (λ net. IsHierarchy cells → IsNet net)
+well_formed_if (Ok net) cells link instr g = λ h. nets_are_well_formed cells link instr net h g
+well_formed_if (Err e) cells link instr g = tt

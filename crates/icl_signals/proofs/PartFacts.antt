@@ -4,11 +4,11 @@ use Rattle.std.specs.List.{AllByRecursion, range_with_len}
 use Rattle.std.proofs.lemmas.List.{length-map}
 use Rattle.ij_bits.specs.declared.tern.Tern.{Tern}
 use Rattle.ij_text.specs.Numbers.{open_bits, tern_bits}
-use Rattle.icl_elab.specs.Roles.{PartOf, CellOf, part_at, part_width}
+use Rattle.icl_elab.specs.WellFormed.{IsCell, IsPartNamed}
+use Rattle.icl_references.specs.Roles.{PartOf, CellOf, part_at, part_width}
 use Rattle.icl_elab.specs.Laws.{IsRefOf}
 use Rattle.icl_signals.specs.Moves.{Entry}
 use Rattle.icl_signals.specs.Connecting.{one_bit_of, own_bits}
-use Rattle.icl_signals.specs.WellFormed.{IsCell, IsPartNamed}
 use Rattle.icl_signals.proofs.Standing.{in_cell}
 use Rattle.icl_signals.proofs.Paired.{all_at, all_of_map, all_weaker, place_below}
 

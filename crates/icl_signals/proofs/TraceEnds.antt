@@ -1,9 +1,9 @@
 -- In a hierarchy whose signals name bits that are there, a trace ends at a constant or at a bit that is there, and stands for what the end says.
 use Rattle.std.proofs.Common.{◌≡◌, ◌+◌, ℕ, zero, suc, Bool, false, List, refl}
 use Rattle.ij_bits.specs.BitLists.{flip_if}
-use Rattle.icl_elab.specs.declared.hier.Ref.{Ref}
-use Rattle.icl_elab.specs.declared.hier.Ref.TheVariants.{Fixed, Bit}
-use Rattle.icl_elab.specs.Roles.{CellOf}
+use Rattle.icl_references.specs.declared.hier.Ref.{Ref}
+use Rattle.icl_references.specs.declared.hier.Ref.TheVariants.{Fixed, Bit}
+use Rattle.icl_references.specs.Roles.{CellOf}
 use Rattle.icl_elab.specs.Laws.{IsRefOf, AreWired}
 use Rattle.icl_signals.specs.declared.wires.Wire.{Wire}
 use Rattle.icl_signals.specs.declared.wires.StandsFor.{StandsFor}

@@ -1,6 +1,8 @@
 // The network of a hierarchy.
-ghost use Rattle.std.specs.Prelude.{◌≡◌, map};
+ghost use Rattle.std.specs.Prelude.{◌≡◌, map, IfOk};
 ghost use Rattle.icl_references.specs.Roles.{seen_hier};
+ghost use Rattle.icl_elab.specs.WellFormed.{IsHierarchy};
+ghost use Rattle.net_graph.specs.Nets.{IsNet};
 ghost use Rattle.icl_signals.specs.Refusals.{Gives};
 ghost use Rattle.icl_signals.specs.PlainNets.{seen_net};
 ghost use Rattle.icl_signals.specs.Connecting.{network};
@@ -21,18 +23,9 @@ use ij_text::Name;
 use net_graph::Net;
 use std::alloc::Global;
 
-/// The flat network between the two ends of the interface that an instruction of an access link selects (IEEE 1687-2014, ICL:
-/// AccessLink). Each scan source, capture bit, select bit, row, instrument input and thing is where its signal's trace ends.
-/// Registers, multiplexers, instruments and things stand in the order of the cells, and in a cell in the order of the text.
-///
-/// The first fault on the way is the answer, in this order: `NoLink` where the top has no such link and instruction, or its
-/// interface hasn't exactly one `ScanInPort` and one `ScanOutPort`; then the output's source, the registers (each one's scan
-/// source, then what it captures), the multiplexers (each one's select bits, then its rows) and the inputs of instruments, with
-/// `Undriven` where a trace ends at nothing that drives it, `SignalLoop` where it comes back to a bit that it left, `BadSelect`
-/// where a select bit is no register bit or is inverted, and `InstrumentChain` where an instrument drives an instrument.
-/// `OutOfMemory` may come at any point.
+/// The network between the two ends that an instruction selects, or the first fault on the way to it.
 #[tactic(auto, unfolding(crate::specs::Connecting::network))]
-pub fn connect(alloc: Global, hier: &Hier, link: &Name, instr: &Name) -> Result<Net, ConnectFault>
+fn network_of(alloc: Global, hier: &Hier, link: &Name, instr: &Name) -> Result<Net, ConnectFault>
     ensures { Gives seen_net result (network (seen_hier hier.now) link.now.items instr.now.items) }
 {
     let ends = ends(alloc, hier, link, instr)?;
@@ -60,4 +53,23 @@ pub fn connect(alloc: Global, hier: &Hier, link: &Name, instr: &Name) -> Result<
         nodes,
         things,
     })
+}
+
+/// The flat network between the two ends of the interface that an instruction of an access link selects (IEEE 1687-2014, ICL:
+/// AccessLink). Each scan source, capture bit, select bit, row, instrument input and thing is where its signal's trace ends.
+/// Registers, multiplexers, instruments and things stand in the order of the cells, and in a cell in the order of the text.
+///
+/// The first fault on the way is the answer, in this order: `NoLink` where the top has no such link and instruction, or its
+/// interface hasn't exactly one `ScanInPort` and one `ScanOutPort`; then the output's source, the registers (each one's scan
+/// source, then what it captures), the multiplexers (each one's select bits, then its rows) and the inputs of instruments, with
+/// `Undriven` where a trace ends at nothing that drives it, `SignalLoop` where it comes back to a bit that it left, `BadSelect`
+/// where a select bit is no register bit or is inverted, and `InstrumentChain` where an instrument drives an instrument.
+/// `OutOfMemory` may come at any point.
+///
+/// The network of a well formed hierarchy, as `icl_elab::elaborate` gives it of a design that the grammar gave, is well formed.
+pub fn connect(alloc: Global, hier: &Hier, link: &Name, instr: &Name) -> Result<Net, ConnectFault>
+    ensures gives { Gives seen_net result (network (seen_hier hier.now) link.now.items instr.now.items) }
+    ensures well_formed { IfOk result (λ net. IsHierarchy (seen_hier hier.now) → IsNet net) }
+{
+    network_of(alloc, hier, link, instr)
 }

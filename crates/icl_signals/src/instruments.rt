@@ -2,10 +2,10 @@
 ghost use Rattle.std.specs.Prelude.{◌≡◌, ◌∷◌, [], map, filter, IfOk};
 ghost use Rattle.std.specs.List.{enumerate_from};
 ghost use Rattle.icl_values.specs.Faults.{each};
+ghost use Rattle.icl_elab.specs.WellFormed.{is_instrument};
 ghost use Rattle.icl_references.specs.Roles.{part_width, seen_part, seen_cell, seen_hier};
 ghost use Rattle.icl_signals.specs.Refusals.{Gives, behind};
 ghost use Rattle.icl_signals.specs.Wirings.{IsWiring, cells_of};
-ghost use Rattle.icl_signals.specs.Moves.{is_instrument};
 ghost use Rattle.icl_signals.specs.Told.{seen_entry};
 ghost use Rattle.icl_signals.specs.Inside.{numbered};
 ghost use Rattle.icl_signals.specs.PlainNets.{seen_input, seen_output, seen_inst};

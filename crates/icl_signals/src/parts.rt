@@ -2,8 +2,9 @@
 ghost use Rattle.std.specs.Prelude.{◌≡◌, map, slice_get, IfOk};
 ghost use Rattle.std.specs.List.{list_any};
 ghost use Rattle.std.specs.Option.{option_map};
+ghost use Rattle.icl_elab.specs.WellFormed.{is_data_port, is_not_of_instrument, is_instrument};
 ghost use Rattle.icl_references.specs.Roles.{part_at, part_width, seen_body, seen_part, seen_cell, seen_hier};
-ghost use Rattle.icl_signals.specs.Moves.{is_top, is_data_port, is_not_of_instrument, is_instrument};
+ghost use Rattle.icl_signals.specs.Moves.{is_top};
 ghost use Rattle.icl_signals.specs.Kinds.{test_of};
 
 use icl_elab::{Body, Cell, Hier, Part};

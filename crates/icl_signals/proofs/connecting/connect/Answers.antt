@@ -1,11 +1,5 @@
-use Rattle.std.proofs.Common.{◌≡◌, sym, ap, subst, ◌∙◌, map}
-use Rattle.icl_references.specs.Roles.{seen_hier}
-use Rattle.icl_signals.specs.Connecting.{is_register}
-use Rattle.icl_signals.specs.Told.{seen_entry, ArePlaced}
-use Rattle.icl_signals.proofs.Placed.{placed}
+use Rattle.icl_signals.proofs.NetsWellFormed.{well_formed_if}
 use Rattle.icl_signals.proofs.connecting.connect.Goals as goal
 
-pub registers-requires-clause-placed : goal.registers-requires-clause-placed
-registers-requires-clause-placed c =
-    subst (λ cells. ArePlaced cells c.as_slice.result.now) (sym c.in_ok-wiring.ensures.cells)
-    (placed (seen_hier c.args.hier.now) is_register c.as_slice.result.now (ap (map seen_entry) c.as_slice.ensures.value ∙ c.in_ok-parts.ensures))
+pub returns-clause-well_formed : goal.returns-clause-well_formed
+returns-clause-well_formed c = well_formed_if c.network_of.result _ _ _ c.network_of.ensures

@@ -2,10 +2,10 @@ use Rattle.std.proofs.Common.{◌≡◌, map, drop}
 use Rattle.std.specs.Prelude.{filter}
 use Rattle.std.specs.List.{enumerate_from}
 use Rattle.icl_values.specs.Faults.{each}
+use Rattle.icl_elab.specs.WellFormed.{is_instrument}
 use Rattle.icl_references.specs.Roles.{seen_cell}
 use Rattle.icl_signals.specs.Refusals.{behind}
 use Rattle.icl_signals.specs.Wirings.{cells_of}
-use Rattle.icl_signals.specs.Moves.{is_instrument}
 use Rattle.icl_signals.specs.Connecting.{instrument_of, instruments}
 use Rattle.icl_signals.specs.PlainNets.{seen_inst}
 use Rattle.icl_signals.proofs.instruments.instruments.Given as goal

@@ -1,7 +1,7 @@
 use Rattle.std.proofs.Common.{◌≡◌, map, drop}
 use Rattle.std.specs.List.{list_any}
+use Rattle.icl_elab.specs.WellFormed.{is_data_port}
 use Rattle.icl_references.specs.Roles.{seen_part}
-use Rattle.icl_signals.specs.Moves.{is_data_port}
 use Rattle.icl_signals.proofs.parts.has_data_port.Given as goal
 
 abbrev pub invariant-loop-part : goal.invariant-loop-part

@@ -1,6 +1,6 @@
 use Rattle.std.proofs.Common.{◌≡◌, map, take}
+use Rattle.icl_elab.specs.WellFormed.{is_instrument}
 use Rattle.icl_references.specs.Roles.{seen_cell}
-use Rattle.icl_signals.specs.Moves.{is_instrument}
 use Rattle.icl_signals.proofs.parts.instrument_flags.Given as goal
 
 abbrev pub invariant-loop-cell : goal.invariant-loop-cell
