@@ -1,18 +1,8 @@
-//! Tests of the readers of texts and of what prints them again: on texts that stand in tables, and at the largest sizes.
+//! Tests of the readers of procedures, devices and SVF, on texts that stand in tables, and of all readers at the largest sizes.
 #![tactic(auto)]
 
 #[cfg(test)]
 mod device_files;
-#[cfg(test)]
-mod icl_designs;
-#[cfg(test)]
-mod icl_hierarchies;
-#[cfg(test)]
-mod icl_printed;
-#[cfg(test)]
-mod icl_refusals;
-#[cfg(test)]
-mod icl_tokens;
 #[cfg(test)]
 mod largest;
 #[cfg(test)]
