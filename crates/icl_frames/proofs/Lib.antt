@@ -11,5 +11,4 @@ pub mod Filling
 pub mod Holding
 pub mod Trees
 pub mod Siblings
-pub mod Derivations
 pub mod WrittenFrames
