@@ -3,7 +3,11 @@
 use Rattle.std.specs.Prelude.{◌≡◌, ◌≤◌, ◌<◌, ◌^◌, ℕ, List, length, IfSome, IsTrue, Ok}
 use Rattle.std.specs.List.{AllByRecursion}
 use Rattle.ij_text.specs.Words.{is_name}
+use Rattle.icl_lexer.specs.declared.token.Token.{Token}
+use Rattle.icl_lexer.specs.Cutting.{AreTokens}
+use Rattle.icl_syntax.specs.Tokens.{seen_tokens}
 use Rattle.icl_syntax.specs.Values.{SeenSig, SeenRow, SeenEnumWord, SeenWhat, AMux, SomeWords, SeenItem, SeenModule}
+use Rattle.icl_syntax.specs.Modules.{design}
 use Rattle.icl_frames.specs.FirstPass.{Frame, first_pass}
 
 -- a multiplexer has a select and rows, with values
@@ -29,6 +33,12 @@ pub record IsWritten (block : SeenModule) : Type 0 where
 
 abbrev pub AreWritten : List SeenModule → Type 0
 AreWritten blocks = AllByRecursion IsWritten blocks
+
+-- every design that is read from a text of fewer than 2^32 tokens is so
+abbrev pub DesignsAreWritten : Type 0
+DesignsAreWritten =
+    (text : List ℕ) (tokens : List Token) (blocks : List SeenModule) → AreTokens text tokens → length tokens < 2 ^ 32
+    → design.derives (seen_tokens text tokens) blocks → AreWritten blocks
 
 -- ---- frames
 

@@ -1,7 +1,7 @@
 // What is known of every design's cells.
 ghost use Rattle.icl_frames.specs.Laws.{FramesAreDeclared, FramesAreFew, FramesAreTree};
 ghost use Rattle.icl_frames.specs.Preorder.{FramesArePreorder};
-ghost use Rattle.icl_frames.specs.Written.{FramesAreWritten};
+ghost use Rattle.icl_frames.specs.Written.{DesignsAreWritten, FramesAreWritten};
 
 /// The cells that the first pass gives are the instances in preorder, at most 64 inside one another below the top, each with the
 /// parameters that its module evaluates to.
@@ -25,8 +25,9 @@ pub fn frames_are_within_limits()
     ensures all { FramesAreFew }
 {}
 
-/// Where the names of a design's modules and items are names of ICL, and its multiplexers have a select and rows, each with a
-/// value, so have the modules of its cells, and each cell below the top has a name of ICL.
-pub fn frames_are_written()
-    ensures { FramesAreWritten }
+/// In a design that the grammar derives from a text's tokens, fewer than 2^32, the names of modules, items and words are names
+/// of ICL, and a multiplexer has a select and rows, each with a value. So have the cells.
+pub fn designs_are_written()
+    ensures designs { DesignsAreWritten }
+    ensures frames { FramesAreWritten }
 {}

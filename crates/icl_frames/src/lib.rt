@@ -23,7 +23,9 @@ pub use kinds::{
     is_child, is_data_in, is_data_out, is_enum, is_input, is_interface, is_link, is_mux, is_part,
     is_register, is_scan_in, is_scan_out, is_signal,
 };
-pub use laws::frames_are_preorder;
+pub use laws::{
+    designs_are_written, frames_are_preorder, frames_are_tree, frames_are_within_limits,
+};
 pub use naming::new_names;
 pub use params::parameters;
 pub use ranges::{Bounds, Stretch, declared, indices, named_in, width};
