@@ -1,6 +1,6 @@
 -- What the network numbers (IEEE 1687-2014, ICL: ScanRegister, ScanMux, data ports, Alias), and how many stand in front.
 use Rattle.std.specs.Prelude.{ℕ, ◌+◌, Bool, true, false, cond, List, [], ◌∷◌, map, get_or}
-use Rattle.icl_elab.specs.Roles.{Role, PartOf, CellOf}
+use Rattle.icl_elab.specs.Roles.{Role, ScanInput, ScanOutput, DataInput, DataOutput, PartOf, CellOf}
 use Rattle.icl_signals.specs.declared.parts.Kind.{Kind}
 use Rattle.icl_signals.specs.declared.parts.Kind.TheVariants.{Register, Mux, Thing, Output, Input}
 use Rattle.icl_signals.specs.Connecting.{is_register, is_mux, is_thing, is_data_out, is_data_in}
@@ -15,6 +15,14 @@ test_of Input = is_data_in
 
 abbrev pub is_of : Kind → PartOf → Bool
 is_of kind p = test_of kind p.role
+
+-- the ports that signals pass through
+abbrev pub is_port : Role → Bool
+is_port (ScanInput bound) = true
+is_port (ScanOutput source) = true
+is_port (DataInput bound) = true
+is_port (DataOutput source) = true
+is_port role = false
 
 abbrev pub one_if : Bool → ℕ
 one_if b = cond b 1 0

@@ -8,6 +8,7 @@ ghost use Rattle.icl_signals.specs.Connecting.{network};
 use crate::ConnectFault;
 use crate::ends::scan_from;
 use crate::entries::entries_of;
+use crate::finding::with_ends;
 use crate::instruments::instruments;
 use crate::links::ends;
 use crate::muxes::muxes;
@@ -37,6 +38,7 @@ pub fn connect(alloc: Global, hier: &Hier, link: &Name, instr: &Name) -> Result<
 {
     let ends = ends(alloc, hier, link, instr)?;
     let wiring = wiring_of(alloc, hier, ends.entry)?;
+    let wiring = with_ends(alloc, wiring)?;
     let exit = Ref::Bit {
         cell: ends.exit.cell,
         part: ends.exit.part,
