@@ -37,8 +37,8 @@ pub fn connect(alloc: Global, hier: &Hier, link: &Name, instr: &Name) -> Result<
     ensures { Gives seen_net result (network (seen_hier hier.now) link.now.items instr.now.items) }
 {
     let ends = ends(alloc, hier, link, instr)?;
-    let wiring = wiring_of(alloc, hier, ends.entry)?;
-    let wiring = with_ends(alloc, wiring)?;
+    let untraced = wiring_of(alloc, hier, ends.entry)?;
+    let wiring = with_ends(alloc, untraced)?;
     let exit = Ref::Bit {
         cell: ends.exit.cell,
         part: ends.exit.part,

@@ -24,8 +24,8 @@ fn behind(moves: u64, inverted: bool, found: Found) -> Option<Found>
     })
 }
 
-/// Where the trace of a bit ends. Each bit after 1, 2, 4, 8 moves and so on is marked, up to the next of them, so one that comes back
-/// meets its mark after three times as many moves as there are bits, at most. Takes no memory.
+/// Where the trace of a bit ends. The bit after 1, 2, 4, 8 moves and so on is marked in turn: a trace that comes back meets the
+/// mark after at most three times as many moves as there are bits on its way. Takes no memory.
 fn find(wiring: &Wiring, ends: &[Option<Note>], start: Wire) -> Option<Found>
     requires wiring { IsWiring wiring.now }
     requires ends { AreFound (cells_of wiring.now) wiring.now.entry ends.now }
@@ -68,7 +68,8 @@ fn find(wiring: &Wiring, ends: &[Option<Note>], start: Wire) -> Option<Found>
     None
 }
 
-/// The ends with those of the bits on the way of a trace, up to one whose end is known.
+/// The ends with those of the bits on the way of a trace, up to one whose end is known. A bit that stands for no other one has no
+/// place in the table, and needs none.
 fn with_way(
     wiring: &Wiring,
     ends: Vec<Option<Note>>,
@@ -87,13 +88,13 @@ fn with_way(
         if known(wiring, ends.as_slice(), wire).is_some() {
             return ends;
         }
-        ends = with_note(wiring, ends, wire, found);
         match one_move(wiring, false, wire) {
             Next::Ended(_) => return ends,
             Next::At {
                 wire: other,
                 inverted,
             } => {
+                ends = with_note(wiring, ends, wire, found);
                 wire = other;
                 found = Found {
                     looks: found.looks.saturating_sub(1),
@@ -164,7 +165,7 @@ fn all_ends(alloc: Global, wiring: &Wiring) -> Result<Vec<Option<Note>>, OutOfMe
     requires { IsWiring wiring.now }
     ensures { IfOk result (λ all. AreFound (cells_of wiring.now) wiring.now.entry all.items) }
 {
-    let mut ends = vec![in alloc; None; wiring.places.count]?;
+    let mut ends = vec![in alloc; None; wiring.places.count as usize]?;
     let mut number = 0;
     for cell in wiring.hier.cells.as_slice() {
         ends = with_cell(wiring, ends, number, cell)?;

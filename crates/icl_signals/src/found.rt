@@ -56,8 +56,7 @@ pub(crate) fn known(wiring: &Wiring, ends: &[Option<Note>], wire: Wire) -> Optio
     requires { AreFound (cells_of wiring.now) wiring.now.entry ends.now }
     ensures { IfSome result (λ f. IsFound (cells_of wiring.now) wiring.now.entry wire f) }
 {
-    let place = place_of(&wiring.places, wire)?;
-    match ends.get(place) {
+    match ends.get(place_of(&wiring.places, wire)) {
         Some(Some(note)) => {
             if same_wire(note.wire, wire) {
                 Some(note.found)
@@ -69,7 +68,7 @@ pub(crate) fn known(wiring: &Wiring, ends: &[Option<Note>], wire: Wire) -> Optio
     }
 }
 
-/// The ends with that of one bit more, which isn't kept for a bit that isn't there.
+/// The ends with that of one bit more, if the table has a place for it.
 pub(crate) fn with_note(
     wiring: &Wiring,
     ends: Vec<Option<Note>>,
@@ -81,10 +80,9 @@ pub(crate) fn with_note(
     ensures { AreFound (cells_of wiring.now) wiring.now.entry result.items }
 {
     let mut ends = ends;
-    if let Some(place) = place_of(&wiring.places, wire) {
-        if place < ends.len() {
-            ends[place] = Some(Note { wire, found });
-        }
+    let place = place_of(&wiring.places, wire);
+    if place < ends.len() {
+        ends[place] = Some(Note { wire, found });
     }
     ends
 }
