@@ -1,7 +1,7 @@
 -- What the network numbers (IEEE 1687-2014, ICL: ScanRegister, ScanMux, data ports, Alias), and how many stand in front.
 use Rattle.std.specs.Prelude.{ℕ, ◌+◌, Bool, true, false, cond, List, [], ◌∷◌, map, get_or}
 use Rattle.icl_elab.specs.WellFormed.{is_register, is_mux, is_thing, is_data_out, is_data_in}
-use Rattle.icl_references.specs.Roles.{Role, PartOf, CellOf}
+use Rattle.icl_references.specs.Roles.{Role, ScanInput, ScanOutput, DataInput, DataOutput, PartOf, CellOf, part_width}
 use Rattle.icl_signals.specs.declared.parts.Kind.{Kind}
 use Rattle.icl_signals.specs.declared.parts.Kind.TheVariants.{Register, Mux, Thing, Output, Input}
 
@@ -15,6 +15,14 @@ test_of Input = is_data_in
 
 abbrev pub is_of : Kind → PartOf → Bool
 is_of kind p = test_of kind p.role
+
+-- the ports that signals pass through
+abbrev pub is_port : Role → Bool
+is_port (ScanInput bound) = true
+is_port (ScanOutput source) = true
+is_port (DataInput bound) = true
+is_port (DataOutput source) = true
+is_port role = false
 
 abbrev pub one_if : Bool → ℕ
 one_if b = cond b 1 0
@@ -37,3 +45,29 @@ numbers_from kind n (c ∷ cs) = in_front (is_of kind) n c.parts ∷ numbers_fro
 -- the number at a part, 0 for one that isn't there
 abbrev pub number_at : List (List ℕ) → ℕ → ℕ → ℕ
 number_at table cell part = get_or (get_or table cell []) part 0
+
+-- ---- places of ports' bits
+
+-- the bits of a port, none of another part
+abbrev pub port_bits : PartOf → ℕ
+port_bits p = cond (is_port p.role) (part_width p) 0
+
+-- for each part how many bits of ports stand in front of it, behind a number of earlier ones
+abbrev pub bits_in_front : ℕ → List PartOf → List ℕ
+bits_in_front n [] = []
+bits_in_front n (p ∷ ps) = n ∷ bits_in_front (n + port_bits p) ps
+
+-- how many there are with these parts
+abbrev pub with_bits : ℕ → List PartOf → ℕ
+with_bits n [] = n
+with_bits n (p ∷ ps) = with_bits (n + port_bits p) ps
+
+-- for each part of each cell, how many bits of ports stand in front of it in the whole hierarchy
+abbrev pub places_from : ℕ → List CellOf → List (List ℕ)
+places_from n [] = []
+places_from n (c ∷ cs) = bits_in_front n c.parts ∷ places_from (with_bits n c.parts) cs
+
+-- how many there are with these cells
+abbrev pub all_bits : ℕ → List CellOf → ℕ
+all_bits n [] = n
+all_bits n (c ∷ cs) = all_bits (with_bits n c.parts) cs

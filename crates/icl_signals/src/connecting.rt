@@ -10,6 +10,7 @@ ghost use Rattle.icl_signals.specs.Connecting.{network};
 use crate::ConnectFault;
 use crate::ends::scan_from;
 use crate::entries::entries_of;
+use crate::finding::with_ends;
 use crate::instruments::instruments;
 use crate::links::ends;
 use crate::muxes::muxes;
@@ -29,7 +30,8 @@ fn network_of(alloc: Global, hier: &Hier, link: &Name, instr: &Name) -> Result<N
     ensures { Gives seen_net result (network (seen_hier hier.now) link.now.items instr.now.items) }
 {
     let ends = ends(alloc, hier, link, instr)?;
-    let wiring = wiring_of(alloc, hier, ends.entry)?;
+    let untraced = wiring_of(alloc, hier, ends.entry)?;
+    let wiring = with_ends(alloc, untraced)?;
     let exit = Ref::Bit {
         cell: ends.exit.cell,
         part: ends.exit.part,

@@ -8,6 +8,7 @@ ghost use Rattle.icl_signals.specs.Moves.{stands_for, role_move, one_ref, ref_in
 ghost use Rattle.icl_signals.specs.Traces.{follow, trace, from_ref, from_move};
 ghost use Rattle.std.specs.Option.{option_map};
 
+use crate::found::{known, turned_end};
 use crate::parts::{is_top, part_at};
 use crate::wires::{End, StandsFor, Wire};
 use crate::wiring::Wiring;
@@ -96,7 +97,7 @@ pub(crate) fn next_move(wiring: &Wiring, wire: Wire) -> StandsFor
     }
 }
 
-fn flipped(turned: bool, inverted: bool) -> bool
+pub(crate) fn flipped(turned: bool, inverted: bool) -> bool
     ensures { result ≡ flip_if turned inverted }
 {
     if turned { !inverted } else { inverted }
@@ -136,7 +137,7 @@ fn next_of(inverted: bool, r: Ref) -> Next
 }
 
 /// One move of a trace.
-fn one_move(wiring: &Wiring, inverted: bool, wire: Wire) -> Next
+pub(crate) fn one_move(wiring: &Wiring, inverted: bool, wire: Wire) -> Next
     requires { IsWiring wiring.now }
     ensures value { (go : Bool → Wire → End) → from_move go inverted wire (stands_for (cells_of wiring.now) wiring.now.entry wire) ≡ resume go result }
     ensures told { IsToldNext (cells_of wiring.now) wiring.now.entry result }
@@ -174,6 +175,24 @@ fn follow(wiring: &Wiring, inverted: bool, wire: Wire) -> End
     End::InLoop
 }
 
+/// Where the trace of a bit, inverted or not, ends: as it was found, if it was. Takes no memory.
+fn end_of(wiring: &Wiring, inverted: bool, wire: Wire) -> End
+    requires { IsWiring wiring.now }
+    ensures value { result ≡ follow (cells_of wiring.now) wiring.now.entry wiring.now.looks inverted wire }
+    ensures told { IsTold (cells_of wiring.now) wiring.now.entry result }
+{
+    match known(wiring, wiring.ends.as_slice(), wire) {
+        Some(found) => {
+            if found.looks <= wiring.looks {
+                turned_end(inverted, found.end)
+            } else {
+                follow(wiring, inverted, wire)
+            }
+        }
+        None => follow(wiring, inverted, wire),
+    }
+}
+
 /// Where the trace of a reference ends. Takes no memory.
 #[tactic(auto, unfolding(crate::specs::Traces::trace))]
 pub(crate) fn trace(wiring: &Wiring, r: Ref) -> End
@@ -188,6 +207,6 @@ pub(crate) fn trace(wiring: &Wiring, r: Ref) -> End
             part,
             pos,
             inverted,
-        } => follow(wiring, flipped(inverted, false), Wire { cell, part, pos }),
+        } => end_of(wiring, flipped(inverted, false), Wire { cell, part, pos }),
     }
 }

@@ -4,8 +4,10 @@ ghost use Rattle.icl_references.specs.Roles.{part_width, seen_part, seen_cell, s
 ghost use Rattle.icl_signals.specs.Wirings.{IsWiring, cells_of};
 ghost use Rattle.icl_signals.specs.Traces.{signal_bits};
 
+use crate::found::Note;
 use crate::numbers::{instruments_of, numbers_of, outputs_of};
 use crate::parts::{Kind, instrument_flags, width};
+use crate::places::{Places, places_of};
 use crate::wires::Wire;
 use icl_elab::{Cell, Hier, Part};
 use ij_bits::OutOfMemory;
@@ -32,6 +34,10 @@ pub struct Wiring<'a> {
     pub(crate) entry: Wire,
     /// How many bits a trace looks at until it must have come back to one.
     pub(crate) looks: u64,
+    /// Places for the bits of ports.
+    pub(crate) places: Places,
+    /// Where traces of bits of ports end, each at its bit's place: none at first.
+    pub(crate) ends: Vec<Option<Note>>,
 }
 
 /// More bits, if so many can be counted.
@@ -66,7 +72,7 @@ fn count_bits(cells: &[Cell]) -> Result<u64, OutOfMemory>
     Ok(sum)
 }
 
-/// What following a signal of a hierarchy looks at, where the network begins at `entry`.
+/// What following a signal of a hierarchy looks at, where the network begins at `entry`. No trace is followed yet.
 pub(crate) fn wiring_of<'a>(
     alloc: Global,
     hier: &'a Hier,
@@ -94,5 +100,7 @@ pub(crate) fn wiring_of<'a>(
         outputs,
         entry,
         looks,
+        places: places_of(alloc, cells)?,
+        ends: Vec::new(alloc),
     })
 }

@@ -6,6 +6,8 @@ mod icl_designs;
 #[cfg(test)]
 mod icl_hierarchies;
 #[cfg(test)]
+mod icl_networks;
+#[cfg(test)]
 mod icl_printed;
 #[cfg(test)]
 mod icl_refusals;

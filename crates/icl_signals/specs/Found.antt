@@ -1,0 +1,29 @@
+-- Ends of traces that were found: each is where the trace of its bit ends that looks at so many bits, or at more.
+use Rattle.std.specs.Prelude.{◌≡◌, ◌≤◌, ℕ, Bool, false, List, Option, Some, None, All}
+use Rattle.ij_bits.specs.BitLists.{flip_if}
+use Rattle.icl_references.specs.Roles.{CellOf}
+use Rattle.icl_signals.specs.declared.wires.Wire.{Wire}
+use Rattle.icl_signals.specs.declared.wires.End.{End}
+use Rattle.icl_signals.specs.declared.wires.End.TheVariants.{AtConstant, AtBit, InLoop}
+use Rattle.icl_signals.specs.declared.found.Found.{Found}
+use Rattle.icl_signals.specs.declared.found.Note.{Note}
+use Rattle.icl_signals.specs.Traces.{follow}
+use Rattle.icl_signals.specs.Told.{IsTold}
+
+-- an end, or that of the inverse
+abbrev pub turned_end : Bool → End → End
+turned_end turned (AtConstant b) = AtConstant (flip_if turned b)
+turned_end turned (AtBit w inverted stands) = AtBit w (flip_if turned inverted) stands
+turned_end turned InLoop = InLoop
+
+-- where the trace of a bit ends
+pub record IsFound (cells : List CellOf) (entry w : Wire) (f : Found) : Type 0 where
+  pub ends : (n : ℕ) → f.looks ≤ n → follow cells entry n false w ≡ f.end
+  pub told : IsTold cells entry f.end
+
+abbrev pub IsNoted : List CellOf → Wire → Option Note → Type 0
+IsNoted cells entry None = Unit {0}
+IsNoted cells entry (Some n) = IsFound cells entry n.wire n.found
+
+abbrev pub AreFound : List CellOf → Wire → List (Option Note) → Type 0
+AreFound cells entry notes = All (IsNoted cells entry) notes
