@@ -42,13 +42,16 @@ module _ (frames : List Frame) where
 
   cell_is : (here : Here) (fs : List Found) → cell_found frames here ≡ Ok fs → IsCellFound here fs
   unfolding cell_found
-  cell_is here fs h = each_paired (part_found frames here) (λ m. Unit {0}) (IsMemberFound here) (λ m f q g. g) (members here.frame) fs (all_true frames (members here.frame)) h
+  cell_is here fs h =
+      each_paired (part_found frames here) (λ m. Unit {0}) (IsMemberFound here) (λ m f q g. g) (members here.frame) fs (all_true frames (members here.frame)) h
 
   pass_is : (founds : List (List Found)) → second_pass frames ≡ Ok founds → Paired IsCellFound (cells_of frames) founds
   unfolding second_pass
-  pass_is founds h = each_paired (cell_found frames) (λ here. Unit {0}) IsCellFound (λ here fs q g. cell_is here fs g) (cells_of frames) founds (all_true frames (cells_of frames)) h
+  pass_is founds h =
+      each_paired (cell_found frames) (λ here. Unit {0}) IsCellFound (λ here fs q g. cell_is here fs g) (cells_of frames) founds (all_true frames (cells_of frames)) h
 
-  part_is : (here : Here) (bs : List Bound) (m : Member) (f : Found) → IsMemberFound here m f → IsPartOfMember here.frame m (part_in bs (m, f))
+  part_is : (here : Here) (bs : List Bound) (m : Member) (f : Found) → IsMemberFound here m f
+      → IsPartOfMember here.frame m (part_in bs (m, f))
   part_is here bs m f h =
       let kind = part_kind frames here m f h in
       record {
@@ -59,13 +62,15 @@ module _ (frames : List Frame) where
         rows = λ worths w. bound_rows bs m f.role (part_rows frames here worths m f w kind.1 h);
       }
 
-  parts_are : (here : Here) (bs : List Bound) (ms : List Member) (fs : List Found) → Paired (IsMemberFound here) ms fs → Paired (IsPartOfMember here.frame) ms (map (part_in bs) (zip ms fs))
+  parts_are : (here : Here) (bs : List Bound) (ms : List Member) (fs : List Found) → Paired (IsMemberFound here) ms fs
+      → Paired (IsPartOfMember here.frame) ms (map (part_in bs) (zip ms fs))
   parts_are here bs [] [] p = tt
   parts_are here bs [] (f ∷ fs) p = absurd p
   parts_are here bs (m ∷ ms) [] p = absurd p
   parts_are here bs (m ∷ ms) (f ∷ fs) p = (part_is here bs m f p.0, parts_are here bs ms fs p.1)
 
-  cells_are : (founds : List (List Found)) (s : ℕ) (rest : List Frame) (fss : List (List Found)) → Paired IsCellFound (map here_of (enumerate_from s rest)) fss
+  cells_are : (founds : List (List Found)) (s : ℕ) (rest : List Frame) (fss : List (List Found))
+      → Paired IsCellFound (map here_of (enumerate_from s rest)) fss
       → Paired IsCellOfFrame rest (map (cell_in founds) (zip (map here_of (enumerate_from s rest)) fss))
   cells_are founds s [] [] p = tt
   cells_are founds s [] (fs ∷ fss) p = absurd p
@@ -80,7 +85,8 @@ pub record AreOfFrames (blocks : List SeenModule) (top : List ℕ) (cells : List
   pub entered : first_pass blocks top ≡ Ok frames
   pub paired : Paired IsCellOfFrame frames cells
 
-pub cells_of_frames : (blocks : List SeenModule) (top : List ℕ) (cells : List CellOf) → hierarchy blocks top ≡ Ok cells → AreOfFrames blocks top cells
+pub cells_of_frames : (blocks : List SeenModule) (top : List ℕ) (cells : List CellOf) → hierarchy blocks top ≡ Ok cells
+    → AreOfFrames blocks top cells
 unfolding hierarchy
 cells_of_frames blocks top cells h =
     let a = both (first_pass blocks top) _ cells h in

@@ -1,5 +1,5 @@
 -- The names of a cell's parts, the ports of an instrument, and what holds of every hierarchy.
-use Rattle.std.proofs.Common.{◌≡◌, ◌+◌, ◌≤◌, ◌<◌, ℕ, zero, suc, Bool, true, false, cond, ◌||◌, List, [], ◌∷◌, length, map, Option, refl, sym, ap, subst, ◌∙◌, arith}
+use Rattle.std.proofs.Common.{◌≡◌, ◌≤◌, ℕ, zero, suc, Bool, true, false, cond, ◌||◌, List, [], ◌∷◌, length, map, Option, refl, sym, ap, subst, ◌∙◌, arith}
 use Rattle.std.specs.Prelude.{Contains, filter, zip, IfSome, IsTrue}
 use Rattle.std.specs.List.{AllByRecursion}
 use Rattle.std.proofs.lemmas.Bool.{true≢false}
@@ -17,7 +17,7 @@ use Rattle.icl_frames.proofs.Paired.{Paired}
 use Rattle.icl_frames.proofs.Siblings.{frames_are_tree}
 use Rattle.icl_frames.proofs.Holding.{frames_are_declared, frames_are_few}
 use Rattle.icl_frames.proofs.WrittenFrames.{frames_are_written}
-use Rattle.icl_references.specs.Names.{Member, members_from, members}
+use Rattle.icl_references.specs.Names.{members_from}
 use Rattle.icl_references.specs.Roles.{PartOf, CellOf, part_width}
 use Rattle.icl_elab.specs.WellFormed.{is_data_in, is_data_out, is_data_port, is_thing, is_instrument, things_in, IsPartNamed, HasFewPorts, IsCell, HierarchiesAreInTree, HierarchiesAreFew, HierarchiesAreWellFormed}
 use Rattle.icl_elab.proofs.CellsOfFrames.{IsPartOfMember, IsCellOfFrame, cells_of_frames}
@@ -42,7 +42,8 @@ module _ {A B : Type 0} (f : A → List ℕ) (g : B → List ℕ) (x : A) (y : B
   among_more false true w e z h c = absurd (true≢false (sym (w refl)))
   among_more false false w e z h c = h c
 
-  apart_more : (s t : Bool) → (t ≡ true → s ≡ true) → g y ≡ f x → ((z : List ℕ) → Contains (map g ys) z → Contains (map f xs) z) → (AreDifferent (map f xs) → AreDifferent (map g ys))
+  apart_more : (s t : Bool) → (t ≡ true → s ≡ true) → g y ≡ f x → ((z : List ℕ) → Contains (map g ys) z → Contains (map f xs) z)
+      → (AreDifferent (map f xs) → AreDifferent (map g ys))
       → AreDifferent (map f (cond s (x ∷ xs) xs)) → AreDifferent (map g (cond t (y ∷ ys) ys))
   apart_more true true w e among again d = (λ c. d.0 (subst (Contains (map f xs)) e (among (g y) c)), again d.1)
   apart_more true false w e among again d = again d.1
@@ -63,7 +64,8 @@ name_of_item item = item.name
 abbrev name_of_part : PartOf → List ℕ
 name_of_part p = p.name
 
-things_among : (f : Frame) (n : ℕ) (items : List SeenItem) (bs : List Bounds) (ps : List PartOf) → Paired (IsPartOfMember f) (members_from n items bs) ps
+things_among : (f : Frame) (n : ℕ) (items : List SeenItem) (bs : List Bounds) (ps : List PartOf)
+    → Paired (IsPartOfMember f) (members_from n items bs) ps
     → (z : List ℕ) → Contains (map name_of_part (things ps)) z → Contains (map name_of_item (signals items)) z
 things_among f n [] bs [] h z c = c
 things_among f n [] bs (p ∷ ps) h z c = absurd h
@@ -76,7 +78,8 @@ things_among f n (item ∷ items) (b ∷ bs) (p ∷ ps) h z c =
     let i = h.0 in
     among_more name_of_item name_of_part item p (signals items) (things ps) (is_signal item.what) (is_thing p.role) i.kind.6 i.name z (things_among f (suc n) items bs ps h.1 z) c
 
-things_apart : (f : Frame) (n : ℕ) (items : List SeenItem) (bs : List Bounds) (ps : List PartOf) → Paired (IsPartOfMember f) (members_from n items bs) ps
+things_apart : (f : Frame) (n : ℕ) (items : List SeenItem) (bs : List Bounds) (ps : List PartOf)
+    → Paired (IsPartOfMember f) (members_from n items bs) ps
     → AreDifferent (map name_of_item (signals items)) → AreDifferent (map name_of_part (things ps))
 things_apart f n [] bs [] h d = tt
 things_apart f n [] bs (p ∷ ps) h d = absurd h
@@ -93,12 +96,15 @@ things_apart f n (item ∷ items) (b ∷ bs) (p ∷ ps) h d =
 signal_part : (what : SeenWhat) → is_signal what ≡ true → is_part what ≡ true
 signal_part what h = ap (λ (b : Bool). b || is_interface what || is_link what) h
 
-filter_within : {A : Type 0} (p q : A → Bool) → ((x : A) → q x ≡ true → p x ≡ true) → (xs : List A) → filter q (filter p xs) ≡ filter q xs
+filter_within : {A : Type 0} (p q : A → Bool) → ((x : A) → q x ≡ true → p x ≡ true) → (xs : List A)
+    → filter q (filter p xs) ≡ filter q xs
 filter_within p q within [] = refl
 filter_within {A} p q within (x ∷ xs) = by_test (p x) refl (q x) refl (filter_within p q within xs)
   where
-    by_test : (a : Bool) → p x ≡ a → (b : Bool) → q x ≡ b → filter q (filter p xs) ≡ filter q xs → filter q (cond a (x ∷ filter p xs) (filter p xs)) ≡ cond b (x ∷ filter q xs) (filter q xs)
-    by_test true e true f h = ap (λ (c : Bool). cond c (x ∷ filter q (filter p xs)) (filter q (filter p xs))) f ∙ ap (λ (l : List A). x ∷ l) h
+    by_test : (a : Bool) → p x ≡ a → (b : Bool) → q x ≡ b → filter q (filter p xs) ≡ filter q xs
+        → filter q (cond a (x ∷ filter p xs) (filter p xs)) ≡ cond b (x ∷ filter q xs) (filter q xs)
+    by_test true e true f h =
+        ap (λ (c : Bool). cond c (x ∷ filter q (filter p xs)) (filter q (filter p xs))) f ∙ ap (λ (l : List A). x ∷ l) h
     by_test true e false f h = ap (λ (c : Bool). cond c (x ∷ filter q (filter p xs)) (filter q (filter p xs))) f ∙ h
     by_test false e true f h = absurd (true≢false (sym (within x f) ∙ e))
     by_test false e false f h = h
@@ -110,14 +116,17 @@ thing_names f c h i =
 
 -- ---- the ports of an instrument
 
-widths_few : (f : Frame) (n : ℕ) (items : List SeenItem) (bs : List Bounds) (ps : List PartOf) → length bs ≡ length items → Paired (IsPartOfMember f) (members_from n items bs) ps
-    → AllByRecursion (λ (p : SeenItem × Bounds). is_data_port_item p.0.what ≡ true → width p.1 ≤ 64) (zip items bs) → AllByRecursion (λ p. part_width p ≤ 64) (filter (λ p. is_data_port p.role) ps)
+widths_few : (f : Frame) (n : ℕ) (items : List SeenItem) (bs : List Bounds) (ps : List PartOf) → length bs ≡ length items
+    → Paired (IsPartOfMember f) (members_from n items bs) ps
+    → AllByRecursion (λ (p : SeenItem × Bounds). is_data_port_item p.0.what ≡ true → width p.1 ≤ 64) (zip items bs)
+    → AllByRecursion (λ p. part_width p ≤ 64) (filter (λ p. is_data_port p.role) ps)
 widths_few f n [] [] [] l h w = tt
 widths_few f n [] [] (p ∷ ps) l h w = absurd h
 widths_few f n [] (b ∷ bs) ps l h w = absurd (omega (arith, l))
 widths_few f n (item ∷ items) [] ps l h w = absurd (omega (arith, l))
 widths_few f n (item ∷ items) (b ∷ bs) [] l h w = absurd h
-widths_few f n (item ∷ items) (b ∷ bs) (p ∷ ps) l h w = by_test (is_data_port p.role) refl (widths_few f (suc n) items bs ps (omega (arith, l)) h.1 w.1)
+widths_few f n (item ∷ items) (b ∷ bs) (p ∷ ps) l h w =
+    by_test (is_data_port p.role) refl (widths_few f (suc n) items bs ps (omega (arith, l)) h.1 w.1)
   where
     by_test : (t : Bool) → is_data_port p.role ≡ t → AllByRecursion (λ p. part_width p ≤ 64) (filter (λ p. is_data_port p.role) ps)
         → AllByRecursion (λ p. part_width p ≤ 64) (cond t (p ∷ filter (λ p. is_data_port p.role) ps) (filter (λ p. is_data_port p.role) ps))
@@ -139,15 +148,17 @@ few_ports f c h i e =
 
 all_filter : {A : Type 0} (P : A → Type 0) (p : A → Bool) (xs : List A) → AllByRecursion P xs → AllByRecursion P (filter p xs)
 all_filter P p [] h = tt
-all_filter P p (x ∷ xs) h = by_test (p x)
+all_filter P p (x ∷ xs) h = by_test (p x) (all_filter P p xs h.1)
   where
-    by_test : (b : Bool) → AllByRecursion P (cond b (x ∷ filter p xs) (filter p xs))
-    by_test true = (h.0, all_filter P p xs h.1)
-    by_test false = all_filter P p xs h.1
+    by_test : (b : Bool) → AllByRecursion P (filter p xs) → AllByRecursion P (cond b (x ∷ filter p xs) (filter p xs))
+    by_test true again = (h.0, again)
+    by_test false again = again
 
 -- a written item's part, in a module whose names differ
-parts_named : (f : Frame) (n : ℕ) (items : List SeenItem) (bs : List Bounds) (ps : List PartOf) → length bs ≡ length items → HasInner f → AreWorths f.params
-    → AllByRecursion IsWrittenItem items → AllByRecursion (λ b. width b ≤ 65536) bs → Paired (IsPartOfMember f) (members_from n items bs) ps → AllByRecursion IsPartNamed ps
+parts_named : (f : Frame) (n : ℕ) (items : List SeenItem) (bs : List Bounds) (ps : List PartOf) → length bs ≡ length items
+    → HasInner f → AreWorths f.params
+    → AllByRecursion IsWrittenItem items → AllByRecursion (λ b. width b ≤ 65536) bs
+    → Paired (IsPartOfMember f) (members_from n items bs) ps → AllByRecursion IsPartNamed ps
 parts_named f n [] [] [] l inner worths w few h = tt
 parts_named f n [] [] (p ∷ ps) l inner worths w few h = absurd h
 parts_named f n [] (b ∷ bs) ps l inner worths w few h = absurd (omega (arith, l))
@@ -171,7 +182,8 @@ cell_is f c h w worths i =
       ports = few_ports f c h i;
     }
 
-cells_are : (frames : List Frame) (cells : List CellOf) → AllByRecursion IsFrame frames → AllByRecursion IsWrittenFrame frames → AllByRecursion (λ (f : Frame). AreWorths f.params) frames → Paired IsCellOfFrame frames cells → AllByRecursion IsCell cells
+cells_are : (frames : List Frame) (cells : List CellOf) → AllByRecursion IsFrame frames → AllByRecursion IsWrittenFrame frames
+    → AllByRecursion (λ (f : Frame). AreWorths f.params) frames → Paired IsCellOfFrame frames cells → AllByRecursion IsCell cells
 cells_are [] [] h w worths p = tt
 cells_are [] (c ∷ cells) h w worths p = absurd p
 cells_are (f ∷ frames) [] h w worths p = absurd p
@@ -180,7 +192,8 @@ cells_are (f ∷ frames) (c ∷ cells) h w worths p = (cell_is f c h.0 w.0 worth
 -- ---- hierarchies
 
 pub hierarchies_are_in_tree : HierarchiesAreInTree
-hierarchies_are_in_tree blocks top cells h = let a = cells_of_frames blocks top cells h in tree_of_frames blocks a.frames cells (frames_are_tree blocks top a.frames a.entered) a.paired
+hierarchies_are_in_tree blocks top cells h =
+    let a = cells_of_frames blocks top cells h in tree_of_frames blocks a.frames cells (frames_are_tree blocks top a.frames a.entered) a.paired
 
 pub hierarchies_are_few : HierarchiesAreFew
 hierarchies_are_few blocks top cells h =

@@ -53,16 +53,22 @@ barred_port : (a b : Bool) → (a || b) ≡ (a || false || false || false || b)
 barred_port true b = refl
 barred_port false b = refl
 
-port_of_kind : (kind : PortKind) (has : Bool) (role : Role) → IsPortOf kind has role → (is_not_of_instrument role ≡ ((is_scan_in kind || is_scan_out kind) || false || false || false || (is_data_out_kind kind && has)))
+port_of_kind : (kind : PortKind) (has : Bool) (role : Role) → IsPortOf kind has role
+    → (is_not_of_instrument role ≡ ((is_scan_in kind || is_scan_out kind) || false || false || false || (is_data_out_kind kind && has)))
 port_of_kind kind has role h = h.5 ∙ barred_port (is_scan_in kind || is_scan_out kind) (is_data_out_kind kind && has)
 
 module _ (frames : List Frame) (here : Here) where
-  control_of : (kind : PortKind) (has : Bool) (role r : Role) (ss : List SeenSig) → IsPortOf kind has role → (control_signals frames here ss >>= λ u. Ok role) ≡ Ok r → IsPortOf kind has r
-  control_of kind has role r ss g h = let a = both (control_signals frames here ss) _ r h in subst (IsPortOf kind has) (ok_is role r a.then') g
+  control_of : (kind : PortKind) (has : Bool) (role r : Role) (ss : List SeenSig) → IsPortOf kind has role
+      → (control_signals frames here ss >>= λ u. Ok role) ≡ Ok r → IsPortOf kind has r
+  control_of kind has role r ss g h =
+      let a = both (control_signals frames here ss) _ r h in subst (IsPortOf kind has) (ok_is role r a.then') g
 
-  source_of : (kind : PortKind) (has : Bool) (m : Member) (role r : Role) (ss : List SeenSig) → IsPortOf kind has role → source_role frames here kind m role ss ≡ Ok r → IsPortOf kind true r
-  source_of ScanOutPort has m role r ss g h = let a = both (first_scan frames here m.item.at ss) _ r h in subst (IsPortOf ScanOutPort true) (ok_is (ScanOutput (Some a.first)) r a.then') (refl, refl, refl, refl, refl, refl)
-  source_of DataOutPort has m role r ss g h = let a = both (data_signals frames here m.item.at (width m.bounds) ss) _ r h in subst (IsPortOf DataOutPort true) (ok_is (DataOutput (Some a.first)) r a.then') (refl, refl, refl, refl, refl, refl)
+  source_of : (kind : PortKind) (has : Bool) (m : Member) (role r : Role) (ss : List SeenSig) → IsPortOf kind has role
+      → source_role frames here kind m role ss ≡ Ok r → IsPortOf kind true r
+  source_of ScanOutPort has m role r ss g h =
+      let a = both (first_scan frames here m.item.at ss) _ r h in subst (IsPortOf ScanOutPort true) (ok_is (ScanOutput (Some a.first)) r a.then') (refl, refl, refl, refl, refl, refl)
+  source_of DataOutPort has m role r ss g h =
+      let a = both (data_signals frames here m.item.at (width m.bounds) ss) _ r h in subst (IsPortOf DataOutPort true) (ok_is (DataOutput (Some a.first)) r a.then') (refl, refl, refl, refl, refl, refl)
   source_of ScanInPort has m role r ss g h = control_of ScanInPort has role r ss g h
   source_of DataInPort has m role r ss g h = control_of DataInPort has role r ss g h
   source_of SelectPort has m role r ss g h = control_of SelectPort has role r ss g h
@@ -85,12 +91,14 @@ module _ (frames : List Frame) (here : Here) where
   source_of ToClockPort has m role r ss g h = control_of ToClockPort has role r ss g h
   source_of ToIRSelectPort has m role r ss g h = control_of ToIRSelectPort has role r ss g h
 
-  prop_of : (kind : PortKind) (has : Bool) (m : Member) (f g : Found) (p : SeenProp) → IsPortOf kind has f.role → port_prop frames here kind m f p ≡ Ok g → IsPortOf kind (is_source p || has) g.role
+  prop_of : (kind : PortKind) (has : Bool) (m : Member) (f g : Found) (p : SeenProp) → IsPortOf kind has f.role
+      → port_prop frames here kind m f p ≡ Ok g → IsPortOf kind (is_source p || has) g.role
   unfolding port_prop
   prop_of kind has m f g (ASource ss) i h =
       let a = both (source_role frames here kind m f.role ss) _ g h in
       subst (λ (x : Found). IsPortOf kind true x.role) (ok_is (record f { role = a.first }) g a.then') (source_of kind has m f.role a.first ss i a.is)
-  prop_of kind has m f g (ARefEnum name) i h = let a = both (words_named here.frame m name) _ g h in subst (λ (x : Found). IsPortOf kind has x.role) (ok_is (record f { words = a.first }) g a.then') i
+  prop_of kind has m f g (ARefEnum name) i h =
+      let a = both (words_named here.frame m name) _ g h in subst (λ (x : Found). IsPortOf kind has x.role) (ok_is (record f { words = a.first }) g a.then') i
   prop_of kind has m f g (ALaunchEdge e) i h = subst (λ (x : Found). IsPortOf kind has x.role) (ok_is f g h) i
   prop_of kind has m f g (ALoadValue v) i h = subst (λ (x : Found). IsPortOf kind has x.role) (ok_is f g h) i
   prop_of kind has m f g (APolarity n) i h = subst (λ (x : Found). IsPortOf kind has x.role) (ok_is f g h) i
@@ -99,7 +107,8 @@ module _ (frames : List Frame) (here : Here) where
   prop_of kind has m f g (AResetValue v) i h = subst (λ (x : Found). IsPortOf kind has x.role) (ok_is f g h) i
   prop_of kind has m f g ATogether i h = subst (λ (x : Found). IsPortOf kind has x.role) (ok_is f g h) i
 
-  props_of : (kind : PortKind) (has : Bool) (m : Member) (f g : Found) (props : List SeenProp) → IsPortOf kind has f.role → over (port_prop frames here kind m) f props ≡ Ok g → IsPortOf kind (list_any is_source props || has) g.role
+  props_of : (kind : PortKind) (has : Bool) (m : Member) (f g : Found) (props : List SeenProp) → IsPortOf kind has f.role
+      → over (port_prop frames here kind m) f props ≡ Ok g → IsPortOf kind (list_any is_source props || has) g.role
   props_of kind has m f g [] i h = subst (λ (x : Found). IsPortOf kind has x.role) (ok_is f g h) i
   props_of kind has m f g (p ∷ props) i h =
       let a = both (port_prop frames here kind m f p) (λ x. over (port_prop frames here kind m) x props) g h in
@@ -130,7 +139,9 @@ module _ (frames : List Frame) (here : Here) where
   first_role ToClockPort = (refl, refl, refl, refl, refl, refl)
   first_role ToIRSelectPort = (refl, refl, refl, refl, refl, refl)
 
-  port_kind : (kind : PortKind) (m : Member) (f : Found) (props : List SeenProp) → over (port_prop frames here kind m) (found (port_role frames here kind)) props ≡ Ok f → IsPortOf kind (list_any is_source props) f.role
+  port_kind : (kind : PortKind) (m : Member) (f : Found) (props : List SeenProp)
+      → over (port_prop frames here kind m) (found (port_role frames here kind)) props ≡ Ok f
+      → IsPortOf kind (list_any is_source props) f.role
   port_kind kind m f props h =
       subst (λ (b : Bool). IsPortOf kind b f.role) (or_false (list_any is_source props)) (props_of kind false m (found (port_role frames here kind)) f props (first_role kind) h)
 
@@ -139,9 +150,11 @@ module _ (frames : List Frame) (here : Here) where
   abbrev HasRole : Role → Found → Type 0
   HasRole role f = f.role ≡ role
 
-  alias_role : (m : Member) (role : Role) (f g : Found) (p : SeenProp) → HasRole role f → alias_prop frames here m f p ≡ Ok g → HasRole role g
+  alias_role : (m : Member) (role : Role) (f g : Found) (p : SeenProp) → HasRole role f → alias_prop frames here m f p ≡ Ok g
+      → HasRole role g
   unfolding alias_prop
-  alias_role m role f g (ARefEnum name) i h = let a = both (words_named here.frame m name) _ g h in subst (HasRole role) (ok_is (record f { words = a.first }) g a.then') i
+  alias_role m role f g (ARefEnum name) i h =
+      let a = both (words_named here.frame m name) _ g h in subst (HasRole role) (ok_is (record f { words = a.first }) g a.then') i
   alias_role m role f g (ASource x) i h = subst (HasRole role) (ok_is f g h) i
   alias_role m role f g (ALaunchEdge e) i h = subst (HasRole role) (ok_is f g h) i
   alias_role m role f g (ALoadValue v) i h = subst (HasRole role) (ok_is f g h) i
@@ -181,16 +194,20 @@ module _ (frames : List Frame) (here : Here) where
   kind_found m (ALink kind entity instrs) f h =
       let a = both (each (selection frames here m.item.at) instrs) _ f h in
       subst (λ (x : Found). IsOfKind (ALink kind entity instrs) x.role) (ok_is (found (AnAccessLink a.first)) f a.then') (refl, refl, refl, refl, refl, refl, λ t. absurd cc)
-  kind_found m (SomeWords words) f h = subst (λ (x : Found). IsOfKind (SomeWords words) x.role) (ok_is (found ControlPort) f h) (refl, refl, refl, refl, refl, refl, λ t. absurd cc)
-  kind_found m (AParameter local value) f h = subst (λ (x : Found). IsOfKind (AParameter local value) x.role) (ok_is (found ControlPort) f h) (refl, refl, refl, refl, refl, refl, λ t. absurd cc)
-  kind_found m (AnAttribute value) f h = subst (λ (x : Found). IsOfKind (AnAttribute value) x.role) (ok_is (found ControlPort) f h) (refl, refl, refl, refl, refl, refl, λ t. absurd cc)
+  kind_found m (SomeWords words) f h =
+      subst (λ (x : Found). IsOfKind (SomeWords words) x.role) (ok_is (found ControlPort) f h) (refl, refl, refl, refl, refl, refl, λ t. absurd cc)
+  kind_found m (AParameter local value) f h =
+      subst (λ (x : Found). IsOfKind (AParameter local value) x.role) (ok_is (found ControlPort) f h) (refl, refl, refl, refl, refl, refl, λ t. absurd cc)
+  kind_found m (AnAttribute value) f h =
+      subst (λ (x : Found). IsOfKind (AnAttribute value) x.role) (ok_is (found ControlPort) f h) (refl, refl, refl, refl, refl, refl, λ t. absurd cc)
 
   pub part_kind : (m : Member) (f : Found) → part_found frames here m ≡ Ok f → IsOfKind m.item.what f.role
   unfolding part_found
   part_kind m f h = kind_found m m.item.what f h
 
 -- what a port is bound to doesn't change its kind
-pub bound_kind : (bs : List Bound) (m : Member) (what : SeenWhat) (role : Role) → IsOfKind what role → IsOfKind what (with_bound bs m role)
+pub bound_kind : (bs : List Bound) (m : Member) (what : SeenWhat) (role : Role) → IsOfKind what role
+    → IsOfKind what (with_bound bs m role)
 bound_kind bs m what (ScanInput bound) h = h
 bound_kind bs m what (ScanOutput source) h = h
 bound_kind bs m what (DataInput bound) h = h

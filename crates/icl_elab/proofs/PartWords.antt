@@ -1,5 +1,5 @@
 -- The words of a part differ in their names, and a multiplexer has a select bit and rows.
-use Rattle.std.proofs.Common.{◌≡◌, ◌+◌, ◌-◌, ◌≤◌, ◌<◌, ◌^◌, ℕ, suc, Bool, true, false, not, cond, ◌&&◌, ◌||◌, List, [], ◌∷◌, ◌++◌, length, map, Option, Some, None, Result, Ok, Err, refl, sym, ap, subst, ◌∙◌, arith}
+use Rattle.std.proofs.Common.{◌≡◌, ◌+◌, ◌-◌, ◌≤◌, ◌<◌, ◌^◌, ℕ, suc, Bool, true, false, not, cond, ◌&&◌, List, [], ◌∷◌, length, map, Option, Some, None, Result, Ok, Err, refl, sym, ap, subst, ◌∙◌, arith}
 use Rattle.std.specs.Prelude.{find, IfSome, nat_le}
 use Rattle.std.specs.List.{AllByRecursion}
 use Rattle.std.proofs.lemmas.Bool.{true≢false, and_parts, leb-true}
@@ -16,13 +16,13 @@ use Rattle.icl_values.specs.Widths.{value_in, joined}
 use Rattle.icl_frames.specs.declared.ranges.Bounds.{Bounds}
 use Rattle.icl_frames.specs.declared.ranges.Stretch.{Stretch}
 use Rattle.icl_frames.specs.Parts.{inner_names, words_in, is_mux as is_mux_item}
-use Rattle.icl_frames.specs.Ranges.{width, position_of, has_index, runs_along, stretch_of, whole, positions, indices, named_in}
+use Rattle.icl_frames.specs.Ranges.{width, position_of, has_index, runs_along, stretch_of, whole, indices, named_in}
 use Rattle.icl_frames.specs.FirstPass.{Frame}
 use Rattle.icl_frames.specs.Written.{IsWrittenWhat}
 use Rattle.icl_frames.proofs.Answering.{both, ok_is, over_all}
 use Rattle.icl_references.specs.declared.hier.Ref.{Ref}
 use Rattle.icl_references.specs.Names.{Here, Member, members, inside, path_from}
-use Rattle.icl_references.specs.Signals.{bits_of, is_data_source, data_signal, data_signals, data_meant, data_path, select_signals, side_by_side, alias_signals, control_signals, constants, closed, free_number, number_bits, scan_signal}
+use Rattle.icl_references.specs.Signals.{bits_of, is_data_source, data_signal, data_signals, data_meant, data_path, select_signals, alias_signals, constants, closed, free_number, number_bits, scan_signal}
 use Rattle.icl_references.specs.Roles.{Choice, Role, ScanInput, ScanOutput, DataInput, DataOutput, ControlPort, AScanRegister, AScanMux, AnAliasOf, AnInstance, AnInterfaceOf, AnAccessLink, Word}
 use Rattle.icl_references.specs.Muxes.{some_meet, row_in, mux_role}
 use Rattle.icl_elab.specs.Bindings.{Bound, bind, all_whole}
@@ -35,11 +35,11 @@ use Rattle.icl_elab.proofs.Worths.{IsWorth, AreWorths, evaluate_worth}
 
 find_good : {A : Type 0} (P : A → Type 0) (test : A → Bool) (xs : List A) → AllByRecursion P xs → IfSome (find test xs) P
 find_good P test [] h = tt
-find_good P test (x ∷ xs) h = by_test (test x)
+find_good P test (x ∷ xs) h = by_test (test x) (find_good P test xs h.1)
   where
-    by_test : (b : Bool) → IfSome (cond b (Some x) (find test xs)) P
-    by_test true = h.0
-    by_test false = find_good P test xs h.1
+    by_test : (b : Bool) → IfSome (find test xs) P → IfSome (cond b (Some x) (find test xs)) P
+    by_test true again = h.0
+    by_test false again = again
 
 each_long : {A B E : Type 0} (f : A → Result B E) (xs : List A) (ys : List B) → each f xs ≡ Ok ys → length ys ≡ length xs
 each_long f [] ys h = ap length (sym (ok_is [] ys h))
@@ -68,7 +68,8 @@ HasInner frame = AllByRecursion (λ (item : SeenItem). AreDifferent (inner_names
 abbrev pub AreWordsApart : List Word → Type 0
 AreWordsApart ws = AreDifferent (map (λ (w : Word). w.name) ws)
 
-names_same : (ps : Params) (at : Place) (wide : ℕ) (vs : List SeenEnumWord) (ws : List Word) → each (word_of ps at wide) vs ≡ Ok ws → map (λ (w : Word). w.name) ws ≡ map (λ (v : SeenEnumWord). v.name) vs
+names_same : (ps : Params) (at : Place) (wide : ℕ) (vs : List SeenEnumWord) (ws : List Word) → each (word_of ps at wide) vs ≡ Ok ws
+    → map (λ (w : Word). w.name) ws ≡ map (λ (v : SeenEnumWord). v.name) vs
 names_same ps at wide [] ws h = ap (map (λ (w : Word). w.name)) (sym (ok_is [] ws h))
 names_same ps at wide (v ∷ vs) ws h =
     let a = both (word_of ps at wide v) (λ w. each (word_of ps at wide) vs >>= λ us. Ok (w ∷ us)) ws h in
@@ -79,11 +80,15 @@ names_same ps at wide (v ∷ vs) ws h =
     ∙ ap (λ (n : List ℕ). n ∷ map (λ (w : Word). w.name) b.first) e
     ∙ ap (λ (l : List (List ℕ)). v.name ∷ l) (names_same ps at wide vs b.first b.is)
 
-enum_apart : (at : Place) (name : List ℕ) (o : Option SeenItem) (vs : List SeenEnumWord) → IfSome o (λ item. AreDifferent (inner_names item.what)) → known_enum at name o ≡ Ok vs → AreDifferent (map (λ (v : SeenEnumWord). v.name) vs)
+enum_apart : (at : Place) (name : List ℕ) (o : Option SeenItem) (vs : List SeenEnumWord)
+    → IfSome o (λ item. AreDifferent (inner_names item.what)) → known_enum at name o ≡ Ok vs
+    → AreDifferent (map (λ (v : SeenEnumWord). v.name) vs)
 enum_apart at name None vs g h = absurd cc
-enum_apart at name (Some item) vs g h = subst (λ us. AreDifferent (map (λ (v : SeenEnumWord). v.name) us)) (ok_is (words_in item.what) vs h) (in_words item.what g)
+enum_apart at name (Some item) vs g h =
+    subst (λ us. AreDifferent (map (λ (v : SeenEnumWord). v.name) us)) (ok_is (words_in item.what) vs h) (in_words item.what g)
 
-words_apart : (frame : Frame) (m : Member) (name : List ℕ) (ws : List Word) → HasInner frame → words_named frame m name ≡ Ok ws → AreWordsApart ws
+words_apart : (frame : Frame) (m : Member) (name : List ℕ) (ws : List Word) → HasInner frame → words_named frame m name ≡ Ok ws
+    → AreWordsApart ws
 unfolding words_named
 words_apart frame m name ws g h =
     let a = both (known_enum m.item.at name (enum_named frame.block name)) _ ws h in
@@ -94,10 +99,13 @@ module _ (frames : List Frame) (here : Here) (inner : HasInner here.frame) where
   abbrev IsWorded : Found → Type 0
   IsWorded f = AreWordsApart f.words
 
-  port_worded : (kind : PortKind) (m : Member) (f g : Found) (p : SeenProp) → IsWorded f → port_prop frames here kind m f p ≡ Ok g → IsWorded g
+  port_worded : (kind : PortKind) (m : Member) (f g : Found) (p : SeenProp) → IsWorded f → port_prop frames here kind m f p ≡ Ok g
+      → IsWorded g
   unfolding port_prop
-  port_worded kind m f g (ASource ss) i h = let a = both (source_role frames here kind m f.role ss) _ g h in subst IsWorded (ok_is (record f { role = a.first }) g a.then') i
-  port_worded kind m f g (ARefEnum name) i h = let a = both (words_named here.frame m name) _ g h in subst IsWorded (ok_is (record f { words = a.first }) g a.then') (words_apart here.frame m name a.first inner a.is)
+  port_worded kind m f g (ASource ss) i h =
+      let a = both (source_role frames here kind m f.role ss) _ g h in subst IsWorded (ok_is (record f { role = a.first }) g a.then') i
+  port_worded kind m f g (ARefEnum name) i h =
+      let a = both (words_named here.frame m name) _ g h in subst IsWorded (ok_is (record f { words = a.first }) g a.then') (words_apart here.frame m name a.first inner a.is)
   port_worded kind m f g (ALaunchEdge e) i h = subst IsWorded (ok_is f g h) i
   port_worded kind m f g (ALoadValue v) i h = subst IsWorded (ok_is f g h) i
   port_worded kind m f g (APolarity n) i h = subst IsWorded (ok_is f g h) i
@@ -108,7 +116,8 @@ module _ (frames : List Frame) (here : Here) (inner : HasInner here.frame) where
 
   alias_worded : (m : Member) (f g : Found) (p : SeenProp) → IsWorded f → alias_prop frames here m f p ≡ Ok g → IsWorded g
   unfolding alias_prop
-  alias_worded m f g (ARefEnum name) i h = let a = both (words_named here.frame m name) _ g h in subst IsWorded (ok_is (record f { words = a.first }) g a.then') (words_apart here.frame m name a.first inner a.is)
+  alias_worded m f g (ARefEnum name) i h =
+      let a = both (words_named here.frame m name) _ g h in subst IsWorded (ok_is (record f { words = a.first }) g a.then') (words_apart here.frame m name a.first inner a.is)
   alias_worded m f g (ASource x) i h = subst IsWorded (ok_is f g h) i
   alias_worded m f g (ALaunchEdge e) i h = subst IsWorded (ok_is f g h) i
   alias_worded m f g (ALoadValue v) i h = subst IsWorded (ok_is f g h) i
@@ -121,12 +130,17 @@ module _ (frames : List Frame) (here : Here) (inner : HasInner here.frame) where
   abbrev IsSaidWorded : Said frames here → Type 0
   IsSaidWorded s = AreWordsApart s.words
 
-  register_worded : (m : Member) (s t : Said frames here) (p : SeenProp) → IsSaidWorded s → register_prop frames here m s p ≡ Ok t → IsSaidWorded t
+  register_worded : (m : Member) (s t : Said frames here) (p : SeenProp) → IsSaidWorded s → register_prop frames here m s p ≡ Ok t
+      → IsSaidWorded t
   unfolding register_prop
-  register_worded m s t (AScanInSource x) i h = let a = both (scan_signal frames here x) _ t h in subst IsSaidWorded (ok_is (record s { scan = Some a.first }) t a.then') i
-  register_worded m s t (ACaptureSource ss) i h = let a = both (data_signals frames here m.item.at (width m.bounds) ss) _ t h in subst IsSaidWorded (ok_is (record s { capture = Some a.first }) t a.then') i
-  register_worded m s t (AResetValue value) i h = let a = both (value_in here.frame.params m.item.at (width m.bounds) value) _ t h in subst IsSaidWorded (ok_is (record s { reset = Some a.first }) t a.then') i
-  register_worded m s t (ARefEnum name) i h = let a = both (words_named here.frame m name) _ t h in subst IsSaidWorded (ok_is (record s { words = a.first }) t a.then') (words_apart here.frame m name a.first inner a.is)
+  register_worded m s t (AScanInSource x) i h =
+      let a = both (scan_signal frames here x) _ t h in subst IsSaidWorded (ok_is (record s { scan = Some a.first }) t a.then') i
+  register_worded m s t (ACaptureSource ss) i h =
+      let a = both (data_signals frames here m.item.at (width m.bounds) ss) _ t h in subst IsSaidWorded (ok_is (record s { capture = Some a.first }) t a.then') i
+  register_worded m s t (AResetValue value) i h =
+      let a = both (value_in here.frame.params m.item.at (width m.bounds) value) _ t h in subst IsSaidWorded (ok_is (record s { reset = Some a.first }) t a.then') i
+  register_worded m s t (ARefEnum name) i h =
+      let a = both (words_named here.frame m name) _ t h in subst IsSaidWorded (ok_is (record s { words = a.first }) t a.then') (words_apart here.frame m name a.first inner a.is)
   register_worded m s t (ASource x) i h = subst IsSaidWorded (ok_is s t h) i
   register_worded m s t (ALaunchEdge e) i h = subst IsSaidWorded (ok_is s t h) i
   register_worded m s t (ALoadValue v) i h = subst IsSaidWorded (ok_is s t h) i
@@ -134,12 +148,14 @@ module _ (frames : List Frame) (here : Here) (inner : HasInner here.frame) where
   register_worded m s t ATogether i h = subst IsSaidWorded (ok_is s t h) i
 
   found_worded : (m : Member) (what : SeenWhat) (f : Found) → found_at frames here m what ≡ Ok f → IsWorded f
-  found_worded m (APort kind range props) f h = over_all (port_prop frames here kind m) IsWorded (λ x y p g e. port_worded kind m x y p g e) (found (port_role frames here kind)) f props tt h
+  found_worded m (APort kind range props) f h =
+      over_all (port_prop frames here kind m) IsWorded (λ x y p g e. port_worded kind m x y p g e) (found (port_role frames here kind)) f props tt h
   found_worded m (ARegister range props) f h =
       let a = both (over (register_prop frames here m) (nothing_said frames here) props) _ f h in
       subst IsWorded (ok_is (register_found frames here a.first) f a.then')
       (over_all (register_prop frames here m) IsSaidWorded (λ x y p g e. register_worded m x y p g e) (nothing_said frames here) a.first props tt a.is)
-  found_worded m (AMux select rows) f h = let a = both (mux_role frames here m.item.at select rows) _ f h in subst IsWorded (ok_is (found a.first) f a.then') tt
+  found_worded m (AMux select rows) f h =
+      let a = both (mux_role frames here m.item.at select rows) _ f h in subst IsWorded (ok_is (found a.first) f a.then') tt
   found_worded m (AChild module' binds) f h =
       let a = both (inside frames here m.item.at m.item.name m.item.what) (instance_found frames here m.item.at binds) f h in
       let b = both (over (bind frames here a.first.frame) [] binds) _ f a.then' in
@@ -148,8 +164,10 @@ module _ (frames : List Frame) (here : Here) (inner : HasInner here.frame) where
   found_worded m (AnAlias range sigs props) f h =
       let a = both (alias_signals frames here m.item.at (width m.bounds) sigs) _ f h in
       over_all (alias_prop frames here m) IsWorded (λ x y p g e. alias_worded m x y p g e) (found (AnAliasOf a.first)) f props tt a.then'
-  found_worded m (AnInterface ports) f h = let a = both (each (port_number frames here m.item.at) ports) _ f h in subst IsWorded (ok_is (found (AnInterfaceOf a.first)) f a.then') tt
-  found_worded m (ALink kind entity instrs) f h = let a = both (each (selection frames here m.item.at) instrs) _ f h in subst IsWorded (ok_is (found (AnAccessLink a.first)) f a.then') tt
+  found_worded m (AnInterface ports) f h =
+      let a = both (each (port_number frames here m.item.at) ports) _ f h in subst IsWorded (ok_is (found (AnInterfaceOf a.first)) f a.then') tt
+  found_worded m (ALink kind entity instrs) f h =
+      let a = both (each (selection frames here m.item.at) instrs) _ f h in subst IsWorded (ok_is (found (AnAccessLink a.first)) f a.then') tt
   found_worded m (SomeWords words) f h = subst IsWorded (ok_is (found ControlPort) f h) tt
   found_worded m (AParameter local value) f h = subst IsWorded (ok_is (found ControlPort) f h) tt
   found_worded m (AnAttribute value) f h = subst IsWorded (ok_is (found ControlPort) f h) tt
@@ -167,7 +185,9 @@ IsLong s = s.low ≤ s.high
 stretch_long : (at : Place) (b i : Bounds) (s : Stretch) → stretch_of at b i ≡ Ok s → IsLong s
 stretch_long at b i s h = by_test (runs_along b i) refl h
   where
-    by_test : (t : Bool) → runs_along b i ≡ t → cond {A = Answer Stretch} t (Ok (record { low = position_of b i.right; high = position_of b i.left })) (Err (BadRange at)) ≡ Ok s → IsLong s
+    by_test : (t : Bool) → runs_along b i ≡ t
+        → cond {A = Answer Stretch} t (Ok (record { low = position_of b i.right; high = position_of b i.left })) (Err (BadRange at)) ≡ Ok s
+        → IsLong s
     by_test true e g =
         let p = and_parts (has_index b i.left && has_index b i.right) (nat_le (position_of b i.right) (position_of b i.left)) e in
         subst IsLong (ok_is (record { low = position_of b i.right; high = position_of b i.left }) s g) (leb-true (position_of b i.right) (position_of b i.left) p.1)
@@ -185,13 +205,16 @@ map_long f [] = refl
 map_long f (x ∷ xs) = ap suc (map_long f xs)
 
 module _ (frames : List Frame) (here : Here) (worths : AreWorths here.frame.params) where
-  number_long : (holder at : Place) (w : Worth) (bits : OpenBits) → IsWorth w → number_bits holder at None w ≡ Ok bits → 1 ≤ length bits
+  number_long : (holder at : Place) (w : Worth) (bits : OpenBits) → IsWorth w → number_bits holder at None w ≡ Ok bits
+      → 1 ≤ length bits
   number_long holder at (AnInteger n) bits g h = absurd cc
   number_long holder at (AText text) bits g h = absurd cc
   number_long holder at (SomeBits false b) bits g h = let a = both (closed at b) _ bits h in absurd (free_none holder at b bits a.then')
-  number_long holder at (SomeBits true b) bits g h = let a = both (closed at b) _ bits h in subst (λ (l : OpenBits). 1 ≤ length l) (ok_is b bits a.then') g
+  number_long holder at (SomeBits true b) bits g h =
+      let a = both (closed at b) _ bits h in subst (λ (l : OpenBits). 1 ≤ length l) (ok_is b bits a.then') g
 
-  path_long : (at : Place) (inverted : Bool) (path : List (List ℕ)) (range : Option SeenRange) (rs : List Ref) → data_path frames here at inverted path range ≡ Ok rs → 1 ≤ length rs
+  path_long : (at : Place) (inverted : Bool) (path : List (List ℕ)) (range : Option SeenRange) (rs : List Ref)
+      → data_path frames here at inverted path range ≡ Ok rs → 1 ≤ length rs
   path_long at inverted path range rs h =
       let a = both (path_from frames here at path) _ rs h in
       let b = both (refuse_if (not (is_data_source path a.first.member.item.what)) (WrongKind at)) _ rs a.then' in
@@ -212,7 +235,8 @@ module _ (frames : List Frame) (here : Here) (worths : AreWorths here.frame.para
           subst (λ (l : List Ref). 1 ≤ length l) (ok_is (constants s.inverted b.first) rs b.then') (subst (λ n. 1 ≤ n) (sym (map_long _ b.first)) long)
       by_meant (APath path range) g = path_long s.at s.inverted path range rs g
 
-  select_long : (holder : Place) (ss : List SeenSig) (rs : List Ref) → 1 ≤ length ss → select_signals frames here holder ss ≡ Ok rs → 1 ≤ length rs
+  select_long : (holder : Place) (ss : List SeenSig) (rs : List Ref) → 1 ≤ length ss → select_signals frames here holder ss ≡ Ok rs
+      → 1 ≤ length rs
   unfolding select_signals
   select_long holder [] rs le h = absurd (omega (arith, le))
   select_long holder (s ∷ ss) rs le h =
@@ -227,14 +251,16 @@ module _ (frames : List Frame) (here : Here) (worths : AreWorths here.frame.para
 
   -- ---- rows
 
-  row_long : (at : Place) (wide : ℕ) (r : SeenRow) (c : Choice) → row_in frames here at wide r ≡ Ok c → length c.values ≡ length r.values
+  row_long : (at : Place) (wide : ℕ) (r : SeenRow) (c : Choice) → row_in frames here at wide r ≡ Ok c
+      → length c.values ≡ length r.values
   unfolding row_in
   row_long at wide r c h =
       let a = both (each (value_in here.frame.params at wide) r.values) _ c h in
       let b = both (scan_signal frames here r.source) _ c a.then' in
       ap (λ (d : Choice). length d.values) (sym (ok_is (record { values = a.first; source = b.first }) c b.then')) ∙ each_long (value_in here.frame.params at wide) r.values a.first a.is
 
-  rows_long : (at : Place) (wide : ℕ) (rows : List SeenRow) (cs : List Choice) → each (row_in frames here at wide) rows ≡ Ok cs → AllByRecursion (λ (r : SeenRow). 1 ≤ length r.values) rows → AllByRecursion (λ (c : Choice). 1 ≤ length c.values) cs
+  rows_long : (at : Place) (wide : ℕ) (rows : List SeenRow) (cs : List Choice) → each (row_in frames here at wide) rows ≡ Ok cs
+      → AllByRecursion (λ (r : SeenRow). 1 ≤ length r.values) rows → AllByRecursion (λ (c : Choice). 1 ≤ length c.values) cs
   rows_long at wide [] cs h g = subst (AllByRecursion (λ (c : Choice). 1 ≤ length c.values)) (ok_is [] cs h) tt
   rows_long at wide (r ∷ rows) cs h g =
       let a = both (row_in frames here at wide r) (λ c. each (row_in frames here at wide) rows >>= λ ds. Ok (c ∷ ds)) cs h in
@@ -242,7 +268,8 @@ module _ (frames : List Frame) (here : Here) (worths : AreWorths here.frame.para
       let e = row_long at wide r a.first a.is in
       subst (AllByRecursion (λ (c : Choice). 1 ≤ length c.values)) (ok_is (a.first ∷ b.first) cs b.then') (subst (λ n. 1 ≤ n) (sym e) g.0, rows_long at wide rows b.first b.is g.1)
 
-  mux_rows : (at : Place) (select : List SeenSig) (rows : List SeenRow) (role : Role) → IsWrittenWhat (AMux select rows) → mux_role frames here at select rows ≡ Ok role → HasRows role
+  mux_rows : (at : Place) (select : List SeenSig) (rows : List SeenRow) (role : Role) → IsWrittenWhat (AMux select rows)
+      → mux_role frames here at select rows ≡ Ok role → HasRows role
   unfolding mux_role
   mux_rows at select rows role w h =
       let a = both (select_signals frames here at select) _ role h in
@@ -250,7 +277,7 @@ module _ (frames : List Frame) (here : Here) (worths : AreWorths here.frame.para
       let c = both (refuse_if (some_meet b.first) (RowsOverlap at)) _ role b.then' in
       let n = each_long (row_in frames here at (length a.first)) rows b.first b.is in
       subst HasRows (ok_is (AScanMux a.first b.first) role c.then')
-      (select_long at select a.first w.0 a.is, subst (λ k. 1 ≤ k) (sym n) w.1, subst (λ k. k < 2 ^ 32) (sym n) w.2, rows_long at (length a.first) rows b.first b.is w.3)
+      (select_long at select a.first w.select_some a.is, subst (λ k. 1 ≤ k) (sym n) w.rows_some, subst (λ k. k < 2 ^ 32) (sym n) w.rows_few, rows_long at (length a.first) rows b.first b.is w.values_some)
 
   -- a role that is no multiplexer
   plain_rows : (role : Role) → is_mux role ≡ false → HasRows role
@@ -266,7 +293,8 @@ module _ (frames : List Frame) (here : Here) (worths : AreWorths here.frame.para
   plain_rows (AnInterfaceOf ports) e = tt
   plain_rows (AnAccessLink selections) e = tt
 
-  found_rows : (m : Member) (what : SeenWhat) (f : Found) → IsWrittenWhat what → is_mux f.role ≡ is_mux_item what → found_at frames here m what ≡ Ok f → HasRows f.role
+  found_rows : (m : Member) (what : SeenWhat) (f : Found) → IsWrittenWhat what → is_mux f.role ≡ is_mux_item what
+      → found_at frames here m what ≡ Ok f → HasRows f.role
   found_rows m (AMux select rows) f w e h =
       let a = both (mux_role frames here m.item.at select rows) _ f h in
       subst (λ (x : Found). HasRows x.role) (ok_is (found a.first) f a.then') (mux_rows m.item.at select rows a.first w a.is)
@@ -280,7 +308,8 @@ module _ (frames : List Frame) (here : Here) (worths : AreWorths here.frame.para
   found_rows m (ALink kind entity instrs) f w e h = plain_rows f.role e
   found_rows m (AnAttribute value) f w e h = plain_rows f.role e
 
-  pub part_rows : (m : Member) (f : Found) → IsWrittenWhat m.item.what → is_mux f.role ≡ is_mux_item m.item.what → part_found frames here m ≡ Ok f → HasRows f.role
+  pub part_rows : (m : Member) (f : Found) → IsWrittenWhat m.item.what → is_mux f.role ≡ is_mux_item m.item.what
+      → part_found frames here m ≡ Ok f → HasRows f.role
   unfolding part_found
   part_rows m f w e h = found_rows m m.item.what f w e h
 

@@ -1,20 +1,20 @@
 -- A number with a size has a bit, in an expression and among the parameters of every frame.
-use Rattle.std.proofs.Common.{◌≡◌, ◌+◌, ◌≤◌, ◌<◌, ℕ, zero, suc, Bool, true, false, not, cond, ◌&&◌, List, [], ◌∷◌, ◌++◌, length, Option, Some, None, Ok, Err, refl, sym, ap, subst, ◌∙◌, arith}
+use Rattle.std.proofs.Common.{◌≡◌, ◌+◌, ◌≤◌, ◌==◌, ℕ, zero, suc, Bool, true, false, not, cond, ◌&&◌, List, [], ◌∷◌, length, Option, Some, None, Ok, Err, refl, sym, subst, arith}
 use Rattle.std.specs.Prelude.{nat_lt, get_or, IfSome, is_some}
 use Rattle.std.specs.Str.{bytes_eq}
 use Rattle.std.specs.List.{AllByRecursion}
-use Rattle.std.proofs.lemmas.Bool.{true≢false, and_parts, ltb-true}
+use Rattle.std.proofs.lemmas.Bool.{and_parts, ltb-true}
 use Rattle.std.proofs.lemmas.List.FromFn.{length-map-range_with_len}
 use Rattle.ij_text.specs.declared.Place.{Place}
 use Rattle.ij_text.specs.Numbers.{decimal_from}
 use Rattle.icl_syntax.specs.Values.{SeenExpr, ADecimal, ASized, AQuoted, AParam, AnOp, SeenBind, ABoundPort, ABoundParameter, ABoundAttribute, SeenWhat, APort, ARegister, AMux, AChild, AnAlias, SomeWords, AParameter, AnInterface, ALink, AnAttribute, SeenItem, SeenModule}
-use Rattle.icl_values.specs.Faults.{Answer, ◌>>=◌, refuse_if, over, NoName, DoubleName, BadNumber}
+use Rattle.icl_values.specs.Faults.{Answer, ◌>>=◌, refuse_if, NoName, DoubleName, BadNumber}
 use Rattle.icl_values.specs.Values.{OpenBits, Worth, AnInteger, SomeBits, AText, Given, Params, worth_of, with_worth}
 use Rattle.icl_values.specs.Sized.{front, behind, plain, bits_behind, fits, in_width, within_size, at_most_4096}
 use Rattle.icl_values.specs.Expressions.{as_integer, known, parameter, size, parameter_size, size_of, told, number_of_size, sized_number, operate, place_in, evaluate}
 use Rattle.icl_frames.specs.Parts.{is_open}
 use Rattle.icl_frames.specs.FirstPass.{Frame, worth_in, bound_worth, with_parameter, parameters, with_binding, first_pass}
-use Rattle.icl_frames.specs.Preorder.{Declared, OfInstance, AreOfChild, AreOfChildren, AreOfInstance, children_of}
+use Rattle.icl_frames.specs.Preorder.{Declared, OfInstance, AreOfChildren, AreOfInstance, children_of}
 use Rattle.icl_frames.proofs.Answering.{both, ok_is, over_all, all_both}
 use Rattle.icl_frames.proofs.Entering.{frames_are_preorder}
 
@@ -31,19 +31,20 @@ AreWorths ps = AllByRecursion (λ (p : Given). IsWorth p.worth) ps
 
 worth_found : (ps : Params) (name : List ℕ) → AreWorths ps → IfSome (worth_of ps name) IsWorth
 worth_found [] name h = tt
-worth_found (p ∷ ps) name h = by_test (bytes_eq name p.name)
+worth_found (p ∷ ps) name h = by_test (bytes_eq name p.name) (worth_found ps name h.1)
   where
-    by_test : (b : Bool) → IfSome (cond b (Some p.worth) (worth_of ps name)) IsWorth
-    by_test true = h.0
-    by_test false = worth_found ps name h.1
+    by_test : (b : Bool) → IfSome (worth_of ps name) IsWorth → IfSome (cond b (Some p.worth) (worth_of ps name)) IsWorth
+    by_test true again = h.0
+    by_test false again = again
 
 with_worth_kept : (ps : Params) (name : List ℕ) (w : Worth) → AreWorths ps → IsWorth w → AreWorths (with_worth ps name w)
 with_worth_kept [] name w h g = (g, tt)
-with_worth_kept (p ∷ ps) name w h g = by_test (bytes_eq name p.name)
+with_worth_kept (p ∷ ps) name w h g = by_test (bytes_eq name p.name) (with_worth_kept ps name w h.1 g)
   where
-    by_test : (b : Bool) → AreWorths (cond b (record p { worth = w } ∷ ps) (p ∷ with_worth ps name w))
-    by_test true = (g, h.1)
-    by_test false = (h.0, with_worth_kept ps name w h.1 g)
+    by_test : (b : Bool) → AreWorths (with_worth ps name w)
+        → AreWorths (cond b (record p { worth = w } ∷ ps) (p ∷ with_worth ps name w))
+    by_test true again = (g, h.1)
+    by_test false again = (h.0, again)
 
 -- ---- sized numbers
 
@@ -53,7 +54,8 @@ IsSize o = IfSome o (λ n. 1 ≤ n)
 size_is : (at : Place) (n : ℕ) (o : Option ℕ) → size at n ≡ Ok o → IsSize o
 size_is at n o h = by_test (nat_lt 0 n && nat_lt n 4097) refl h
   where
-    by_test : (b : Bool) → (nat_lt 0 n && nat_lt n 4097) ≡ b → cond {A = Answer (Option ℕ)} b (Ok (Some n)) (Err (BadNumber at)) ≡ Ok o → IsSize o
+    by_test : (b : Bool) → (nat_lt 0 n && nat_lt n 4097) ≡ b
+        → cond {A = Answer (Option ℕ)} b (Ok (Some n)) (Err (BadNumber at)) ≡ Ok o → IsSize o
     by_test true e g =
         let p = ltb-true 0 n (and_parts (nat_lt 0 n) (nat_lt n 4097) e).0 in
         let le : 1 ≤ n = omega (arith, p) in
@@ -80,7 +82,8 @@ told_sized : (at : Place) (n : ℕ) (bits : OpenBits) (w : Worth) → 1 ≤ n �
 told_sized at n bits w le h = by_test (fits n bits) h
   where
     by_test : (b : Bool) → told at true (cond b (Some (in_width n bits)) None) ≡ Ok w → IsWorth w
-    by_test true g = subst IsWorth (ok_is (SomeBits true (in_width n bits)) w g) (subst (λ k. 1 ≤ k) (sym (length-map-range_with_len (λ k. get_or bits k (Some false)) 0 n)) le)
+    by_test true g =
+        subst IsWorth (ok_is (SomeBits true (in_width n bits)) w g) (subst (λ k. 1 ≤ k) (sym (length-map-range_with_len (λ k. get_or bits k (Some false)) 0 n)) le)
     by_test false g = absurd cc
 
 number_worth : (at : Place) (o : Option OpenBits) (n : Option ℕ) (w : Worth) → IsSize n → number_of_size at o n ≡ Ok w → IsWorth w
@@ -110,7 +113,8 @@ evaluate_worth ps at (AnOp place sign x y) w g h =
 
 -- ---- the parameters of frames
 
-in_worth : (given ps : Params) (at : Place) (name : List ℕ) (e : SeenExpr) (o : Option Worth) (w : Worth) → AreWorths ps → IfSome o IsWorth → worth_in given ps at name e o ≡ Ok w → IsWorth w
+in_worth : (given ps : Params) (at : Place) (name : List ℕ) (e : SeenExpr) (o : Option Worth) (w : Worth) → AreWorths ps
+    → IfSome o IsWorth → worth_in given ps at name e o ≡ Ok w → IsWorth w
 in_worth given ps at name e None w g i h = evaluate_worth ps at e w g h
 in_worth given ps at name e (Some v) w g i h = subst IsWorth (ok_is v w h) i
 
@@ -118,7 +122,8 @@ bound_is : (given : Params) (local : Bool) (name : List ℕ) → AreWorths given
 bound_is given true name g = tt
 bound_is given false name g = worth_found given name g
 
-parameter_kept : (given ps qs : Params) (item : SeenItem) (what : SeenWhat) → AreWorths given → AreWorths ps → with_parameter given ps item what ≡ Ok qs → AreWorths qs
+parameter_kept : (given ps qs : Params) (item : SeenItem) (what : SeenWhat) → AreWorths given → AreWorths ps
+    → with_parameter given ps item what ≡ Ok qs → AreWorths qs
 parameter_kept given ps qs item (AParameter local e) g i h =
     let a = both (worth_in given ps item.at item.name e (bound_worth given local item.name)) _ qs h in
     subst AreWorths (ok_is (with_worth ps item.name a.first) qs a.then') (with_worth_kept ps item.name a.first i (in_worth given ps item.at item.name e (bound_worth given local item.name) a.first i (bound_is given local item.name g) a.is))
@@ -133,9 +138,11 @@ parameter_kept given ps qs item (ALink kind entity instrs) g i h = subst AreWort
 parameter_kept given ps qs item (AnAttribute value) g i h = subst AreWorths (ok_is ps qs h) i
 
 parameters_worths : (given ps : Params) (block : SeenModule) → AreWorths given → parameters given block ≡ Ok ps → AreWorths ps
-parameters_worths given ps block g h = over_all (λ qs (item : SeenItem). with_parameter given qs item item.what) AreWorths (λ qs rs item i e. parameter_kept given qs rs item item.what g i e) [] ps block.items tt h
+parameters_worths given ps block g h =
+    over_all (λ qs (item : SeenItem). with_parameter given qs item item.what) AreWorths (λ qs rs item i e. parameter_kept given qs rs item item.what g i e) [] ps block.items tt h
 
-binding_kept : (ps : Params) (block : SeenModule) (given gs : Params) (b : SeenBind) → AreWorths ps → AreWorths given → with_binding ps block given b ≡ Ok gs → AreWorths gs
+binding_kept : (ps : Params) (block : SeenModule) (given gs : Params) (b : SeenBind) → AreWorths ps → AreWorths given
+    → with_binding ps block given b ≡ Ok gs → AreWorths gs
 binding_kept ps block given gs (ABoundParameter at name e) g i h =
     let a = both (refuse_if (not (is_open block name)) (NoName at name)) _ gs h in
     let b = both (refuse_if (is_some (worth_of given name)) (DoubleName at name)) _ gs a.then' in
@@ -149,7 +156,8 @@ AreFramesWorths frames = AllByRecursion (λ (f : Frame). AreWorths f.params) fra
 
 children_worths : (blocks : List SeenModule) (Is : OfInstance)
     → ((number : ℕ) (parent : Option ℕ) (name : List ℕ) (block : SeenModule) (given : Params) (frames : List Frame) → AreWorths given → Is number parent name block given frames → AreFramesWorths frames)
-    → (number parent : ℕ) (ps : Params) → AreWorths ps → (ds : List Declared) (frames : List Frame) → AreOfChildren blocks Is number parent ps ds frames → AreFramesWorths frames
+    → (number parent : ℕ) (ps : Params) → AreWorths ps → (ds : List Declared) (frames : List Frame)
+    → AreOfChildren blocks Is number parent ps ds frames → AreFramesWorths frames
 children_worths blocks Is good number parent ps g [] frames h = subst AreFramesWorths (sym h) tt
 children_worths blocks Is good number parent ps g (d ∷ ds) frames (xs, ys, e, child, others) =
     let given = over_all (with_binding ps child.block) AreWorths (λ gs hs b i e. binding_kept ps child.block gs hs b g i e) [] child.given d.binds tt child.bound in
@@ -164,5 +172,7 @@ instance_worths blocks (suc levels) number parent name block given (f ∷ frames
     let own = parameters_worths given f.params block g h.3 in
     (own, children_worths blocks (AreOfInstance blocks levels) (λ n p m b v fs i e. instance_worths blocks levels n p m b v fs i e) (suc number) number f.params own (children_of block.items) frames h.4)
 
-pub frames_worths : (blocks : List SeenModule) (top : List ℕ) (frames : List Frame) → first_pass blocks top ≡ Ok frames → AreFramesWorths frames
-frames_worths blocks top frames h = let p = frames_are_preorder blocks top frames h in instance_worths blocks 65 0 None [] p.block [] frames tt p.instance
+pub frames_worths : (blocks : List SeenModule) (top : List ℕ) (frames : List Frame) → first_pass blocks top ≡ Ok frames
+    → AreFramesWorths frames
+frames_worths blocks top frames h =
+    let p = frames_are_preorder blocks top frames h in instance_worths blocks 65 0 None [] p.block [] frames tt p.instance

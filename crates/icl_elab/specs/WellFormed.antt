@@ -54,7 +54,8 @@ is_not_of_instrument role = false
 
 -- an instance that data ports alone join to the network
 abbrev pub is_instrument : CellOf → Bool
-is_instrument c = is_some c.parent && list_any (λ p. is_data_port p.role) c.parts && not (list_any (λ p. is_not_of_instrument p.role) c.parts)
+is_instrument c =
+    is_some c.parent && list_any (λ p. is_data_port p.role) c.parts && not (list_any (λ p. is_not_of_instrument p.role) c.parts)
 
 -- ---- the tree
 
@@ -71,7 +72,8 @@ IsInstanceNamed c = IfSome c.parent (λ parent. IsTrue (is_name c.name))
 
 -- a multiplexer has a select bit, and rows with values
 abbrev pub HasRows : Role → Type 0
-HasRows (AScanMux select rows) = (1 ≤ length select) × (1 ≤ length rows) × (length rows < 2 ^ 32) × AllByRecursion (λ (row : Choice). 1 ≤ length row.values) rows
+HasRows (AScanMux select rows) =
+    (1 ≤ length select) × (1 ≤ length rows) × (length rows < 2 ^ 32) × AllByRecursion (λ (row : Choice). 1 ≤ length row.values) rows
 HasRows role = Unit {0}
 
 pub record IsPartNamed (p : PartOf) : Type 0 where
@@ -134,11 +136,14 @@ pub record IsHierarchy (cells : List CellOf) : Type 0 where
 -- ---- the laws
 
 abbrev pub HierarchiesAreInTree : Type 0
-HierarchiesAreInTree = (blocks : List SeenModule) (top : List ℕ) (cells : List CellOf) → hierarchy blocks top ≡ Ok cells → AreInTree cells
+HierarchiesAreInTree =
+    (blocks : List SeenModule) (top : List ℕ) (cells : List CellOf) → hierarchy blocks top ≡ Ok cells → AreInTree cells
 
 abbrev pub HierarchiesAreFew : Type 0
-HierarchiesAreFew = (blocks : List SeenModule) (top : List ℕ) (cells : List CellOf) → hierarchy blocks top ≡ Ok cells → AreCellsFew cells
+HierarchiesAreFew =
+    (blocks : List SeenModule) (top : List ℕ) (cells : List CellOf) → hierarchy blocks top ≡ Ok cells → AreCellsFew cells
 
 -- of modules that the grammar gives
 abbrev pub HierarchiesAreWellFormed : Type 0
-HierarchiesAreWellFormed = (blocks : List SeenModule) (top : List ℕ) (cells : List CellOf) → AreWritten blocks → hierarchy blocks top ≡ Ok cells → IsHierarchy cells
+HierarchiesAreWellFormed =
+    (blocks : List SeenModule) (top : List ℕ) (cells : List CellOf) → AreWritten blocks → hierarchy blocks top ≡ Ok cells → IsHierarchy cells

@@ -383,6 +383,8 @@ fn hierarchy_of(alloc: Global, design: &Design, top: &Name) -> Result<Hier, Elab
 /// multiplexer. A binding of a port is `NoName`, `WrongKind`, the faults of its range, `DoubleName` at a bit that is bound already, then the
 /// faults of its signals, then `WidthDiffers`; a port that is bound at some of its bits alone is `WidthDiffers` at the instance, behind its
 /// bindings. `OutOfMemory` may come at any point.
+///
+/// The hierarchy of a design that the grammar gave (`icl_frames::designs_are_written`) is well formed.
 pub fn elaborate(alloc: Global, design: &Design, top: &Name) -> Result<Hier, ElabFault>
     ensures gives { Gives seen_hier result (hierarchy (seen_design design.now) top.now.items) }
     ensures wired { IfOk result (λ h. AreWired (seen_hier h)) }

@@ -1,11 +1,11 @@
 -- What the grammar gives each design: names of ICL, and multiplexers with a select and rows.
 use Rattle.std.proofs.Common.{◌≡◌, ◌+◌, ◌<◌, ◌≤◌, ◌++◌, ◌^◌, ℕ, zero, suc, Bool, true, false, ◌&&◌, cond, List, [], ◌∷◌, length, Option, Some, None, IsTrue, refl, sym, ap, subst, ◌∙◌, arith, length-append, slice_range}
-use Rattle.std.specs.Prelude.{codes, ◌==◌}
+use Rattle.std.specs.Prelude.{◌==◌}
 use Rattle.std.specs.Char.{is_ascii_digit}
 use Rattle.std.specs.List.{AllByRecursion, list_all}
 use Rattle.ij_text.specs.Bytes.{is_blank}
 use Rattle.ij_text.specs.Words.{begins_name, in_name, is_name}
-use Rattle.grammar.specs.Symbol.{Symbol, Parts, IsOne, ◌>>=◌, give}
+use Rattle.grammar.specs.Symbol.{Parts, IsOne, ◌>>=◌}
 use Rattle.icl_lexer.specs.declared.token.Token.{Token}
 use Rattle.icl_lexer.specs.declared.token.TokenKind.{TokenKind}
 use Rattle.icl_lexer.specs.declared.token.TokenKind.TheVariants.{Word, Decimal, Sized, Quoted, Param, Mark}
@@ -16,11 +16,11 @@ use Rattle.icl_lexer.specs.Laws.{AreInText}
 use Rattle.icl_lexer.proofs.Total.{tokens_in_text}
 use Rattle.icl_syntax.specs.declared.words.ItemWord.{ItemWord}
 use Rattle.icl_syntax.specs.declared.words.ItemWord.TheVariants.{OfPort, OfRegister, OfMux, OfChild, OfAlias, OfEnum, OfParameter, OfAttribute, OfInterface, OfLink}
-use Rattle.icl_syntax.specs.Tokens.{SeenToken, if_word, name_at, mark_at, seen_token, seen_tokens}
-use Rattle.icl_syntax.specs.Values.{SeenExpr, SeenSig, SeenRow, SeenEnumWord, SeenWhat, APort, ARegister, AMux, AChild, AnAlias, SomeWords, AParameter, AnInterface, ALink, AnAttribute, SeenItem, SeenModule}
+use Rattle.icl_syntax.specs.Tokens.{SeenToken, if_word, name_at, mark_at, seen_tokens}
+use Rattle.icl_syntax.specs.Values.{SeenRow, SeenEnumWord, SeenWhat, SeenItem, SeenModule}
 use Rattle.icl_syntax.specs.Grammar.{Of, name, mark, value, sig, sigs, parted, appended}
 use Rattle.icl_syntax.specs.Modules.{port, register, alias, parameter as a_parameter, attribute, row, rows, mux, braced, child, enum_word, words, interface, link, meaning_behind, item, module_of, design}
-use Rattle.icl_frames.specs.Written.{IsWrittenWhat, IsWrittenItem, IsWritten, AreWritten, DesignsAreWritten}
+use Rattle.icl_frames.specs.Written.{IsWrittenWhat, IsWrittenItem, IsWritten, DesignsAreWritten}
 use Rattle.icl_frames.proofs.Answering.{all_both}
 
 -- ---- the words of a text are names

@@ -1,5 +1,5 @@
 -- What the items of one cell give: their bounds, names that differ, and counts.
-use Rattle.std.proofs.Common.{◌≡◌, ◌⊎◌, ◌+◌, ◌<◌, ◌≤◌, ◌++◌, ℕ, zero, suc, Bool, true, false, not, ◌&&◌, ◌||◌, cond, nat_lt, nat_le, List, [], ◌∷◌, length, map, filter, zip, sum_by, count_by, Option, Some, None, is_some, Result, Ok, Err, refl, sym, ap, subst, ◌∙◌, arith, Contains, inl, inr, append_assoc, append-nil, length-append}
+use Rattle.std.proofs.Common.{◌≡◌, ◌⊎◌, ◌+◌, ◌≤◌, ◌++◌, ℕ, Bool, true, false, ◌&&◌, ◌||◌, cond, nat_lt, nat_le, List, [], ◌∷◌, length, map, filter, zip, sum_by, count_by, Option, Some, None, Result, Ok, Err, refl, sym, ap, subst, ◌∙◌, arith, Contains, inl, inr, append_assoc, append-nil, length-append}
 use Rattle.std.specs.List.{AllByRecursion, list_any}
 use Rattle.std.specs.Str.{bytes_eq}
 use Rattle.std.proofs.lemmas.Bool.{ltb-false, leb-false}
@@ -8,15 +8,15 @@ use Rattle.std.proofs.lemmas.List.Sums.{sum_by_push}
 use Rattle.std.proofs.lemmas.List.Elements.{filter-append}
 use Rattle.ij_bits.specs.Different.{AreDifferent}
 use Rattle.ij_text.specs.declared.Place.{Place}
-use Rattle.ij_text.specs.declared.Which.TheVariants.{ScanBits, Muxes, Instruments, Ports, PortBits, Width}
+use Rattle.ij_text.specs.declared.Which.TheVariants.{ScanBits, Muxes, Width}
 use Rattle.icl_syntax.specs.Values.{SeenRange, SeenWhat, APort, ARegister, AMux, AChild, AnAlias, SomeWords, AParameter, AnInterface, ALink, AnAttribute, SeenItem, SeenModule}
 use Rattle.icl_values.specs.Faults.{Answer, ◌>>=◌, refuse_if, each, over, DoubleName, Limit}
 use Rattle.icl_values.specs.Values.{Params}
 use Rattle.icl_frames.specs.declared.counts.Counts.{Counts}
 use Rattle.icl_frames.specs.declared.ranges.Bounds.{Bounds}
 use Rattle.icl_frames.specs.Ranges.{width, one_bit, few_enough, indices, declared}
-use Rattle.icl_frames.specs.Parts.{is_part, is_register, is_mux, is_signal, is_rival, is_taken, inner_names, range_in, port_that, is_data_in, is_data_out, is_data_port, is_instrument}
-use Rattle.icl_frames.specs.FirstPass.{with_name, distinct, new_names, Request, request, count_part, Passed, bounds_of, Added, look_at, with_added, pass_item, nothing_passed, pass_items, parts_of, ports_over, has_wide_port, count_instrument, finish}
+use Rattle.icl_frames.specs.Parts.{is_part, is_register, is_mux, is_signal, is_rival, is_taken, inner_names, range_in}
+use Rattle.icl_frames.specs.FirstPass.{with_name, distinct, new_names, request, count_part, Passed, bounds_of, Added, look_at, with_added, pass_item, nothing_passed, pass_items}
 use Rattle.icl_frames.specs.Laws.{register_bits}
 use Rattle.icl_frames.proofs.Answering.{both, ok_is}
 use Rattle.icl_frames.proofs.Differing.{cases_in, none_in, different_one, all_one}

@@ -11,5 +11,5 @@ pub mod Filling
 pub mod Holding
 pub mod Trees
 pub mod Siblings
-pub mod Derivations
 pub mod WrittenFrames
+pub mod Derivations

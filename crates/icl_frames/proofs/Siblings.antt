@@ -1,13 +1,13 @@
 -- No two instances of one parent have one name, and each frame's module is one of the design's.
-use Rattle.std.proofs.Common.{◌≡◌, ◌⊎◌, ◌+◌, ◌<◌, ◌≤◌, ◌++◌, ℕ, zero, suc, cond, List, [], ◌∷◌, length, map, filter, Contains, Option, Some, None, Ok, refl, sym, ap, subst, ◌∙◌, arith, inl, inr, length-append}
+use Rattle.std.proofs.Common.{◌≡◌, ◌⊎◌, ◌+◌, ◌<◌, ◌≤◌, ◌++◌, ℕ, zero, suc, cond, List, [], ◌∷◌, length, map, filter, Contains, Option, Some, None, refl, sym, ap, subst, ◌∙◌, arith, inl, inr, length-append}
 use Rattle.std.specs.List.{AllByRecursion, cons_option}
 use Rattle.ij_bits.specs.Different.{AreDifferent}
 use Rattle.icl_syntax.specs.Values.{SeenWhat, APort, ARegister, AMux, AChild, AnAlias, SomeWords, AParameter, AnInterface, ALink, AnAttribute, SeenItem, SeenModule}
 use Rattle.icl_values.specs.Values.{Params}
-use Rattle.icl_frames.specs.Parts.{is_signal, block_named}
-use Rattle.icl_frames.specs.FirstPass.{Frame, first_pass}
-use Rattle.icl_frames.specs.Preorder.{Declared, declared_by, children_of, AreOfChild, AreOfChildren, AreOfInstance, ArePreorder}
-use Rattle.icl_frames.specs.Laws.{IsBelow, child_names, IsFrame, AreTree, FramesAreTree}
+use Rattle.icl_frames.specs.Parts.{is_signal}
+use Rattle.icl_frames.specs.FirstPass.{Frame}
+use Rattle.icl_frames.specs.Preorder.{Declared, declared_by, children_of, AreOfChildren, AreOfInstance}
+use Rattle.icl_frames.specs.Laws.{IsBelow, child_names, IsFrame, FramesAreTree}
 use Rattle.icl_frames.proofs.Answering.{all_both}
 use Rattle.icl_frames.proofs.Differing.{first_in, later_in, none_in, cases_in, all_in, find_in, different_more}
 use Rattle.icl_frames.proofs.Filling.{signal_names}

@@ -1,15 +1,13 @@
 -- Frames form a tree: a parent stands before its children, which its module declares, and levels are few.
-use Rattle.std.proofs.Common.{◌≡◌, ◌+◌, ◌<◌, ◌≤◌, ◌++◌, ℕ, zero, suc, List, [], ◌∷◌, length, map, get_or, slice_get, Contains, Option, Some, None, IfSome, IsSomeAnd, Ok, refl, sym, ap, subst, ◌∙◌, arith, append_assoc, append-nil, length-append}
+use Rattle.std.proofs.Common.{◌≡◌, ◌+◌, ◌<◌, ◌≤◌, ◌++◌, ℕ, zero, suc, List, [], ◌∷◌, length, map, get_or, slice_get, Contains, Option, Some, None, IfSome, IsSomeAnd, refl, sym, ap, subst, ◌∙◌, arith, append_assoc, append-nil, length-append}
 use Rattle.std.specs.List.{AllByRecursion, enumerate_from}
 use Rattle.std.proofs.lemmas.List.{get_or_append_left}
 use Rattle.icl_syntax.specs.Values.{SeenModule}
 use Rattle.icl_values.specs.Values.{Params}
-use Rattle.icl_frames.specs.Parts.{block_named}
-use Rattle.icl_frames.specs.FirstPass.{Frame, first_pass}
-use Rattle.icl_frames.specs.Preorder.{Declared, children_of, AreOfChild, AreOfChildren, AreOfInstance, ArePreorder}
+use Rattle.icl_frames.specs.FirstPass.{Frame}
+use Rattle.icl_frames.specs.Preorder.{Declared, children_of, AreOfChildren, AreOfInstance}
 use Rattle.icl_frames.specs.Laws.{parents_of, IsBelow, AreBelow, level_below, levels_from, child_names, IsDeclaredIn}
-use Rattle.icl_frames.proofs.Answering.{all_both}
-use Rattle.icl_frames.proofs.Differing.{all_one, map_in, find_in, first_in, later_in}
+use Rattle.icl_frames.proofs.Differing.{all_one, map_in, first_in, later_in}
 
 -- ---- lists with more behind
 

@@ -3,7 +3,7 @@
 use Rattle.std.specs.Prelude.{◌≡◌, ◌≤◌, ◌<◌, ℕ, suc, Bool, true, ◌&&◌, cond, List, [], ◌∷◌, ◌++◌, map, filter, zip, length, get_or, sum_by, count_by, Contains, slice_get, Option, Some, None, Ok, is_some, IfSome, IsSomeAnd}
 use Rattle.std.specs.List.{AllByRecursion, enumerate_from}
 use Rattle.ij_bits.specs.Different.{AreDifferent}
-use Rattle.icl_syntax.specs.Values.{SeenWhat, SeenItem, SeenModule}
+use Rattle.icl_syntax.specs.Values.{SeenItem, SeenModule}
 use Rattle.icl_values.specs.Faults.{each}
 use Rattle.icl_frames.specs.declared.ranges.Bounds.{Bounds}
 use Rattle.icl_frames.specs.Ranges.{width, declared}

@@ -25,6 +25,7 @@ pub use kinds::{
 };
 pub use laws::{
     designs_are_written, frames_are_preorder, frames_are_tree, frames_are_within_limits,
+    frames_are_written,
 };
 pub use naming::new_names;
 pub use params::parameters;
