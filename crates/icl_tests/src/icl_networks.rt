@@ -174,11 +174,16 @@ fn network(alloc: Global, parts: &str, top: &str) -> Result<String, Fail> {
 #[test]
 fn an_instrument_and_an_alias(rt: HostRuntime) -> Result<(), Fail> {
     let alloc = rt.alloc();
-    let text = b"Module Bit { DataInPort d; DataOutPort q; } Module Mix { ScanInPort SI; ScanOutPort SO { Source Q[0]; } ScanInterface client { Port SI; Port SO; } ScanRegister R[1:0] { ScanInSource SI; CaptureSource R; ResetValue 2'b00; } ScanRegister Q[1:0] { ScanInSource R[0]; CaptureSource ins.q, ins.q; ResetValue 2'b00; } Enum e { on = 4'b1001; off = 4'b0000; } Alias a[3:0] = R[1:0], Q[1:0] { RefEnum e; } Instance ins Of Bit { InputPort d = ~R[0]; } } Module chip { Instance net Of Mix; AccessLink tap Of STD_1149_1_2001 { BSDLEntity chip; IJTAG { ScanInterface { net.client; } } } }";
+    let text =
+        b"Module Bit { DataInPort d; DataOutPort q; } Module Mix { ScanInPort SI; ScanOutPort SO { Source Q[0]; } ScanInterface client { Port SI; Port SO; } ScanRegister R[1:0] { ScanInSource SI; CaptureSource R; ResetValue 2'b00; } ScanRegister Q[1:0] { ScanInSource R[0]; CaptureSource ins.q, ins.q; ResetValue 2'b00; } Enum e { on = 4'b1001; off = 4'b0000; } Alias a[3:0] = R[1:0], Q[1:0] { RefEnum e; } Instance ins Of Bit { InputPort d = ~R[0]; } } Module chip { Instance net Of Mix; AccessLink tap Of STD_1149_1_2001 { BSDLEntity chip; IJTAG { ScanInterface { net.client; } } } }";
     let wanted = "R in : 0.0 0.1; R r0 : i0.0.0 i0.0.0; I : ~0.0; out r1";
     assert_eq!(rt; outcome(alloc, text, "IJTAG")?.as_str(), wanted);
-    assert_eq!(rt; outcome(alloc, text, "EXTEST")?.as_str(), "NoLink tap EXTEST");
-    let undriven = b"Module Net {\n  DataInPort x[3:0]; ScanInPort SI; ScanOutPort SO { Source R[0]; }\n  ScanInterface client { Port SI; Port SO; }\n  ScanRegister R[3:0] { ScanInSource SI; CaptureSource x; ResetValue 4'b0; }\n}\nModule chip {\n  Instance net Of Net;\n  AccessLink tap Of STD_1149_1_2001 {\n    BSDLEntity chip; IJTAG { ScanInterface { net.client; } }\n  }\n}\n";
+    assert_eq!(rt;
+        outcome(alloc, text, "EXTEST")?.as_str(),
+        "NoLink tap EXTEST"
+    );
+    let undriven =
+        b"Module Net {\n  DataInPort x[3:0]; ScanInPort SI; ScanOutPort SO { Source R[0]; }\n  ScanInterface client { Port SI; Port SO; }\n  ScanRegister R[3:0] { ScanInSource SI; CaptureSource x; ResetValue 4'b0; }\n}\nModule chip {\n  Instance net Of Net;\n  AccessLink tap Of STD_1149_1_2001 {\n    BSDLEntity chip; IJTAG { ScanInterface { net.client; } }\n  }\n}\n";
     assert_eq!(rt; outcome(alloc, undriven, "IJTAG")?.as_str(), "Undriven 4:3");
     Ok(())
 }
