@@ -50,9 +50,9 @@ never_decided = record { one = λ a b p q. absurd p; apart = λ a r p q. q; alik
 alike_in_turn : {R A B : Type 0} (first : Work R A) (next : A → Work R B) → IsDecided first → ((a : A) → IsDecided (next a)) → (r s : R) → RefusesInTurn first next r → RefusesInTurn first next s → r ≡ s
 alike_in_turn first next f n r s p q =
     elim p [
-      inl own ↦ elim q [ inl other ↦ f.alike r s own other | inr later ↦ absurd (f.apart later.0 r later.1 own) ]
+      | inl own ↦ elim q [ inl other ↦ f.alike r s own other | inr later ↦ absurd (f.apart later.0 r later.1 own) ]
       | inr later ↦ elim q [
-        inl other ↦ absurd (f.apart later.0 s later.1 other)
+        | inl other ↦ absurd (f.apart later.0 s later.1 other)
         | inr behind ↦ (n behind.0).alike r s (subst (λ a. (next a).refuses r) (f.one later.0 behind.0 later.1 behind.1) later.2) behind.2
       ]
     ]
@@ -94,7 +94,7 @@ tokens_decided cuttings no_fault faults text =
     record { one = tokens_one cuttings text; apart = λ tokens r p q. no_fault text tokens q.0 p q.1; alike = λ r s p q. lex_alike p.0 q.0 r s (faults text p.0 q.0 p.1 q.1) p.2 q.2 }
 
 -- how a fault is told, without where its words lie in memory
-told_fault : SeenFault → Option Refusal
+abbrev told_fault : SeenFault → Option Refusal
 told_fault NoMemory = None
 told_fault (ALeftOut at word) = Some (refused_word Icl (codes "LeftOut") at word)
 told_fault (AnExprLimit at) = Some (refused_at Icl (codes "ExprLimit") at)
@@ -163,7 +163,7 @@ unfolding network_below
 network_decided modules top of = in_turn_decided (elaborated modules top) _ (elaborated_decided modules top) (λ cells. connected_decided cells of)
 
 -- how a cause is told
-told_cause : Cause → Place → Refusal
+abbrev told_cause : Cause → Place → Refusal
 told_cause (CauseLeftOut word) at = refused_word Svf (codes "LeftOut") at word
 told_cause CauseSyntax at = refused_at Svf (codes "SvfSyntax") at
 told_cause CauseLimit at = refused_at Svf (codes "SvfLimit") at
@@ -171,7 +171,7 @@ told_cause CauseWide at = refused_at Svf (codes "HexWide") at
 told_cause CauseNoTdi at = refused_at Svf (codes "TdiMissing") at
 
 -- the one cause and its place, from the text alone
-told_in : List ℕ → Result (List SeenCommand) SvfRefusal → Option Refusal
+abbrev told_in : List ℕ → Result (List SeenCommand) SvfRefusal → Option Refusal
 told_in text (Ok commands) = None
 told_in text (Err e) = Some (told_cause e.cause (place_at text e.start))
 

@@ -1,6 +1,7 @@
 -- The order of work of each command: the lines of a `do` block are done in turn, and the first that refuses decides.
 use Rattle.std.specs.Prelude.{◌≡◌, ◌<◌, ◌≤◌, ℕ, Bool, true, false, List, [], ◌∷◌, length, Option, IfSome, codes}
 use Rattle.ij_io.specs.Files.{Files, bytes_of}
+use Rattle.icl_syntax.specs.Values.{SeenModule}
 use Rattle.svf_writer.specs.SeenCommands.{SeenCommand}
 use Rattle.net_bench.specs.Playing.{Compare}
 use Rattle.play_report.specs.Report.{differs_of, play_report}

@@ -2,4 +2,6 @@ use Rattle.ijtag_core.proofs.Deciding.{work_decided}
 use Rattle.ijtag_core.proofs.decided.works_are_decided.Goals as goal
 
 pub returns : goal.returns
-returns c = work_decided c.cuttings_are_one.ensures c.texts_are_cut_or_at_fault.ensures.not_both c.designs_are_one.ensures c.refusals_are_one.ensures.none
+returns c =
+    work_decided c.cuttings_are_one.ensures c.texts_are_cut_or_at_fault.ensures.not_both c.texts_are_cut_or_at_fault.ensures.one c.designs_are_one.ensures c.refusals_are_one.ensures.none
+    c.refusals_are_one.ensures.one
