@@ -13,10 +13,10 @@ use Rattle.icl_values.specs.Faults.{Answer, ◌>>=◌, refuse_if, each, over, Ba
 use Rattle.icl_values.specs.Values.{OpenBits, Worth, AnInteger, SomeBits, AText, Params}
 use Rattle.icl_values.specs.Expressions.{evaluate, place_in}
 use Rattle.icl_values.specs.Widths.{value_in, joined}
-use Rattle.icl_frames.specs.declared.ranges.Bounds.{Bounds}
-use Rattle.icl_frames.specs.declared.ranges.Stretch.{Stretch}
-use Rattle.icl_frames.specs.Parts.{inner_names, words_in, is_mux as is_mux_item}
-use Rattle.icl_frames.specs.Ranges.{width, position_of, has_index, runs_along, stretch_of, whole, indices, named_in}
+use Rattle.icl_declarations.specs.declared.ranges.Bounds.{Bounds}
+use Rattle.icl_declarations.specs.declared.ranges.Stretch.{Stretch}
+use Rattle.icl_declarations.specs.Parts.{inner_names, words_in, is_mux as is_mux_item}
+use Rattle.icl_declarations.specs.Ranges.{width, position_of, has_index, runs_along, stretch_of, whole, indices, named_in}
 use Rattle.icl_frames.specs.FirstPass.{Frame}
 use Rattle.icl_frames.specs.Written.{IsWrittenWhat}
 use Rattle.icl_frames.proofs.Answering.{both, ok_is, over_all}
@@ -25,8 +25,8 @@ use Rattle.icl_references.specs.Names.{Here, Member, members, inside, path_from}
 use Rattle.icl_references.specs.Signals.{bits_of, is_data_source, data_signal, data_signals, data_meant, data_path, select_signals, alias_signals, constants, closed, free_number, number_bits, scan_signal}
 use Rattle.icl_references.specs.Roles.{Choice, Role, ScanInput, ScanOutput, DataInput, DataOutput, ControlPort, AScanRegister, AScanMux, AnAliasOf, AnInstance, AnInterfaceOf, AnAccessLink, Word}
 use Rattle.icl_references.specs.Muxes.{some_meet, row_in, mux_role}
-use Rattle.icl_elab.specs.Bindings.{Bound, bind, all_whole}
-use Rattle.icl_elab.specs.SecondPass.{Found, found, Said, words_named, known_enum, enum_named, word_of, source_role, port_prop, port_role, register_prop, register_found, nothing_said, alias_prop, instance_found, port_number, selection, found_at, part_found}
+use Rattle.icl_parts.specs.Bindings.{Bound, bind, all_whole}
+use Rattle.icl_parts.specs.FoundParts.{Found, found, Said, words_named, known_enum, enum_named, word_of, source_role, port_prop, port_role, register_prop, register_found, nothing_said, alias_prop, instance_found, port_number, selection, found_at, part_found}
 use Rattle.icl_elab.specs.Hierarchy.{with_bound}
 use Rattle.icl_elab.specs.WellFormed.{is_mux, HasRows}
 use Rattle.icl_elab.proofs.Worths.{IsWorth, AreWorths, evaluate_worth}

@@ -12,7 +12,7 @@ use Rattle.icl_values.specs.Faults.{Answer, ◌>>=◌, refuse_if, NoName, Double
 use Rattle.icl_values.specs.Values.{OpenBits, Worth, AnInteger, SomeBits, AText, Given, Params, worth_of, with_worth}
 use Rattle.icl_values.specs.Sized.{front, behind, plain, bits_behind, fits, in_width, within_size, at_most_4096}
 use Rattle.icl_values.specs.Expressions.{as_integer, known, parameter, size, parameter_size, size_of, told, number_of_size, sized_number, operate, place_in, evaluate}
-use Rattle.icl_frames.specs.Parts.{is_open}
+use Rattle.icl_declarations.specs.Parts.{is_open}
 use Rattle.icl_frames.specs.FirstPass.{Frame, worth_in, bound_worth, with_parameter, parameters, with_binding, first_pass}
 use Rattle.icl_frames.specs.Preorder.{Declared, OfInstance, AreOfChildren, AreOfInstance, children_of}
 use Rattle.icl_frames.proofs.Answering.{both, ok_is, over_all, all_both}

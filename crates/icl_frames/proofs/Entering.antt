@@ -7,10 +7,12 @@ use Rattle.ij_text.specs.declared.Which.TheVariants.{Cells}
 use Rattle.icl_syntax.specs.Values.{SeenWhat, APort, ARegister, AMux, AChild, AnAlias, SomeWords, AParameter, AnInterface, ALink, AnAttribute, SeenItem, SeenModule}
 use Rattle.icl_values.specs.Faults.{Answer, refuse_if, over, InstanceLoop, Limit}
 use Rattle.icl_values.specs.Values.{Params}
-use Rattle.icl_frames.specs.Parts.{block_named, range_in}
-use Rattle.icl_frames.specs.Ranges.{declared}
-use Rattle.icl_frames.specs.declared.counts.Counts.{Counts}
-use Rattle.icl_frames.specs.FirstPass.{Frame, Request, parameters, with_binding, known_block, request, new_names, count_part, Passed, Added, look_at, with_added, pass_item, nothing_passed, pass_items, finish, Progress, Entered, enter_one, enter, with_block, nothing_entered, first_pass}
+use Rattle.icl_declarations.specs.Parts.{block_named, range_in}
+use Rattle.icl_declarations.specs.Ranges.{declared}
+use Rattle.icl_declarations.specs.declared.counts.Counts.{Counts}
+use Rattle.icl_frames.specs.FirstPass.{Frame, Request, parameters, with_binding, known_block, request, Passed, Added, look_at, with_added, pass_item, nothing_passed, pass_items, finish, Progress, Entered, enter_one, enter, with_block, nothing_entered, first_pass}
+use Rattle.icl_declarations.specs.Naming.{new_names}
+use Rattle.icl_declarations.specs.Counting.{count_part}
 use Rattle.icl_frames.specs.Preorder.{Declared, declared_by, children_of, AreOfChild, AreOfChildren, AreOfInstance, FramesArePreorder}
 use Rattle.icl_frames.proofs.Answering.{both, ok_is}
 use Rattle.icl_frames.proofs.Paired.{Paired}

@@ -12,11 +12,13 @@ use Rattle.ij_text.specs.declared.Which.TheVariants.{ScanBits, Muxes, Width}
 use Rattle.icl_syntax.specs.Values.{SeenRange, SeenWhat, APort, ARegister, AMux, AChild, AnAlias, SomeWords, AParameter, AnInterface, ALink, AnAttribute, SeenItem, SeenModule}
 use Rattle.icl_values.specs.Faults.{Answer, ◌>>=◌, refuse_if, each, over, DoubleName, Limit}
 use Rattle.icl_values.specs.Values.{Params}
-use Rattle.icl_frames.specs.declared.counts.Counts.{Counts}
-use Rattle.icl_frames.specs.declared.ranges.Bounds.{Bounds}
-use Rattle.icl_frames.specs.Ranges.{width, one_bit, few_enough, indices, declared}
-use Rattle.icl_frames.specs.Parts.{is_part, is_register, is_mux, is_signal, is_rival, is_taken, inner_names, range_in}
-use Rattle.icl_frames.specs.FirstPass.{with_name, distinct, new_names, request, count_part, Passed, bounds_of, Added, look_at, with_added, pass_item, nothing_passed, pass_items}
+use Rattle.icl_declarations.specs.declared.counts.Counts.{Counts}
+use Rattle.icl_declarations.specs.declared.ranges.Bounds.{Bounds}
+use Rattle.icl_declarations.specs.Ranges.{width, one_bit, few_enough, indices, declared}
+use Rattle.icl_declarations.specs.Parts.{is_part, is_register, is_mux, is_signal, is_rival, is_taken, inner_names, range_in}
+use Rattle.icl_declarations.specs.Naming.{with_name, distinct, new_names}
+use Rattle.icl_frames.specs.FirstPass.{request, Passed, bounds_of, Added, look_at, with_added, pass_item, nothing_passed, pass_items}
+use Rattle.icl_declarations.specs.Counting.{count_part}
 use Rattle.icl_frames.specs.Laws.{register_bits}
 use Rattle.icl_frames.proofs.Answering.{both, ok_is}
 use Rattle.icl_frames.proofs.Differing.{cases_in, none_in, different_one, all_one}

@@ -6,11 +6,12 @@ use Rattle.std.proofs.lemmas.List.Sums.{sum_by_push}
 use Rattle.ij_text.specs.declared.Which.TheVariants.{Cells, Instruments, Ports, PortBits}
 use Rattle.icl_syntax.specs.Values.{SeenItem, SeenModule}
 use Rattle.icl_values.specs.Faults.{refuse_if, over, Limit}
-use Rattle.icl_frames.specs.declared.counts.Counts.{Counts}
-use Rattle.icl_frames.specs.declared.ranges.Bounds.{Bounds}
-use Rattle.icl_frames.specs.Ranges.{width}
-use Rattle.icl_frames.specs.Parts.{port_that, is_data_in, is_data_out, is_data_port, is_instrument, block_named}
-use Rattle.icl_frames.specs.FirstPass.{Frame, Request, parameters, known_block, Passed, pass_items, parts_of, ports_over, has_wide_port, count_instrument, finish, Progress, Entered, enter_one, enter, with_block, nothing_entered, first_pass}
+use Rattle.icl_declarations.specs.declared.counts.Counts.{Counts}
+use Rattle.icl_declarations.specs.declared.ranges.Bounds.{Bounds}
+use Rattle.icl_declarations.specs.Ranges.{width}
+use Rattle.icl_declarations.specs.Parts.{port_that, is_data_in, is_data_out, is_data_port, is_instrument, block_named, parts_of}
+use Rattle.icl_frames.specs.FirstPass.{Frame, Request, parameters, known_block, Passed, pass_items, finish, Progress, Entered, enter_one, enter, with_block, nothing_entered, first_pass}
+use Rattle.icl_declarations.specs.Counting.{ports_over, has_wide_port, count_instrument}
 use Rattle.icl_frames.specs.Laws.{is_instrument_frame, IsFrame, bits_in, muxes_in, AreFew, FramesAreDeclared, FramesAreFew}
 use Rattle.icl_frames.proofs.Answering.{both, ok_is, over_all}
 use Rattle.icl_frames.proofs.Differing.{all_one}

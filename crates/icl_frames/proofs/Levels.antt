@@ -5,7 +5,7 @@ use Rattle.ij_text.specs.declared.Which.TheVariants.{Hierarchy, Cells}
 use Rattle.icl_syntax.specs.Values.{SeenModule}
 use Rattle.icl_values.specs.Faults.{Answer, Fault, Fails, ◌>>=◌, refuse_if, over, Limit}
 use Rattle.icl_values.specs.Values.{Params}
-use Rattle.icl_frames.specs.declared.counts.Counts.{Counts}
+use Rattle.icl_declarations.specs.declared.counts.Counts.{Counts}
 use Rattle.icl_frames.specs.FirstPass.{Request, Passed, Progress, Entered, parameters, pass_items, finish, enter_one, enter}
 use Rattle.icl_frames.specs.SeenFrames.{Stepped, with_cell}
 

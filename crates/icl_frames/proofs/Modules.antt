@@ -7,7 +7,7 @@ use Rattle.icl_syntax.specs.Values.{SeenModule}
 use Rattle.icl_syntax.specs.Views.{seen_module}
 use Rattle.icl_values.specs.Faults.{over}
 use Rattle.icl_values.proofs.Each.{over_goes}
-use Rattle.icl_frames.specs.Parts.{block_named}
+use Rattle.icl_declarations.specs.Parts.{block_named}
 use Rattle.icl_frames.specs.FirstPass.{with_block}
 use Rattle.icl_frames.proofs.Passing.{taken_more}
 

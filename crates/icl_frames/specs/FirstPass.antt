@@ -1,18 +1,20 @@
 -- The first pass of elaboration (IEEE 1687-2014, ICL: Instance, Parameter): which cells there are, in preorder, with their
 -- parameters and the ranges of what they declare; or the first fault. A cell is finished before its first child is entered.
-use Rattle.std.specs.Prelude.{ℕ, zero, suc, ◌+◌, nat_lt, nat_le, Bool, not, ◌&&◌, cond, List, [], ◌∷◌, ◌++◌, filter, zip, count_by, length, Option, Some, None, is_some, Ok, Err}
+use Rattle.std.specs.Prelude.{ℕ, zero, suc, ◌+◌, nat_le, Bool, not, ◌&&◌, cond, List, [], ◌∷◌, ◌++◌, length, Option, Some, None, is_some, Ok, Err}
 use Rattle.std.specs.List.{list_any}
 use Rattle.std.specs.Str.{bytes_eq}
 use Rattle.ij_text.specs.declared.Place.{Place}
-use Rattle.ij_text.specs.declared.Which.TheVariants.{Hierarchy, Cells, ScanBits, Muxes, Instruments, Ports, PortBits}
-use Rattle.icl_syntax.specs.Values.{SeenExpr, SeenBind, ABoundPort, ABoundParameter, ABoundAttribute, SeenWhat, ARegister, AMux, AChild, AParameter, SeenItem, SeenModule}
+use Rattle.ij_text.specs.declared.Which.TheVariants.{Hierarchy, Cells}
+use Rattle.icl_syntax.specs.Values.{SeenExpr, SeenBind, ABoundPort, ABoundParameter, ABoundAttribute, SeenWhat, AChild, AParameter, SeenItem, SeenModule}
 use Rattle.icl_values.specs.Faults.{Answer, ◌>>=◌, refuse_if, over, NoModule, NoName, DoubleName, InstanceLoop, Limit}
 use Rattle.icl_values.specs.Values.{Worth, Params, worth_of, with_worth}
 use Rattle.icl_values.specs.Expressions.{evaluate}
-use Rattle.icl_frames.specs.declared.counts.Counts.{Counts}
-use Rattle.icl_frames.specs.Parts.{is_part, is_taken, inner_names, range_in, block_named, is_open, is_instrument, is_data_port, port_that, is_data_in, is_data_out}
-use Rattle.icl_frames.specs.declared.ranges.Bounds.{Bounds}
-use Rattle.icl_frames.specs.Ranges.{width, declared}
+use Rattle.icl_declarations.specs.declared.counts.Counts.{Counts}
+use Rattle.icl_declarations.specs.Parts.{is_part, range_in, block_named, is_open, is_instrument}
+use Rattle.icl_declarations.specs.declared.ranges.Bounds.{Bounds}
+use Rattle.icl_declarations.specs.Ranges.{declared}
+use Rattle.icl_declarations.specs.Naming.{new_names}
+use Rattle.icl_declarations.specs.Counting.{count_part, count_instrument}
 
 -- a cell: an instance of a module, with its parameters, and the bounds of each of its parts
 pub record Frame : Type 0 where
@@ -46,19 +48,6 @@ with_parameter given ps item what = Ok ps
 abbrev pub parameters : Params → SeenModule → Answer Params
 parameters given block = over (λ ps item. with_parameter given ps item item.what) [] block.items
 
--- ---- names
-
-abbrev pub with_name : Place → List (List ℕ) → List ℕ → Answer (List (List ℕ))
-with_name at names name = refuse_if (list_any (bytes_eq name) names) (DoubleName at name) >>= λ u. Ok (names ++ name ∷ [])
-
--- the names differ among themselves
-abbrev pub distinct : Place → List (List ℕ) → Answer (Unit {0})
-distinct at names = over (with_name at) [] names >>= λ all. Ok tt
-
--- the item's own name, then those in it
-abbrev pub new_names : List SeenItem → SeenItem → Answer (Unit {0})
-new_names before item = refuse_if (is_taken before item) (DoubleName item.at item.name) >>= λ u. distinct item.at (inner_names item.what)
-
 -- ---- instances
 
 abbrev pub with_binding : Params → SeenModule → Params → SeenBind → Answer Params
@@ -82,13 +71,6 @@ request blocks above ps item (AChild module' binds) = do
   given ← over (with_binding ps block) [] binds
   Ok (record { name = item.name; block = block; given = given } ∷ [])
 request blocks above ps item what = Ok []
-
--- ---- counts
-
-abbrev pub count_part : Counts → Bounds → SeenWhat → Answer Counts
-count_part c b (ARegister range props) = refuse_if (nat_lt 4096 (c.bits + width b)) (Limit ScanBits 4096) >>= λ u. Ok (record c { bits = c.bits + width b })
-count_part c b (AMux select rows) = refuse_if (nat_le 1024 c.muxes) (Limit Muxes 1024) >>= λ u. Ok (record c { muxes = c.muxes + 1 })
-count_part c b what = Ok c
 
 -- ---- the items of a cell
 
@@ -130,25 +112,6 @@ abbrev pub pass_items : List SeenModule → List (List ℕ) → Params → Count
 pass_items blocks above ps c block = over (pass_item blocks above ps) (nothing_passed c) block.items
 
 -- ---- instruments
-
--- the parts of a module
-abbrev pub parts_of : SeenModule → List SeenItem
-parts_of block = filter (λ item. is_part item.what) block.items
-
-abbrev pub ports_over : ℕ → (SeenWhat → Bool) → SeenModule → Bool
-ports_over n test block = nat_lt n (count_by (λ item. test item.what) block.items)
-
--- a data port of more than 64 bits
-abbrev pub has_wide_port : SeenModule → List Bounds → Bool
-has_wide_port block bounds = list_any (λ part. is_data_port part.0.what && nat_lt 64 (width part.1)) (zip (parts_of block) bounds)
-
-abbrev pub count_instrument : SeenModule → List Bounds → Counts → Answer Counts
-count_instrument block bounds c = do
-  all ← refuse_if (nat_le 256 c.instruments) (Limit Instruments 256)
-  ins ← refuse_if (ports_over 16 (port_that is_data_in) block) (Limit Ports 16)
-  outs ← refuse_if (ports_over 16 (port_that is_data_out) block) (Limit Ports 16)
-  wide ← refuse_if (has_wide_port block bounds) (Limit PortBits 64)
-  Ok (record c { instruments = c.instruments + 1 })
 
 -- the top is no instrument
 abbrev pub finish : Option ℕ → SeenModule → Passed → Answer Counts

@@ -5,10 +5,10 @@ use Rattle.std.specs.List.{AllByRecursion, enumerate_from}
 use Rattle.ij_bits.specs.Different.{AreDifferent}
 use Rattle.icl_syntax.specs.Values.{SeenItem, SeenModule}
 use Rattle.icl_values.specs.Faults.{each}
-use Rattle.icl_frames.specs.declared.ranges.Bounds.{Bounds}
-use Rattle.icl_frames.specs.Ranges.{width, declared}
-use Rattle.icl_frames.specs.Parts.{is_register, is_mux, is_signal, port_that, is_data_in, is_data_out, is_data_port, is_instrument, inner_names, range_in}
-use Rattle.icl_frames.specs.FirstPass.{Frame, parts_of, first_pass}
+use Rattle.icl_declarations.specs.declared.ranges.Bounds.{Bounds}
+use Rattle.icl_declarations.specs.Ranges.{width, declared}
+use Rattle.icl_declarations.specs.Parts.{is_register, is_mux, is_signal, port_that, is_data_in, is_data_out, is_data_port, is_instrument, inner_names, range_in, parts_of}
+use Rattle.icl_frames.specs.FirstPass.{Frame, first_pass}
 use Rattle.icl_frames.specs.Preorder.{children_of}
 
 -- ---- the tree

@@ -1,11 +1,11 @@
 -- The cells of an accepted design are its instances in preorder (IEEE 1687-2014, ICL: Instance): each one before its children, and
 -- these one after another, as the module's text has them. Each has the parameters that its module evaluates to, with those
 -- that its instance binds, which are evaluated in the parent.
-use Rattle.std.specs.Prelude.{◌≡◌, ◌+◌, ℕ, zero, suc, List, [], ◌∷◌, ◌++◌, map, filter_map, length, Option, Some, None, Ok}
+use Rattle.std.specs.Prelude.{◌≡◌, ◌+◌, ℕ, zero, suc, List, [], ◌∷◌, ◌++◌, filter_map, length, Option, Some, None, Ok}
 use Rattle.icl_syntax.specs.Values.{SeenBind, SeenWhat, AChild, SeenItem, SeenModule}
 use Rattle.icl_values.specs.Faults.{over}
 use Rattle.icl_values.specs.Values.{Params}
-use Rattle.icl_frames.specs.Parts.{block_named}
+use Rattle.icl_declarations.specs.Parts.{block_named}
 use Rattle.icl_frames.specs.FirstPass.{Frame, parameters, with_binding, first_pass}
 
 -- an instance that a module declares

@@ -9,12 +9,10 @@ ghost use Rattle.icl_frames.specs.FirstPass.{with_block, parameters, pass_items,
 ghost use Rattle.icl_frames.specs.SeenFrames.{names_of, seen_passed, seen_request, seen_frame, seen_entered, seen_progress, seen_stepped, with_cell};
 
 use crate::ElabFault;
-use crate::counts::{Counts, count_instrument, is_instrument};
 use crate::frames::{Passed, Request, pass_items};
 use crate::instances::known_block;
 use crate::params::parameters;
-use crate::ranges::Bounds;
-use crate::scope::Scope;
+use icl_declarations::{Bounds, Counts, Scope, count_instrument, is_instrument};
 use icl_syntax::Module;
 use icl_values::ParamTable;
 use ij_text::{Which, name_of};

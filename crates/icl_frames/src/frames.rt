@@ -7,19 +7,15 @@ ghost use Rattle.icl_syntax.specs.Views.{seen_what, seen_item, seen_module, seen
 ghost use Rattle.icl_values.specs.Faults.{Gives, over};
 ghost use Rattle.icl_values.specs.Tables.{seen_table};
 ghost use Rattle.icl_frames.specs.FirstPass.{request, bounds_of, look_at, with_added, pass_item, nothing_passed};
-ghost use Rattle.icl_frames.specs.Parts.{range_in};
-ghost use Rattle.icl_frames.specs.Ranges.{declared};
+ghost use Rattle.icl_declarations.specs.Parts.{range_in};
+ghost use Rattle.icl_declarations.specs.Ranges.{declared};
 ghost use Rattle.icl_values.specs.Expressions.{same};
-ghost use Rattle.icl_frames.specs.Taken.{AreTaken};
+ghost use Rattle.icl_declarations.specs.Taken.{AreTaken};
 ghost use Rattle.icl_frames.specs.SeenFrames.{seen_request, seen_wanted, names_of, seen_added, seen_passed};
 
 use crate::ElabFault;
-use crate::counts::{Counts, count_part};
 use crate::instances::{bound_parameters, known_block};
-use crate::kinds::is_part;
-use crate::naming::new_names;
-use crate::ranges::{Bounds, declared};
-use crate::taken::Taken;
+use icl_declarations::{Bounds, Counts, Taken, count_part, declared, is_part, new_names};
 use icl_syntax::{Bind, Item, Module, Range, What};
 use icl_values::ParamTable;
 use ij_text::{Name, Place};

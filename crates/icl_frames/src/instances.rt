@@ -8,7 +8,7 @@ ghost use Rattle.icl_syntax.specs.Values.{ABoundParameter};
 ghost use Rattle.icl_syntax.specs.Views.{seen_expr, seen_what, seen_item, seen_bind, seen_module};
 ghost use Rattle.icl_values.specs.Faults.{Gives, over};
 ghost use Rattle.icl_values.specs.Tables.{seen_table};
-ghost use Rattle.icl_frames.specs.Parts.{block_named, is_parameter_that, has_parameter, is_open};
+ghost use Rattle.icl_declarations.specs.Parts.{block_named, is_parameter_that, has_parameter, is_open};
 ghost use Rattle.icl_frames.specs.FirstPass.{known_block, with_binding};
 
 use crate::ElabFault;

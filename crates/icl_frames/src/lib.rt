@@ -3,32 +3,23 @@
 #![tactic(auto)]
 
 mod cells;
-mod counts;
 mod frames;
 mod instances;
-mod kinds;
 mod laws;
-mod naming;
 mod params;
-mod ranges;
-mod scope;
-mod taken;
 
 pub use cells::{Frame, first_pass};
-pub use counts::{Counts, count_instrument, count_part, is_data_port, is_instrument};
 pub use frames::{Added, Passed, Request, pass_items};
+pub use icl_declarations::{
+    Bounds, Counts, Scope, Stretch, Taken, count_instrument, count_part, declared, indices,
+    is_child, is_data_in, is_data_out, is_data_port, is_enum, is_input, is_instrument,
+    is_interface, is_link, is_mux, is_part, is_register, is_scan_in, is_scan_out, is_signal,
+    named_in, new_names, width,
+};
 pub use icl_values::ElabFault;
 pub use instances::{block_named, bound_parameters, is_open, known_block};
-pub use kinds::{
-    is_child, is_data_in, is_data_out, is_enum, is_input, is_interface, is_link, is_mux, is_part,
-    is_register, is_scan_in, is_scan_out, is_signal,
-};
 pub use laws::{
     designs_are_written, frames_are_preorder, frames_are_tree, frames_are_within_limits,
     frames_are_written,
 };
-pub use naming::new_names;
 pub use params::parameters;
-pub use ranges::{Bounds, Stretch, declared, indices, named_in, width};
-pub use scope::Scope;
-pub use taken::Taken;

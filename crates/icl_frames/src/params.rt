@@ -5,7 +5,7 @@ ghost use Rattle.icl_syntax.specs.Views.{seen_expr, seen_what, seen_item, seen_b
 ghost use Rattle.icl_values.specs.Faults.{Gives, over};
 ghost use Rattle.icl_values.specs.Values.{seen_value};
 ghost use Rattle.icl_values.specs.Tables.{seen_table};
-ghost use Rattle.icl_frames.specs.Parts.{has_parameter, is_parameter_that, is_open};
+ghost use Rattle.icl_declarations.specs.Parts.{has_parameter, is_parameter_that, is_open};
 ghost use Rattle.icl_frames.specs.FirstPass.{bound_worth, worth_in, with_parameter, with_binding};
 
 use crate::ElabFault;

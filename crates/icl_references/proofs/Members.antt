@@ -3,10 +3,10 @@ use Rattle.std.proofs.Common.{◌≡◌, ◌+◌, ◌<◌, ℕ, zero, suc, Bool,
 use Rattle.std.specs.Prelude.{◌&&◌, filter, find}
 use Rattle.std.specs.Str.{bytes_eq}
 use Rattle.icl_syntax.specs.Values.{SeenItem}
-use Rattle.icl_frames.specs.declared.ranges.Bounds.{Bounds}
-use Rattle.icl_frames.specs.Parts.{is_part, is_signal}
-use Rattle.icl_frames.specs.Ranges.{one_bit}
-use Rattle.icl_frames.specs.Scopes.{part_from}
+use Rattle.icl_declarations.specs.declared.ranges.Bounds.{Bounds}
+use Rattle.icl_declarations.specs.Parts.{is_part, is_signal}
+use Rattle.icl_declarations.specs.Ranges.{one_bit}
+use Rattle.icl_declarations.specs.Scopes.{part_from}
 use Rattle.icl_references.specs.Names.{Member, members_from}
 
 abbrev pub parts_in : List SeenItem → List SeenItem

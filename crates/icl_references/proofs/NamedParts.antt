@@ -7,8 +7,8 @@ use Rattle.icl_syntax.specs.Values.{SeenItem}
 use Rattle.icl_syntax.specs.Views.{seen_item}
 use Rattle.icl_values.specs.Faults.{NoName}
 use Rattle.icl_frames.specs.FirstPass.{Frame}
-use Rattle.icl_frames.specs.Parts.{is_signal}
-use Rattle.icl_frames.specs.Scopes.{entry_of}
+use Rattle.icl_declarations.specs.Parts.{is_signal}
+use Rattle.icl_declarations.specs.Scopes.{entry_of}
 use Rattle.icl_frames.specs.SeenFrames.{seen_frame}
 use Rattle.icl_references.specs.declared.tables.Member.{Member as MemberAt}
 use Rattle.icl_references.specs.declared.tables.CellTable.{CellTable}

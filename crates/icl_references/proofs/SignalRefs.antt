@@ -8,9 +8,9 @@ use Rattle.icl_values.specs.Values.{OpenBits}
 use Rattle.icl_values.specs.Expressions.{evaluate, place_in}
 use Rattle.icl_values.specs.Widths.{joined}
 use Rattle.icl_references.specs.declared.hier.Ref.{Ref}
-use Rattle.icl_frames.specs.Parts.{is_register, is_data_port}
+use Rattle.icl_declarations.specs.Parts.{is_register, is_data_port}
 use Rattle.std.proofs.lemmas.Bool.{eqb-true}
-use Rattle.icl_frames.specs.Ranges.{width, named_in}
+use Rattle.icl_declarations.specs.Ranges.{width, named_in}
 use Rattle.icl_frames.specs.FirstPass.{Frame}
 use Rattle.icl_references.specs.Names.{Here, path_from}
 use Rattle.icl_references.specs.Signals.{bit_of, bits_of, is_scan_source, is_data_source, scan_meant, scan_signal, scan_path, scan_named, data_signal, data_signals, select_signals, alias_signals, data_meant, data_path, alias_meant, alias_path, constants, side_by_side, as_wide, lone_width, number_bits}

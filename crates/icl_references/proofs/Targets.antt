@@ -8,11 +8,11 @@ use Rattle.ij_text.specs.declared.Place.{Place}
 use Rattle.icl_syntax.specs.Values.{SeenRange, SeenWhat, APort, ARegister, AMux, AChild, AnAlias, SomeWords, AParameter, AnInterface, ALink, AnAttribute, SeenItem}
 use Rattle.icl_values.specs.Faults.{Answer, BadRange}
 use Rattle.icl_values.specs.Values.{Params}
-use Rattle.icl_frames.specs.declared.ranges.Bounds.{Bounds}
-use Rattle.icl_frames.specs.declared.ranges.Stretch.{Stretch}
+use Rattle.icl_declarations.specs.declared.ranges.Bounds.{Bounds}
+use Rattle.icl_declarations.specs.declared.ranges.Stretch.{Stretch}
 use Rattle.icl_references.specs.declared.hier.Ref.{Ref}
 use Rattle.icl_references.specs.declared.hier.Ref.TheVariants.{Fixed, Bit}
-use Rattle.icl_frames.specs.Ranges.{width, has_index, position_of, runs_along, stretch_of, whole, indices, named_in, one_bit}
+use Rattle.icl_declarations.specs.Ranges.{width, has_index, position_of, runs_along, stretch_of, whole, indices, named_in, one_bit}
 use Rattle.icl_frames.specs.FirstPass.{Frame}
 use Rattle.icl_references.specs.Names.{Here, here_of, Member, members_from, members, member_that, known_member, named, child_cell, known_cell, inside, Target, path_from}
 use Rattle.icl_references.specs.Signals.{bit_of, bits_of}

@@ -11,10 +11,10 @@ use Rattle.icl_values.specs.Expressions.{evaluate, place_in}
 use Rattle.icl_values.specs.Widths.{free_in, sized_in, joined}
 use Rattle.icl_references.specs.declared.hier.Ref.{Ref}
 use Rattle.icl_references.specs.declared.hier.Ref.TheVariants.{Fixed, Bit}
-use Rattle.icl_frames.specs.Parts.{is_scan_in, is_scan_out, is_data_in, is_data_out, port_that, is_register, is_mux, is_data_port}
-use Rattle.icl_frames.specs.declared.ranges.Bounds.{Bounds}
-use Rattle.icl_frames.specs.declared.ranges.Stretch.{Stretch}
-use Rattle.icl_frames.specs.Ranges.{width, positions, indices, named_in}
+use Rattle.icl_declarations.specs.Parts.{is_scan_in, is_scan_out, is_data_in, is_data_out, port_that, is_register, is_mux, is_data_port}
+use Rattle.icl_declarations.specs.declared.ranges.Bounds.{Bounds}
+use Rattle.icl_declarations.specs.declared.ranges.Stretch.{Stretch}
+use Rattle.icl_declarations.specs.Ranges.{width, positions, indices, named_in}
 use Rattle.icl_frames.specs.FirstPass.{Frame}
 use Rattle.icl_references.specs.Names.{Here, Target, path_from}
 

@@ -5,9 +5,9 @@ use Rattle.std.specs.Str.{bytes_eq}
 use Rattle.std.specs.Option.{option_map}
 use Rattle.icl_syntax.specs.Views.{seen_item}
 use Rattle.icl_frames.specs.FirstPass.{Frame}
-use Rattle.icl_frames.specs.Scopes.{IsScopeOf, entry_of, or_else}
+use Rattle.icl_declarations.specs.Scopes.{IsScopeOf, entry_of, or_else}
 use Rattle.icl_frames.specs.SeenFrames.{seen_frame}
-use Rattle.icl_frames.specs.declared.scope.Scope.{Scope}
+use Rattle.icl_declarations.specs.declared.scope.Scope.{Scope}
 use Rattle.icl_references.specs.declared.tables.Member.{Member as MemberAt}
 use Rattle.icl_references.specs.declared.tables.CellTable.{CellTable}
 use Rattle.icl_references.specs.declared.tables.Tables.{Tables}

@@ -1,6 +1,6 @@
 use Rattle.std.proofs.Common.{◌≡◌, ◌++◌, map, drop}
 use Rattle.icl_elab.specs.Placing.{ports_from, seen_cell_ports}
-use Rattle.icl_elab.specs.SeenParts.{seen_pass}
+use Rattle.icl_elab.specs.SeenCells.{seen_pass}
 use Rattle.icl_references.specs.Tables.{frames_of}
 use Rattle.icl_elab.proofs.hierarchy.all_ports.Given as goal
 

@@ -1,7 +1,7 @@
 use Rattle.std.proofs.Common.{◌∙◌, sym, ap}
 use Rattle.icl_elab.specs.Hierarchy.{bindings_of}
 use Rattle.icl_elab.specs.Placing.{home_in}
-use Rattle.icl_elab.specs.SeenParts.{seen_pass}
+use Rattle.icl_elab.specs.SeenCells.{seen_pass}
 use Rattle.icl_elab.proofs.Homes.{bound_nowhere, bound_there}
 use Rattle.icl_elab.proofs.hierarchy.bound_in_parent.Goals as goal
 

@@ -1,7 +1,7 @@
 use Rattle.std.proofs.Common.{◌∙◌, List, ap}
 use Rattle.icl_elab.specs.declared.pass.CellParts.{CellParts}
 use Rattle.icl_elab.specs.Placing.{made, ports_from}
-use Rattle.icl_elab.specs.SeenParts.{seen_pass}
+use Rattle.icl_elab.specs.SeenCells.{seen_pass}
 use Rattle.icl_references.specs.Tables.{frames_of}
 use Rattle.icl_elab.proofs.Placement.{cells_are}
 use Rattle.icl_elab.proofs.hierarchy.put_together.Goals as goal

@@ -4,8 +4,8 @@ use Rattle.std.proofs.lemmas.Result.{err_from_is_err_and}
 use Rattle.icl_values.specs.Faults.{seen_fault}
 use Rattle.icl_values.proofs.Each.{round_goes, round_fails}
 use Rattle.icl_frames.proofs.Passing.{taken_more}
-use Rattle.icl_elab.specs.SecondPass.{Found, part_found}
-use Rattle.icl_elab.specs.SeenParts.{PartHead, head_of_member, head_of_placed, seen_placed}
+use Rattle.icl_parts.specs.FoundParts.{Found, part_found}
+use Rattle.icl_elab.specs.SeenCells.{PartHead, head_of_member, head_of_placed, seen_placed}
 use Rattle.icl_references.specs.Tables.{frames_of, here_in, seen_member}
 use Rattle.icl_elab.proofs.pass.parts_found.Goals as goal
 

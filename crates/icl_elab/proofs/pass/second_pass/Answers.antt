@@ -4,7 +4,7 @@ use Rattle.std.proofs.lemmas.Result.{err_from_is_err_and}
 use Rattle.icl_values.specs.Faults.{seen_fault}
 use Rattle.icl_values.proofs.Each.{more, more_next, more_fails, more_end, fails_along}
 use Rattle.icl_elab.specs.SecondPass.{cell_found, cells_of, second_pass}
-use Rattle.icl_elab.specs.SeenParts.{PartHead, heads_of_cell, heads_of_frame, seen_cell_parts, seen_pass}
+use Rattle.icl_elab.specs.SeenCells.{PartHead, heads_of_cell, heads_of_frame, seen_cell_parts, seen_pass}
 use Rattle.icl_references.specs.Tables.{frames_of, here_at, no_frame}
 use Rattle.icl_elab.proofs.Cells.{cells_next, cells_long, here_is}
 use Rattle.icl_elab.proofs.pass.second_pass.Goals as goal

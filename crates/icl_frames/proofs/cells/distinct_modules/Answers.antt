@@ -2,8 +2,8 @@ use Rattle.std.proofs.Common.{◌≡◌, ◌∙◌, ap, sym, map, take, false, L
 use Rattle.std.specs.Prelude.{is_some, ◌||◌}
 use Rattle.std.specs.Str.{bytes_eq}
 use Rattle.icl_syntax.specs.Views.{seen_module}
-use Rattle.icl_frames.specs.Parts.{block_named}
-use Rattle.icl_frames.specs.Taken.{has_entry}
+use Rattle.icl_declarations.specs.Parts.{block_named}
+use Rattle.icl_declarations.specs.Taken.{has_entry}
 use Rattle.icl_frames.proofs.Modules.{name_passed, module_passed}
 use Rattle.icl_frames.proofs.cells.distinct_modules.Goals as goal
 

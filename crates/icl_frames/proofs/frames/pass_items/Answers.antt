@@ -6,7 +6,7 @@ use Rattle.icl_values.specs.Faults.{seen_fault, over, Answer}
 use Rattle.icl_values.specs.Tables.{seen_table}
 use Rattle.icl_values.proofs.Each.{over_goes, over_stops}
 use Rattle.icl_frames.specs.FirstPass.{Passed, pass_item}
-use Rattle.icl_frames.specs.Taken.{AreTaken}
+use Rattle.icl_declarations.specs.Taken.{AreTaken}
 use Rattle.icl_frames.specs.SeenFrames.{names_of, seen_passed}
 use Rattle.icl_frames.proofs.Passing.{taken_more}
 use Rattle.icl_frames.proofs.frames.pass_items.Goals as goal

@@ -1,0 +1,2 @@
+pub mod ScopeTables
+pub mod InnerNames

@@ -1,0 +1,142 @@
+// Kinds of ports and items.
+ghost use Rattle.std.specs.Prelude.{◌≡◌};
+ghost use Rattle.icl_syntax.specs.Views.{seen_what, seen_prop, seen_list};
+ghost use Rattle.icl_declarations.specs.Parts.{is_scan_in, is_scan_out, is_data_in, is_data_out, is_control_in, is_input, is_register, is_mux, is_child, is_signal, is_interface, is_link, is_enum, is_parameter, is_part, is_rival, is_source, has_source, is_data_port, is_not_of_instrument, port_that};
+
+use icl_syntax::{PortKind, Prop, What};
+
+/// A `ScanInPort`.
+pub fn is_scan_in(kind: PortKind) -> bool
+    ensures { result ≡ is_scan_in kind }
+{
+    matches!(kind, PortKind::ScanInPort)
+}
+
+/// A `ScanOutPort`.
+pub fn is_scan_out(kind: PortKind) -> bool
+    ensures { result ≡ is_scan_out kind }
+{
+    matches!(kind, PortKind::ScanOutPort)
+}
+
+/// A `DataInPort`.
+pub fn is_data_in(kind: PortKind) -> bool
+    ensures { result ≡ is_data_in kind }
+{
+    matches!(kind, PortKind::DataInPort)
+}
+
+/// A `DataOutPort`.
+pub fn is_data_out(kind: PortKind) -> bool
+    ensures { result ≡ is_data_out kind }
+{
+    matches!(kind, PortKind::DataOutPort)
+}
+
+fn is_control_in(kind: PortKind) -> bool
+    ensures { result ≡ is_control_in kind }
+{
+    match kind {
+        PortKind::SelectPort
+        | PortKind::CaptureEnPort
+        | PortKind::ShiftEnPort
+        | PortKind::UpdateEnPort
+        | PortKind::ResetPort
+        | PortKind::TCKPort
+        | PortKind::TMSPort
+        | PortKind::TRSTPort
+        | PortKind::ClockPort => true,
+        _ => false,
+    }
+}
+
+/// An input port.
+pub fn is_input(kind: PortKind) -> bool
+    ensures { result ≡ is_input kind }
+{
+    is_scan_in(kind) || is_data_in(kind) || is_control_in(kind)
+}
+
+/// A `ScanRegister`.
+pub fn is_register(what: &What) -> bool
+    ensures { result ≡ is_register (seen_what what.now) }
+{
+    matches!(what, What::Register { .. })
+}
+
+/// A `ScanMux`.
+pub fn is_mux(what: &What) -> bool
+    ensures { result ≡ is_mux (seen_what what.now) }
+{
+    matches!(what, What::Mux { .. })
+}
+
+/// An `Instance`.
+pub fn is_child(what: &What) -> bool
+    ensures { result ≡ is_child (seen_what what.now) }
+{
+    matches!(what, What::Child { .. })
+}
+
+/// What a signal may name.
+pub fn is_signal(what: &What) -> bool
+    ensures { result ≡ is_signal (seen_what what.now) }
+{
+    match what {
+        What::Port { .. }
+        | What::Register { .. }
+        | What::Mux { .. }
+        | What::Child { .. }
+        | What::Alias { .. } => true,
+        _ => false,
+    }
+}
+
+/// A `ScanInterface`.
+pub fn is_interface(what: &What) -> bool
+    ensures { result ≡ is_interface (seen_what what.now) }
+{
+    matches!(what, What::Interface { .. })
+}
+
+/// An `AccessLink`.
+pub fn is_link(what: &What) -> bool
+    ensures { result ≡ is_link (seen_what what.now) }
+{
+    matches!(what, What::Link { .. })
+}
+
+/// An `Enum`.
+pub fn is_enum(what: &What) -> bool
+    ensures { result ≡ is_enum (seen_what what.now) }
+{
+    matches!(what, What::Words { .. })
+}
+
+/// A `Parameter`, or a `LocalParameter`.
+pub fn is_parameter(what: &What) -> bool
+    ensures { result ≡ is_parameter (seen_what what.now) }
+{
+    matches!(what, What::Parameter { .. })
+}
+
+/// A part of a cell.
+pub fn is_part(what: &What) -> bool
+    ensures { result ≡ is_part (seen_what what.now) }
+{
+    is_signal(what) || is_interface(what) || is_link(what)
+}
+
+/// Whether the name of an item differs from that of another one.
+pub fn is_rival(what: &What, other: &What) -> bool
+    ensures { result ≡ is_rival (seen_what what.now) (seen_what other.now) }
+{
+    match what {
+        What::Interface { .. } => is_interface(other),
+        What::Link { .. } => is_link(other),
+        What::Words { .. } => is_enum(other),
+        What::Parameter { .. } => is_parameter(other),
+        What::Attribute { .. } => false,
+        _ => is_signal(other),
+    }
+}

@@ -1,0 +1,68 @@
+// Names that differ.
+ghost use Rattle.std.specs.Prelude.{◌≡◌, List, [], map};
+ghost use Rattle.icl_syntax.specs.Values.{SeenItem};
+ghost use Rattle.icl_syntax.specs.Views.{seen_item, seen_what};
+ghost use Rattle.icl_values.specs.Faults.{Gives};
+ghost use Rattle.icl_values.specs.Expressions.{same};
+ghost use Rattle.icl_declarations.specs.Parts.{inner_names};
+ghost use Rattle.icl_declarations.specs.Naming.{distinct, new_names};
+ghost use Rattle.icl_declarations.specs.Taken.{AreTaken};
+
+use crate::scope::Scope;
+use crate::taken::Taken;
+use icl_syntax::{EnumWord, Item, LinkInstr, What};
+use icl_values::ElabFault;
+use ij_text::{Place, name_of};
+use std::alloc::Global;
+
+/// The words of an enumeration, which differ among themselves.
+fn distinct_words(alloc: Global, at: Place, words: &[EnumWord]) -> Result<(), ElabFault>
+    ensures { Gives same result (distinct at (map (λ w. w.name.items) words.now)) }
+{
+    let mut seen = Scope::new(alloc);
+    for word in words {
+        if seen.has(word.name.as_slice()) {
+            let name = name_of(alloc, word.name.as_slice())?;
+            return Err(ElabFault::DoubleName { at, name });
+        }
+        seen.note(alloc, word.name.as_slice())?;
+    }
+    Ok(())
+}
+
+/// The instructions of a link, which differ among themselves.
+fn distinct_instrs(alloc: Global, at: Place, instrs: &[LinkInstr]) -> Result<(), ElabFault>
+    ensures { Gives same result (distinct at (map (λ i. i.name.items) instrs.now)) }
+{
+    let mut seen = Scope::new(alloc);
+    for instr in instrs {
+        if seen.has(instr.name.as_slice()) {
+            let name = name_of(alloc, instr.name.as_slice())?;
+            return Err(ElabFault::DoubleName { at, name });
+        }
+        seen.note(alloc, instr.name.as_slice())?;
+    }
+    Ok(())
+}
+
+/// The names in an item, which differ among themselves.
+fn distinct_inside(alloc: Global, item: &Item) -> Result<(), ElabFault>
+    ensures { Gives same result (distinct item.now.at (inner_names (seen_what item.now.what))) }
+{
+    match &item.what {
+        What::Words { words } => distinct_words(alloc, item.at, words.as_slice()),
+        What::Link { instrs, .. } => distinct_instrs(alloc, item.at, instrs.as_slice()),
+        _ => Ok(()),
+    }
+}
+
+/// The name of an item, which isn't taken, and those in it.
+pub fn new_names(alloc: Global, taken: &Taken, item: &Item) -> Result<(), ElabFault>
+    ensures { (items : List SeenItem) → AreTaken taken.now items → Gives same result (new_names items (seen_item item.now)) }
+{
+    if taken.has(item) {
+        let name = name_of(alloc, item.name.as_slice())?;
+        return Err(ElabFault::DoubleName { at: item.at, name });
+    }
+    distinct_inside(alloc, item)
+}

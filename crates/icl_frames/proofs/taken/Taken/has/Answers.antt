@@ -1,5 +1,0 @@
-use Rattle.icl_frames.proofs.InnerNames.{none}
-use Rattle.icl_frames.proofs.taken.Taken.has.Goals as goal
-
-pub returns-in-Attribute : goal.returns-in-Attribute
-returns-in-Attribute c items taken = rw c.in-Attribute.is (none items)

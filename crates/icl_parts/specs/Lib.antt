@@ -1,0 +1,4 @@
+pub mod Bindings
+pub mod FoundParts
+pub mod Marks
+pub mod SeenParts

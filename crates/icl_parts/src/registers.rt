@@ -1,0 +1,138 @@
+// What registers are.
+ghost use Rattle.std.specs.Prelude.{◌≡◌, map};
+ghost use Rattle.icl_syntax.specs.Views.{seen_prop};
+ghost use Rattle.icl_values.specs.Faults.{Gives, over};
+ghost use Rattle.icl_parts.specs.FoundParts.{nothing_said, register_prop};
+ghost use Rattle.icl_parts.specs.SeenParts.{register_answer, seen_resolved, seen_said};
+ghost use Rattle.icl_references.specs.Tables.{IsHere, frames_of, here_in, seen_member};
+
+use crate::ports::Resolved;
+use crate::words::words_named;
+use icl_references::{Body, Member, Ref, Tables, data_signals, scan_signal, width_of};
+use icl_syntax::Prop;
+use icl_values::{ElabFault, value_in};
+use ij_bits::{List, Tern};
+use ij_text::Name;
+use std::alloc::Global;
+
+/// What the properties of a register say.
+#[derive(Drop)]
+pub(crate) struct RegisterParts {
+    pub scan: Option<Ref>,
+    pub capture: Option<List<Ref>>,
+    pub reset: Option<Tern>,
+    pub words: List<(Name, Tern)>,
+}
+
+/// What a register's properties say, with one more.
+#[tactic(auto, unfolding(crate::specs::FoundParts::register_prop))]
+fn register_prop(
+    alloc: Global,
+    tables: &Tables,
+    here: u32,
+    m: &Member,
+    said: RegisterParts,
+    prop: &Prop,
+) -> Result<RegisterParts, ElabFault>
+    requires { IsHere tables.now here }
+    ensures { Gives (seen_said (frames_of tables.now) (here_in tables.now here)) result (register_prop (frames_of tables.now) (here_in tables.now here) (seen_member m.now) (seen_said (frames_of tables.now) (here_in tables.now here) said) (seen_prop prop.now)) }
+{
+    let at = m.item.at;
+    let RegisterParts {
+        scan,
+        capture,
+        reset,
+        words,
+    } = said;
+    match prop {
+        Prop::ScanInSource(sig) => {
+            let scan = Some(scan_signal(alloc, tables, here, sig)?);
+            Ok(RegisterParts {
+                scan,
+                capture,
+                reset,
+                words,
+            })
+        }
+        Prop::CaptureSource(sigs) => {
+            let wide = width_of(m.bounds)?;
+            let capture = Some(data_signals(alloc, tables, here, at, wide, sigs.as_slice())?);
+            Ok(RegisterParts {
+                scan,
+                capture,
+                reset,
+                words,
+            })
+        }
+        Prop::ResetValue(value) => {
+            let wide = width_of(m.bounds)?;
+            let reset = Some(value_in(alloc, tables.params(here), value.as_slice(), wide, at)?);
+            Ok(RegisterParts {
+                scan,
+                capture,
+                reset,
+                words,
+            })
+        }
+        Prop::RefEnum(name) => {
+            let words = words_named(alloc, tables.frame(here), m, name)?;
+            Ok(RegisterParts {
+                scan,
+                capture,
+                reset,
+                words,
+            })
+        }
+        _ => Ok(RegisterParts {
+            scan,
+            capture,
+            reset,
+            words,
+        }),
+    }
+}
+
+/// What a register's properties say (IEEE 1687-2014, ICL: `ScanRegister`).
+fn register_props(
+    alloc: Global,
+    tables: &Tables,
+    here: u32,
+    m: &Member,
+    props: &[Prop],
+) -> Result<RegisterParts, ElabFault>
+    requires { IsHere tables.now here }
+    ensures { Gives (seen_said (frames_of tables.now) (here_in tables.now here)) result (over (register_prop (frames_of tables.now) (here_in tables.now here) (seen_member m.now)) (nothing_said (frames_of tables.now) (here_in tables.now here)) (map seen_prop props.now)) }
+{
+    let mut said = RegisterParts {
+        scan: None,
+        capture: None,
+        reset: None,
+        words: List::new(alloc),
+    };
+    for prop in props {
+        said = register_prop(alloc, tables, here, m, said, prop)?;
+    }
+    Ok(said)
+}
+
+/// What a register is.
+pub(crate) fn register_found(
+    alloc: Global,
+    tables: &Tables,
+    here: u32,
+    m: &Member,
+    props: &[Prop],
+) -> Result<Resolved, ElabFault>
+    requires { IsHere tables.now here }
+    ensures { Gives seen_resolved result (register_answer (frames_of tables.now) (here_in tables.now here) (seen_member m.now) (map seen_prop props.now)) }
+{
+    let said = register_props(alloc, tables, here, m, props)?;
+    Ok(Resolved {
+        body: Body::Register {
+            scan: said.scan,
+            capture: said.capture,
+            reset: said.reset,
+        },
+        words: said.words,
+    })
+}
