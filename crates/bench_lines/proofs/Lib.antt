@@ -1,0 +1,5 @@
+pub mod Runs
+pub mod Lined
+pub mod Saying
+pub mod Above
+pub mod Lows
