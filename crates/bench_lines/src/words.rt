@@ -258,6 +258,30 @@ fn all_known(n: u128, width: u32) -> u64
     ((1u128 << width) - 1) as u64
 }
 
+/// The number of some bits, 0 where one is open.
+fn digits_number(t: &Tern) -> u64
+    requires { number_of (map is_one (tern_bits t.now)) < 2 ^ 64 }
+    ensures { result ≡ number_of (map is_one (tern_bits t.now)) }
+{
+    let len = t.len();
+    let mut n = 0;
+    for k in 0..len {
+        n = with_bit(n, is_one(bit_at(t, len - 1 - k)));
+    }
+    n
+}
+
+/// A number without x that has at most 64 bits.
+pub fn plain_number(number: &Number) -> u64
+    requires { plain_value number.now < 2 ^ 64 }
+    ensures { result ≡ plain_value number.now }
+{
+    match number {
+        Number::Decimal(n) => *n as u64,
+        Number::Digits(t) => digits_number(t),
+    }
+}
+
 fn digit_of(b: u8) -> u8
     requires { is_ascii_hexdigit b ≡ true }
     ensures value { result ≡ hex_value b }

@@ -7,6 +7,6 @@ mod said;
 
 pub use block_lines::line;
 pub use said::{
-    SaidAmount, SaidCond, SaidEntry, SaidLine, SaidRow, SaidSet, SaidSlot, Slice, StartNumbers,
+    InstrumentPath, SaidAmount, SaidCond, SaidEntry, SaidLine, SaidRow, SaidSet, SaidSlot, Slice, StartNumbers,
     instrument, version,
 };

@@ -642,7 +642,8 @@ fn all_names(pieces: &[&[u8]]) -> bool
 /// The names of a path.
 #[tactic(auto, unfolding(bench_lines::specs::Words::path))]
 fn path<'a>(alloc: Global, text: &'a [u8]) -> Result<Option<Vec<&'a [u8]>>, OutOfMemory>
-    ensures { IfOk result (λ p. option_map (λ ps. texts ps.items) p ≡ path text.now) }
+    ensures value { IfOk result (λ p. option_map (λ ps. texts ps.items) p ≡ path text.now) }
+    ensures pieces { IfOk result (λ p. IfSome p (λ ps. texts ps.items ≡ split 46 text.now)) }
 {
     let pieces = pieces(alloc, text)?;
     if all_names(&pieces) {
@@ -652,16 +653,29 @@ fn path<'a>(alloc: Global, text: &'a [u8]) -> Result<Option<Vec<&'a [u8]>>, OutO
     }
 }
 
+/// The instance names of an instrument, and the text that has them with dots between.
+#[derive(Drop)]
+pub struct InstrumentPath<'a> {
+    /// The whole path.
+    pub text: &'a [u8],
+    /// Its names, outermost first.
+    pub names: Vec<&'a [u8]>,
+}
+
 /// The first line of a block.
-#[tactic(auto, unfolding(crate::specs::Said::instrument))]
+#[tactic(auto, unfolding(crate::specs::Said::instrument, bench_lines::specs::Words::path))]
 pub fn instrument<'a>(
     alloc: Global,
     words: &[&'a [u8]],
-) -> Result<Option<Vec<&'a [u8]>>, OutOfMemory>
-    ensures { IfOk result (λ p. option_map (λ ps. texts ps.items) p ≡ instrument (texts words.now)) }
+) -> Result<Option<InstrumentPath<'a>>, OutOfMemory>
+    ensures value { IfOk result (λ p. option_map (λ path. texts path.names.items) p ≡ instrument (texts words.now)) }
+    ensures text { IfOk result (λ p. IfSome p (λ path. texts path.names.items ≡ split 46 path.text.now)) }
 {
-    match instrument_words(words) {
-        Some(text) => path(alloc, text),
+    let Some(text) = instrument_words(words) else {
+        return Ok(None);
+    };
+    match path(alloc, text)? {
+        Some(names) => Ok(Some(InstrumentPath { text, names })),
         None => Ok(None),
     }
 }
