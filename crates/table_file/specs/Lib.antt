@@ -1,2 +1,3 @@
 pub mod Tables
-pub mod Narrow
+pub mod Small
+pub mod Answers

@@ -2,11 +2,15 @@
 #![tactic(auto)]
 
 mod adding;
+mod blocks;
 mod fault;
+mod growing;
 mod limits;
 mod names;
+mod read;
 mod table;
 mod widths;
 
 pub use fault::TableFault;
+pub use read::read_tables;
 pub use table::Table;

@@ -7,6 +7,6 @@ mod said;
 
 pub use block_lines::line;
 pub use said::{
-    InstrumentPath, SaidAmount, SaidCond, SaidEntry, SaidLine, SaidRow, SaidSet, SaidSlot, Slice, StartNumbers,
-    instrument, version,
+    InstrumentPath, SaidAmount, SaidCond, SaidEntry, SaidLine, SaidRow, SaidSet, SaidSlot, Slice,
+    StartNumbers, instrument, version,
 };
