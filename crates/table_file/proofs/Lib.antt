@@ -1,0 +1,4 @@
+pub mod Narrowing
+pub mod Examples
+pub mod Pathing
+pub mod Within

@@ -1,0 +1,16 @@
+//! The tables of a file: what each instrument of a network does.
+#![tactic(auto)]
+
+mod adding;
+mod blocks;
+mod fault;
+mod growing;
+mod limits;
+mod names;
+mod read;
+mod table;
+mod widths;
+
+pub use fault::TableFault;
+pub use read::read_tables;
+pub use table::Table;
