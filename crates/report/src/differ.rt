@@ -1,5 +1,5 @@
 // The lines of compares that differ.
-ghost use Rattle.std.specs.Prelude.{◌≡◌, [], ◌∷◌, IsSome, OnOk, OnErr};
+ghost use Rattle.std.specs.Prelude.{[], ◌∷◌, OnOk, OnErr};
 ghost use Rattle.ij_io.specs.Bytes.{Adds, AddsPart};
 ghost use Rattle.ij_io.specs.Causes.{HasCause};
 ghost use Rattle.report.specs.Differs.{iread_text, maybe_iread, found_text, scan_text, read_text, compare_text, differ_text};
@@ -130,7 +130,6 @@ fn put_compare<K: Sink>(d: &Differ, k: &mut K) -> Result<(), StoreFault>
 ///
 /// The sink's, which then took some first bytes of the line.
 pub fn put_differ<K: Sink>(d: &Differ, k: &mut K) -> Result<(), StoreFault>
-    requires { d.now.scan ≡ 0 → IsSome d.now.read }
     ensures whole { OnOk result (Adds (K.taken k.old) (K.taken k.new) (differ_text d.now)) }
     ensures part { OnErr result (AddsPart (K.taken k.old) (K.taken k.new) (differ_text d.now)) }
     ensures cause { HasCause (K.faults k.old) (K.faults k.new) result StoreFault.Failed }
