@@ -1,0 +1,83 @@
+-- Compares clock by clock.
+use Rattle.std.proofs.Common.{◌≡◌, ℕ, suc, ◌+◌, ◌≤◌, Bool, true, false, cond, List, [], ◌∷◌, ◌++◌, length, Option, Some, None, refl, ap, sym, ◌∙◌, arith, append_assoc, length-append, ◌<◌, drop}
+use Rattle.std.specs.Prelude.{get_or, codes, decimal}
+use Rattle.std.proofs.lemmas.List.{at_drop_more}
+use Rattle.svf_writer.specs.SeenCommands.{SIR, SDR, Reset, Idle, Run, SeenCommand}
+use Rattle.tap_machine.specs.Play.{scans_in}
+use Rattle.ij_bits.specs.BitLists.{same_bit}
+use Rattle.net_bench.specs.Bench.{Chip, State, clock, tdo}
+use Rattle.report.specs.Differs.{differ_text}
+use Rattle.net_bench.specs.Playing.{Compare, compare_of, compares, after_pins, differing}
+use Rattle.tap_machine.specs.declared.Pins.{Pins}
+use Rattle.bench_report.specs.Report.{compare_lines}
+
+pub differing_one : (c : Compare) (cs : List Compare) (same : Bool) → same_bit c.expect c.found ≡ same → differing (c ∷ cs) ≡ cond same (differing cs) (c ∷ differing cs)
+differing_one c cs same e = ap (λ k. cond k (differing cs) (c ∷ differing cs)) e
+
+cond_both : (k : Bool) (c : Compare) (xs ys : List Compare) → cond k (xs ++ ys) (c ∷ (xs ++ ys)) ≡ cond k xs (c ∷ xs) ++ ys
+cond_both true c xs ys = refl
+cond_both false c xs ys = refl
+
+pub differing_both : (xs ys : List Compare) → differing (xs ++ ys) ≡ differing xs ++ differing ys
+differing_both [] ys = refl
+differing_both (x ∷ xs) ys =
+    ap (λ l. cond (same_bit x.expect x.found) l (x ∷ l)) (differing_both xs ys)
+    ∙ cond_both (same_bit x.expect x.found) x (differing xs) (differing ys)
+
+abbrev line : Compare → List ℕ
+line c = differ_text (record { scan = c.scan; bit = c.bit; expect = c.expect; found = c.found; read = None })
+
+pub lines_both : (xs ys : List Compare) → compare_lines (xs ++ ys) ≡ compare_lines xs ++ compare_lines ys
+lines_both [] ys = refl
+lines_both (x ∷ xs) ys =
+    ap (λ l. line x ++ l) (lines_both xs ys) ∙ sym (append_assoc (line x) (compare_lines xs) (compare_lines ys))
+
+pub few_of : (o : Option Bool) (scan bit : ℕ) (found : Bool) → length (differing (compare_of o scan bit found)) ≤ 1
+few_of None scan bit found = omega arith
+few_of (Some true) scan bit true = omega arith
+few_of (Some true) scan bit false = omega arith
+few_of (Some false) scan bit true = omega arith
+few_of (Some false) scan bit false = omega arith
+
+-- at most one compare differs at a clock
+pub few_differ : {L : Type 0} (chip : Chip L) (ps : List Pins) (s : State L) → length (differing (compares chip ps s)) ≤ length ps
+few_differ chip [] s = omega arith
+few_differ chip (p ∷ ps) s =
+    let here = compare_of p.expect p.scan p.bit (tdo chip s) in
+    let rest = compares chip ps (clock chip p.tms p.tdi s) in
+    omega (arith, ap length (differing_both here rest), length-append (differing here) (differing rest), few_of p.expect p.scan p.bit (tdo chip s), few_differ chip ps (clock chip p.tms p.tdi s))
+
+-- ---- one clock
+
+module _ {L : Type 0} (chip : Chip L) (p : Pins) (ps qs : List Pins) (s t : State L) (found : Bool) (given : qs ≡ p ∷ ps) (is : found ≡ tdo chip s) (next : t ≡ clock chip p.tms p.tdi s) where
+  pub here_and_later : differing (compares chip qs s) ≡ differing (compare_of p.expect p.scan p.bit found) ++ differing (compares chip ps t)
+  here_and_later =
+      let u = clock chip p.tms p.tdi s in
+      ap (λ l. differing (compares chip l s)) given
+      ∙ differing_both (compare_of p.expect p.scan p.bit (tdo chip s)) (compares chip ps u)
+      ∙ ap (λ b. differing (compare_of p.expect p.scan p.bit b) ++ differing (compares chip ps u)) (sym is)
+      ∙ ap (λ v. differing (compare_of p.expect p.scan p.bit found) ++ differing (compares chip ps v)) (sym next)
+
+  pub lines_here : compare_lines (differing (compares chip qs s)) ≡ compare_lines (differing (compare_of p.expect p.scan p.bit found)) ++ compare_lines (differing (compares chip ps t))
+  lines_here =
+      ap compare_lines here_and_later ∙ lines_both (differing (compare_of p.expect p.scan p.bit found)) (differing (compares chip ps t))
+
+  pub count_here : length (differing (compares chip qs s)) ≡ length (differing (compare_of p.expect p.scan p.bit found)) + length (differing (compares chip ps t))
+  count_here =
+      ap length here_and_later ∙ length-append (differing (compare_of p.expect p.scan p.bit found)) (differing (compares chip ps t))
+
+  pub after_here : after_pins chip ps t ≡ after_pins chip qs s
+  after_here = ap (after_pins chip ps) next ∙ sym (ap (λ l. after_pins chip l s) given)
+
+-- ---- scans
+
+one_scan : (c : SeenCommand) (cs : List SeenCommand) → scans_in (c ∷ cs) ≡ scans_in (c ∷ []) + scans_in cs
+one_scan (SIR s) cs = omega arith
+one_scan (SDR s) cs = omega arith
+one_scan Reset cs = omega arith
+one_scan Idle cs = omega arith
+one_scan (Run n) cs = omega arith
+
+pub scans_next : (cs : List SeenCommand) (i : ℕ) (c : SeenCommand) → i < length cs → c ≡ get_or cs i c → scans_in (drop i cs) ≡ scans_in (c ∷ []) + scans_in (drop (i + 1) cs)
+scans_next cs i c within is =
+    at_drop_more scans_in cs i c within ∙ ap (λ d. scans_in (d ∷ drop (i + 1) cs)) (sym is) ∙ one_scan c (drop (i + 1) cs)

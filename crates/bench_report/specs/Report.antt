@@ -1,0 +1,67 @@
+-- What is printed of a play of SVF commands on the bench of a network with its instruments (Serial Vector Format, revision E).
+use Rattle.std.specs.Prelude.{ℕ, suc, List, [], ◌∷◌, ◌++◌, map, get_or, length, None}
+use Rattle.instruments.specs.Machine.{count_log}
+use Rattle.instruments.specs.OnNetwork.{Running, inner_at}
+use Rattle.instruments.specs.Seen.{SeenModel, seen_model}
+use Rattle.instruments.specs.declared.Counts.{Counts}
+use Rattle.instruments.specs.declared.model.Model.{Model}
+use Rattle.net_graph.specs.declared.device.Device.{Device}
+use Rattle.net_graph.specs.declared.net.Net.{Net}
+use Rattle.svf_writer.specs.SeenCommands.{SeenCommand}
+use Rattle.tap_machine.specs.declared.Stable.TheVariants.{Reset as InReset}
+use Rattle.tap_machine.specs.Play.{pins, scans_in}
+use Rattle.net_bench.specs.Bench.{Chip, State, fault_free, power_up}
+use Rattle.net_bench.specs.Board.{SeenBench}
+use Rattle.net_bench.specs.Playing.{Compare, play_from, compares_from, differing}
+use Rattle.net_bench.specs.Runners.{machines_of}
+use Rattle.report.specs.Differs.{differ_text}
+use Rattle.report.specs.Instruments.{instrument_text}
+use Rattle.report.specs.Registers.{registers_text}
+use Rattle.report.specs.Totalled.{play_text}
+
+-- the device of a bench with instruments that tables describe, their events counted
+abbrev pub chip_of : SeenBench → Chip Counts
+chip_of b = fault_free count_log b.net b.device (machines_of b.models)
+
+-- a line for each compare, which names no iRead
+abbrev pub compare_lines : List Compare → List ℕ
+compare_lines [] = []
+compare_lines (c ∷ cs) =
+    differ_text (record { scan = c.scan; bit = c.bit; expect = c.expect; found = c.found; read = None }) ++ compare_lines cs
+
+-- how often an instrument had each kind of event
+abbrev pub counts_at : List (Running Counts) → ℕ → Counts
+counts_at insts i = get_or (map (λ x. x.log) insts) i count_log.none
+
+-- the instrument at a place, by its model
+abbrev pub inst_text : Net → List (Running Counts) → ℕ → SeenModel → List ℕ
+inst_text net insts i m = instrument_text net m i (inner_at insts i).words (inner_at insts i).memory (counts_at insts i)
+
+-- the instruments of some models, the first of which is at place i
+abbrev pub instruments_from : Net → List (Running Counts) → ℕ → List SeenModel → List ℕ
+instruments_from net insts i [] = []
+instruments_from net insts i (m ∷ ms) = inst_text net insts i m ++ instruments_from net insts (suc i) ms
+
+abbrev pub instruments_text : Net → List Model → List (Running Counts) → List ℕ
+instruments_text net models insts = instruments_from net insts 0 (map seen_model models)
+
+-- what the bench holds at an end: registers, then instruments
+abbrev pub state_text : Net → List Model → State Counts → List ℕ
+state_text net models s = registers_text net s.holds ++ instruments_text net models s.insts
+
+-- the device with instruments that a table describes, their events counted
+abbrev pub chip : Net → Device → List Model → Chip Counts
+chip net device models = fault_free count_log net device (machines_of models)
+
+-- the compares of a play from power-up that differ
+abbrev pub differs_of : Net → Device → List Model → List SeenCommand → List Compare
+differs_of net device models commands =
+    differing (compares_from (chip net device models) 0 commands (power_up (chip net device models)))
+
+-- a line for each, then what the bench holds at the end, then the totals
+abbrev pub play_report : Net → Device → List Model → List SeenCommand → List ℕ
+play_report net device models commands =
+    let differs = differs_of net device models commands in
+    compare_lines differs
+    ++ (state_text net models (play_from (chip net device models) 0 commands (power_up (chip net device models)))
+    ++ play_text (scans_in commands) (length (pins InReset 0 commands)) (length differs))

@@ -1,0 +1,65 @@
+// The compares of a play.
+ghost use Rattle.std.specs.Prelude.{◌≡◌, ◌≤◌, length, OnOk, OnErr, IfOk};
+ghost use Rattle.ij_io.specs.Bytes.{Adds, AddsPart};
+ghost use Rattle.ij_io.specs.Causes.{HasCause};
+ghost use Rattle.net_bench.specs.Playing.{compare_of, compares, after_pins, differing};
+ghost use Rattle.bench_report.specs.Report.{chip_of, compare_lines};
+
+use ij_io::{Sink, StoreFault};
+use net_bench::Bench;
+use report::{Differ, put_differ};
+use tap_machine::{Pins, Player};
+
+/// How many clocks a play took, and how many of its compares differ.
+#[derive(Clone, Copy)]
+pub(crate) struct Counted {
+    pub clocks: u64,
+    pub differs: u64,
+}
+
+/// Writes the line of a clock's compare, if it differs; answers how many lines that are.
+fn put_compare<K: Sink>(pins: Pins, found: bool, k: &mut K) -> Result<u64, StoreFault>
+    ensures whole { OnOk result (Adds (K.taken k.old) (K.taken k.new) (compare_lines (differing (compare_of pins.expect pins.scan pins.bit found)))) }
+    ensures count { IfOk result (λ n. n ≡ length (differing (compare_of pins.expect pins.scan pins.bit found))) }
+    ensures part { OnErr result (AddsPart (K.taken k.old) (K.taken k.new) (compare_lines (differing (compare_of pins.expect pins.scan pins.bit found)))) }
+    ensures cause { HasCause (K.faults k.old) (K.faults k.new) result StoreFault.Failed }
+{
+    if let Some(expect) = pins.expect {
+        if expect != found {
+            let differ = Differ {
+                scan: pins.scan,
+                bit: pins.bit,
+                expect,
+                found,
+                read: None,
+            };
+            put_differ(&differ, k)?;
+            return Ok(1);
+        }
+    }
+    Ok(0)
+}
+
+/// Plays to the end, and writes a line for each compare that differs.
+pub(crate) fn put_compares<K: Sink>(
+    player: &mut Player,
+    bench: &mut Bench,
+    k: &mut K,
+) -> Result<Counted, StoreFault>
+    requires { length player.old.pins ≤ 1000000000 }
+    ensures state { OnOk result (bench.new ≡ record bench.old { state = after_pins (chip_of bench.old) player.old.pins bench.old.state }) }
+    ensures whole { OnOk result (Adds (K.taken k.old) (K.taken k.new) (compare_lines (differing (compares (chip_of bench.old) player.old.pins bench.old.state)))) }
+    ensures clocks { IfOk result (λ c. c.clocks ≡ length player.old.pins) }
+    ensures differs { IfOk result (λ c. c.differs ≡ length (differing (compares (chip_of bench.old) player.old.pins bench.old.state))) }
+    ensures part { OnErr result (AddsPart (K.taken k.old) (K.taken k.new) (compare_lines (differing (compares (chip_of bench.old) player.old.pins bench.old.state)))) }
+    ensures cause { HasCause (K.faults k.old) (K.faults k.new) result StoreFault.Failed }
+{
+    let mut clocks = 0u64;
+    let mut differs = 0u64;
+    while let Some(pins) = player.next() {
+        let found = bench.clock(pins.tms, pins.tdi);
+        differs += put_compare(pins, found, k)?;
+        clocks += 1;
+    }
+    Ok(Counted { clocks, differs })
+}

@@ -1,0 +1,110 @@
+// A whole play.
+ghost use Rattle.std.specs.Prelude.{◌≡◌, ◌≤◌, [], ◌∷◌, length, OnOk, OnErr, IfOk};
+ghost use Rattle.ij_io.specs.Bytes.{Adds, AddsPart};
+ghost use Rattle.ij_io.specs.Causes.{HasCause};
+ghost use Rattle.svf_writer.specs.SeenCommands.{seen_command};
+ghost use Rattle.tap_machine.specs.declared.Stable.TheVariants.{Reset as InReset};
+ghost use Rattle.tap_machine.specs.Play.{pins, scans_in};
+ghost use Rattle.net_bench.specs.Bench.{power_up};
+ghost use Rattle.net_bench.specs.Runners.{AreModels};
+ghost use Rattle.net_graph.specs.Nets.{IsNet};
+ghost use Rattle.bench_report.specs.Report.{chip_of, differs_of, play_report};
+
+use crate::compares::put_compares;
+use crate::state::put_state;
+use ij_bits::List;
+use ij_io::{Sink, StoreFault};
+use instruments::model::Model;
+use net_bench::Bench;
+use net_graph::{Device, Net};
+use report::{Totals, put_totals};
+use std::alloc::Global;
+use svf_writer::{Command, Commands};
+use tap_machine::{Player, Stable};
+
+/// The number of scans that a command is, 1 or 0.
+fn scans_of(command: &Command) -> u32
+    ensures { result ≡ scans_in (seen_command command.now ∷ []) }
+{
+    match command {
+        Command::Sir(_) => 1,
+        Command::Sdr(_) => 1,
+        Command::Reset => 0,
+        Command::Idle => 0,
+        Command::Run(_) => 0,
+    }
+}
+
+/// The number of scans among commands.
+fn scan_count(commands: &Commands) -> u32
+    requires { scans_in commands.now ≤ 1000000000 }
+    ensures { result ≡ scans_in commands.now }
+{
+    let mut scans = 0u32;
+    for i in 0..commands.len() {
+        scans += scans_of(commands.get(i));
+    }
+    scans
+}
+
+/// Plays commands on a bench at power-up, and writes the report.
+fn put_report<K: Sink>(
+    bench: &mut Bench,
+    net: &Net,
+    models: &List<Model>,
+    commands: &Commands,
+    k: &mut K,
+) -> Result<u64, StoreFault>
+    requires well_formed { IsNet net.now }
+    requires models { AreModels net.now models.now.items }
+    requires net { bench.old.net ≡ net.now }
+    requires bench { bench.old.models ≡ models.now.items }
+    requires start { bench.old.state ≡ power_up (chip_of bench.old) }
+    requires clocks { length (pins InReset 0 commands.now) ≤ 1000000000 }
+    requires scans { scans_in commands.now ≤ 1000000000 }
+    ensures whole { OnOk result (Adds (K.taken k.old) (K.taken k.new) (play_report net.now bench.old.device models.now.items commands.now)) }
+    ensures differs { IfOk result (λ n. n ≡ length (differs_of net.now bench.old.device models.now.items commands.now)) }
+    ensures part { OnErr result (AddsPart (K.taken k.old) (K.taken k.new) (play_report net.now bench.old.device models.now.items commands.now)) }
+    ensures cause { HasCause (K.faults k.old) (K.faults k.new) result StoreFault.Failed }
+{
+    let scans = scan_count(commands);
+    let mut player = Player::new(Stable::Reset, 0, commands);
+    let counted = put_compares(&mut player, bench, k)?;
+    put_state(net, models, bench, k)?;
+    let totals = Totals::Play {
+        scans,
+        clocks: counted.clocks,
+        differs: counted.differs,
+    };
+    put_totals(&totals, k)?;
+    Ok(counted.differs)
+}
+
+/// Plays commands from power-up on a device with a scan network and its instruments, and prints a line for each compare that differs,
+/// what each register and each instrument holds at the end, and the totals (Serial Vector Format, revision E; IEEE 1687-2014, hardware
+/// rules). `models` has a model for each instrument, in the network's order. Answers how many compares differ.
+///
+/// # Errors
+///
+/// Those of the sink, which then took some first bytes of the report, and `OutOfMemory` where there is no memory for the bench. The
+/// play itself takes none.
+pub fn put_play<K: Sink>(
+    alloc: Global,
+    net: &Net,
+    device: &Device,
+    models: &List<Model>,
+    commands: &Commands,
+    k: &mut K,
+) -> Result<u64, StoreFault>
+    requires well_formed { IsNet net.now }
+    requires models { AreModels net.now models.now.items }
+    requires clocks { length (pins InReset 0 commands.now) ≤ 1000000000 }
+    requires scans { scans_in commands.now ≤ 1000000000 }
+    ensures whole { OnOk result (Adds (K.taken k.old) (K.taken k.new) (play_report net.now device.now models.now.items commands.now)) }
+    ensures differs { IfOk result (λ n. n ≡ length (differs_of net.now device.now models.now.items commands.now)) }
+    ensures part { OnErr result (AddsPart (K.taken k.old) (K.taken k.new) (play_report net.now device.now models.now.items commands.now)) }
+    ensures cause { HasCause (K.faults k.old) (K.faults k.new) result StoreFault.Failed }
+{
+    let mut bench = Bench::new(alloc, net, device, models)?;
+    put_report(&mut bench, net, models, commands, k)
+}

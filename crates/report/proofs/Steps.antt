@@ -1,0 +1,86 @@
+-- How a loop's text goes on.
+use Rattle.std.proofs.Common.{◌≡◌, ℕ, suc, ◌*◌, ◌/◌, ◌%◌, ◌^◌, ◌<◌, ◌≤◌, List, [], ◌∷◌, ◌++◌, Option, length, take, drop, ◌-◌, map, ap, sym, ◌∙◌, subst, arith}
+use Rattle.std.specs.Prelude.{get_or, codes}
+use Rattle.std.specs.List.{flat_map}
+use Rattle.std.proofs.Math.Seq.{drop-cons}
+use Rattle.std.proofs.lemmas.List.{take_all, length-drop, length-map, get_or-map}
+use Rattle.std.proofs.lemmas.List.Elements.{All-get_or}
+use Rattle.std.specs.Prelude.{All}
+use Rattle.ij_bits.specs.Room.{Listed}
+use Rattle.ij_io.specs.Bytes.{Adds, AddsPart}
+use Rattle.instruments.specs.declared.model.WordDef.{WordDef}
+use Rattle.instruments.specs.Models.{IsWord}
+use Rattle.instruments.specs.Seen.{SeenWord, seen_word}
+use Rattle.net_graph.specs.Named.{thing_of, width_of}
+use Rattle.report.specs.Paths.{with_dot, behind_dot, joined, node_names, thing_path}
+use Rattle.ij_bits.specs.Hex.{hex_code}
+use Rattle.net_graph.specs.declared.net.Net.{Net}
+use Rattle.net_graph.specs.Signals.{Holds}
+use Rattle.report.specs.Numbers.{lowest_digits}
+use Rattle.report.specs.Registers.{bit_digit, register_digits, register_text, registers_from}
+use Rattle.report.specs.Instruments.{word_text, words_from, entry_if, entries_from}
+
+pub hex_next : (number n m d : ℕ) → n ≡ suc m → d ≡ hex_code (number / 2 ^ (4 * m) % 16) → lowest_digits number n ≡ (d ∷ []) ++ lowest_digits number m
+hex_next number n m d more is = ap (lowest_digits number) more ∙ ap (λ x. x ∷ lowest_digits number m) (sym is)
+
+pub digits_next : (net : Net) (holds : Holds) (r n m d : ℕ) → n ≡ suc m → d ≡ bit_digit net holds (record { reg = r; pos = m }) → register_digits net holds r n ≡ (d ∷ []) ++ register_digits net holds r m
+digits_next net holds r n m d more is =
+    ap (register_digits net holds r) more ∙ ap (λ x. x ∷ register_digits net holds r m) (sym is)
+
+pub registers_next : (net : Net) (holds : Holds) (r s n m : ℕ) → n ≡ suc m → s ≡ suc r → registers_from net holds r n ≡ register_text net holds r ++ registers_from net holds s m
+registers_next net holds r s n m more next =
+    ap (registers_from net holds r) more ∙ ap (λ k. register_text net holds r ++ registers_from net holds k m) (sym next)
+
+pub entries_next : (name : List ℕ) (width : ℕ) (numbers : List ℕ) (k s n m d : ℕ) → n ≡ suc m → s ≡ suc k → d ≡ get_or numbers k 0 → entries_from name width numbers k n ≡ entry_if name width k d ++ entries_from name width numbers s m
+entries_next name width numbers k s n m d more next is =
+    ap (entries_from name width numbers k) more
+    ∙ ap (λ x. entry_if name width k x ++ entries_from name width numbers (suc k) m) (sym is)
+    ∙ ap (λ x. entry_if name width k d ++ entries_from name width numbers x m) (sym next)
+
+-- a word of a model at its place
+pub word_there : (ws : List WordDef) (i : ℕ) (d : WordDef) → i < length ws → d ≡ get_or ws i d → seen_word d ≡ get_or (map seen_word ws) i (seen_word d)
+word_there ws i d within is = ap seen_word is ∙ sym (get_or-map seen_word ws i d (seen_word d) within)
+
+pub word_wide : (ws : List WordDef) (i : ℕ) (d : WordDef) → i < length ws → d ≡ get_or ws i d → All IsWord (map seen_word ws) → d.width ≤ 64
+word_wide ws i d within is words =
+    let there = word_there ws i d within is in
+    let inside : i < length (map seen_word ws) = omega (arith, within, length-map ws seen_word) in
+    let word = subst IsWord (sym there) (All-get_or IsWord (map seen_word ws) i (seen_word d) inside words) in
+    word.width.few
+
+pub words_next : (numbers : List ℕ) (ws : List WordDef) (k s : ℕ) (d : WordDef) (number : ℕ) → k < length ws → d ≡ get_or ws k d → s ≡ suc k → number ≡ get_or numbers k 0
+    → words_from numbers k (drop k (map seen_word ws)) ≡ word_text d.name.items d.width number ++ words_from numbers s (drop s (map seen_word ws))
+words_next numbers ws k s d number within there next is =
+    let ds = map seen_word ws in
+    let inside : k < length ds = omega (arith, within, length-map ws seen_word) in
+    ap (words_from numbers k) (drop-cons ds k (seen_word d) inside)
+    ∙ ap (λ (x : SeenWord). word_text x.name x.width (get_or numbers k 0) ++ words_from numbers (suc k) (drop (suc k) ds)) (sym (word_there ws k d within there))
+    ∙ ap (λ (x : ℕ). word_text d.name.items d.width x ++ words_from numbers (suc k) (drop (suc k) ds)) (sym is)
+    ∙ ap (λ (x : ℕ). word_text d.name.items d.width number ++ words_from numbers x (drop x ds)) (sym next)
+
+-- one text for another that is the same
+pub as_part : {old new : Option (List ℕ)} {x y : List ℕ} → x ≡ y → AddsPart old new x → AddsPart old new y
+as_part {old} {new} same part = subst (λ (text : List ℕ). AddsPart old new text) same part
+
+pub as_whole : {old new : Option (List ℕ)} {x y : List ℕ} → x ≡ y → Adds old new x → Adds old new y
+as_whole {old} {new} same whole = subst (λ (text : List ℕ). Adds old new text) same whole
+
+-- names, by their parts
+pub thing_is : (net : Net) (t : ℕ) (names : List (Listed ℕ)) (name : List ℕ) (n : ℕ) → n ≡ get_or (map (λ thing. thing.node) net.things.items) t 0 → names ≡ node_names net n
+    → name ≡ get_or (map (λ thing. thing.name.items) net.things.items) t [] → flat_map with_dot names ++ name ≡ thing_path net t
+thing_is net t names name n node path own =
+    ap (λ (ns : List (Listed ℕ)). flat_map with_dot ns ++ name) (path ∙ ap (node_names net) node)
+    ∙ ap (λ (x : List ℕ). flat_map with_dot (node_names net (get_or (map (λ thing. thing.node) net.things.items) t 0)) ++ x) own
+
+pub joined_is : (names : List (Listed ℕ)) (first : Listed ℕ) → 1 ≤ length names → first ≡ get_or names 0 first → first.items ++ flat_map behind_dot (take (length names - 1) (drop 1 names)) ≡ joined names
+joined_is names first some is =
+    let within : 0 < length names = omega arith in
+    let rest : length (drop 1 names) ≤ length names - 1 = omega (arith, length-drop 1 names) in
+    ap (λ (ns : List (Listed ℕ)). first.items ++ flat_map behind_dot ns) (take_all (length names - 1) (drop 1 names) rest)
+    ∙ sym (ap joined (drop-cons names 0 first within) ∙ ap (λ (x : Listed ℕ). x.items ++ flat_map behind_dot (drop 1 names)) (sym is))
+
+pub register_is : (net : Net) (holds : Holds) (r t w : ℕ) → t ≡ thing_of net r → w ≡ width_of net r
+    → codes "register " ++ (thing_path net t ++ 32 ∷ (register_digits net holds r w ++ 10 ∷ [])) ≡ register_text net holds r
+register_is net holds r t w thing width =
+    ap (λ (x : ℕ). codes "register " ++ (thing_path net x ++ 32 ∷ (register_digits net holds r w ++ 10 ∷ []))) thing
+    ∙ ap (λ (x : ℕ). codes "register " ++ (thing_path net (thing_of net r) ++ 32 ∷ (register_digits net holds r x ++ 10 ∷ []))) width

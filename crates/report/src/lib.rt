@@ -1,0 +1,14 @@
+//! The printed lines of a report: compares that differ, registers, instruments and totals.
+#![tactic(auto)]
+
+mod differ;
+mod instrument;
+mod number;
+mod path;
+mod register;
+mod totals;
+
+pub use differ::{Differ, put_differ};
+pub use instrument::put_instrument;
+pub use register::{put_register, put_registers};
+pub use totals::{Totals, put_totals};
