@@ -66,7 +66,7 @@ pub(crate) fn put_reads(reads: &mut List<ReadBit>, more: &[ReadBit])
 }
 
 /// Whether a register is among others.
-pub(crate) fn is_in(registers: &[u32], register: u32) -> bool
+fn is_in(registers: &[u32], register: u32) -> bool
     ensures { result ≡ is_in registers.now register }
 {
     registers.iter().any(|other| *other == register)

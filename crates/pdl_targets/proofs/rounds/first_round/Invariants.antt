@@ -1,10 +1,9 @@
 use Rattle.std.proofs.Common.{◌≡◌, ◌++◌, [], drop}
-use Rattle.pdl_targets.specs.Rounds.{round, left_over}
-use Rattle.pdl_targets.specs.SeenPlaces.{places_in}
+use Rattle.pdl_targets.specs.SeenPlaces.{placed_left, placed_round, seen_placed}
 use Rattle.pdl_targets.proofs.rounds.first_round.Given as goal
 
 abbrev pub invariant-loop-register : goal.invariant-loop-register
 invariant-loop-register l = record {
-  taken : l.round.taken.items ++ round (places_in l.tree) l.round.taken.items (drop l.register-index l.registers) ≡ round (places_in l.tree) [] l.registers;
-  left : l.round.left.items ++ left_over (places_in l.tree) l.round.taken.items (drop l.register-index l.registers) ≡ left_over (places_in l.tree) [] l.registers;
+  taken : seen_placed l.round.taken.items ++ placed_round (seen_placed l.round.taken.items) (seen_placed (drop l.register-index l.registers)) ≡ placed_round [] (seen_placed l.registers);
+  left : seen_placed l.round.left.items ++ placed_left (seen_placed l.round.taken.items) (seen_placed (drop l.register-index l.registers)) ≡ placed_left [] (seen_placed l.registers);
 }
