@@ -20,7 +20,8 @@ use Rattle.net_graph.specs.Path.{is_select}
 use Rattle.net_graph.specs.Signals.{capture_signal}
 use Rattle.net_graph.specs.Steps.{IsDataBit, IsReadable}
 use Rattle.pdl_parser.specs.Values.{AValue, ATarget}
-use Rattle.pdl_targets.specs.Targets.{AFault, Found, Is, Fails, Picked, found_then, and_more, unless_select, select_written, select_compared, captured_select, same_source, differ, is_inverted, capturing, captured_from, held_if_captured, or_else, write_bit, read_bit, written, compared, writes_of, reads_of, named, target_thing, thing_in, thing_of, thing_at, spots_of, has_index, position_of, number_at, fitted}
+use Rattle.pdl_targets.specs.declared.picks.Picked.{Picked}
+use Rattle.pdl_targets.specs.Targets.{AFault, Found, Is, Fails, found_then, and_more, unless_select, select_written, select_compared, captured_select, same_source, differ, is_inverted, capturing, captured_from, held_if_captured, or_else, write_bit, read_bit, written, compared, writes_of, reads_of, named, target_thing, thing_in, thing_of, thing_at, spots_of, has_index, position_of, number_at, fitted}
 use Rattle.pdl_targets.specs.Laws.{OfFound, WriteNoSelect, ReadNoSelect, WritesAreOfTheNetwork, ReadsAreOfTheNetwork}
 use Rattle.pdl_targets.proofs.Apart.{all_nil, all_cons}
 use Rattle.pdl_targets.proofs.Selects.{then_of, writes_select_nothing, reads_select_nothing}
@@ -55,7 +56,7 @@ if_no_select P at (Some b) a p = tt
 
 -- ---- things
 
-found_thing : (P : Thing → Type 0) (things : List Thing) (node : ℕ) (name : List ℕ) → All P things → OfOption P (thing_in things node name)
+pub found_thing : (P : Thing → Type 0) (things : List Thing) (node : ℕ) (name : List ℕ) → All P things → OfOption P (thing_in things node name)
 found_thing P [] node name h = tt
 found_thing P (t ∷ ts) node name h = by_test ((t.node == node) && bytes_eq t.name.items name) (All-head P t ts h) (found_thing P ts node name (All-tail P t ts h))
   where

@@ -158,7 +158,7 @@ module _ (places : Places) where
           ∙ dropped (r == r) (is_in (round places (taken ++ r ∷ []) rs) r) (filter (λ q. not (is_in (r ∷ round places (taken ++ r ∷ []) rs) q)) rs) (eq-eqb r r refl)
 
   -- how far one counts is all the same, from the number of registers on
-  any_count : (n m : ℕ) (rs : List ℕ) → length rs ≤ n → length rs ≤ m → rounds_upto places n rs ≡ rounds_upto places m rs
+  pub any_count : (n m : ℕ) (rs : List ℕ) → length rs ≤ n → length rs ≤ m → rounds_upto places n rs ≡ rounds_upto places m rs
   any_count zero zero rs g h = refl
   any_count zero (suc m) [] g h = refl
   any_count zero (suc m) (r ∷ rs) g h = absurd (omega (arith, g))

@@ -1,0 +1,36 @@
+-- Lists that are walked from the front, item by item.
+use Rattle.std.proofs.Common.{◌≡◌, ℕ, zero, suc, ◌+◌, ◌-◌, ◌<◌, ◌≤◌, Bool, true, false, cond, List, [], ◌∷◌, ◌++◌, length, take, drop, get_or, map, Option, Some, None, refl, sym, ap, ◌∙◌, append_assoc, add-one, arith}
+use Rattle.std.proofs.Math.Seq.{drop-cons}
+use Rattle.std.specs.Prelude.{filter}
+use Rattle.ij_bits.specs.Room.{Listed}
+use Rattle.pdl_parser.specs.Views.{bytes_of}
+use Rattle.pdl_expand.specs.Expansion.{but_last, last}
+
+-- what is left of a list begins with the next item
+pub next : {A : Type 0} (xs : List A) (i : ℕ) (x : A) → i < length xs → x ≡ get_or xs i x → drop i xs ≡ x ∷ drop (i + 1) xs
+next xs i x h is =
+    let e : suc i ≡ i + 1 = omega arith in
+    drop-cons xs i x h ∙ ap (λ y. y ∷ drop (suc i) xs) (sym is) ∙ ap (λ k. x ∷ drop k xs) e
+
+-- an item more, if it passes
+pub passed : {A : Type 0} (p : A → Bool) (part rest all : List A) (x : A) → part ++ filter p (x ∷ rest) ≡ all → p x ≡ true → (part ++ x ∷ []) ++ filter p rest ≡ all
+passed p part rest all x e t = append_assoc part (x ∷ []) (filter p rest) ∙ ap (λ b. part ++ cond b (x ∷ filter p rest) (filter p rest)) (sym t) ∙ e
+
+pub not_passed : {A : Type 0} (p : A → Bool) (part rest all : List A) (x : A) → part ++ filter p (x ∷ rest) ≡ all → p x ≡ false → part ++ filter p rest ≡ all
+not_passed p part rest all x e t = ap (λ b. part ++ cond b (x ∷ filter p rest) (filter p rest)) (sym t) ∙ e
+
+-- ---- paths
+
+pub front_of_path : (path : List (Listed ℕ)) → map bytes_of (take (length path - 1) path) ≡ but_last (map bytes_of path)
+front_of_path [] = refl
+front_of_path (n ∷ []) = refl
+front_of_path (n ∷ m ∷ ns) =
+    ap (λ k. map bytes_of (take k (n ∷ m ∷ ns))) (let e : length (n ∷ m ∷ ns) - 1 ≡ suc (length (m ∷ ns) - 1) = omega arith in e)
+    ∙ ap (λ (l : List (List ℕ)). bytes_of n ∷ l) (front_of_path (m ∷ ns))
+
+pub last_of_path : (path : List (Listed ℕ)) (name : Listed ℕ) → 1 ≤ length path → name ≡ get_or path (length path - 1) name → name.items ≡ last (map bytes_of path)
+last_of_path [] name h is = absurd (omega (arith, h))
+last_of_path (n ∷ []) name h is = ap bytes_of is
+last_of_path (n ∷ m ∷ ns) name h is =
+    last_of_path (m ∷ ns) name (omega arith)
+    (is ∙ ap (λ k. get_or (n ∷ m ∷ ns) k name) (let e : length (n ∷ m ∷ ns) - 1 ≡ suc (length (m ∷ ns) - 1) = omega arith in e))

@@ -1,0 +1,197 @@
+// Steps bound to register bits, one after the other.
+ghost use Rattle.std.specs.Prelude.{◌≡◌, ◌<◌, ◌+◌, ◌^◌, IfOk, IfErr, OnErr};
+ghost use Rattle.std.specs.Option.{option_map};
+ghost use Rattle.net_graph.specs.Nets.{IsNet};
+ghost use Rattle.net_graph.specs.SeenSteps as bit_steps;
+ghost use Rattle.pdl_expand.specs.Values.{seen_step};
+ghost use Rattle.pdl_parser.specs.Views.{seen_target, seen_value};
+ghost use Rattle.pdl_targets.specs.Binding.{empty, feed, finish, with_reads, with_writes, nothing_done};
+ghost use Rattle.pdl_targets.specs.Index.{IsIndex};
+ghost use Rattle.pdl_targets.specs.Seen.{Finishes, Refuses};
+ghost use Rattle.pdl_targets.specs.SeenGathered.{Binds, IsLimited, seen_gathered};
+ghost use Rattle.pdl_targets.specs.SeenPlaces.{places_in};
+ghost use Rattle.pdl_targets.specs.Targets.{Is, found_then, read_bits, write_bits};
+
+use crate::fault::TargetFault;
+use crate::gather::Gathered;
+use crate::index::{Index, index_of};
+use crate::naming::{read_bits, write_bits};
+use ij_text::Place;
+use net_graph::{BitStep, Net};
+use net_tree::Tree;
+use pdl_expand::{Deed, Step};
+use pdl_parser::{Target, Value};
+use std::alloc::Global;
+use std::marker::Model;
+
+/// Takes in an iWrite.
+fn write(
+    alloc: Global,
+    net: &Net,
+    index: &Index,
+    gathered: &mut Gathered,
+    at: Place,
+    node: u32,
+    target: &Target,
+    value: &Value,
+) -> Result<Option<BitStep>, TargetFault>
+    requires net { IsNet net.now }
+    requires index { IsIndex net.now index.now }
+    requires limited { IsLimited gathered.old }
+    ensures answer { Binds (found_then (write_bits net.now at node (seen_target target.now) (seen_value value.now)) (λ ws. nothing_done (with_writes (seen_gathered gathered.old) at ws))) (seen_gathered gathered.new) result }
+    ensures stays { OnErr result (seen_gathered gathered.new ≡ seen_gathered gathered.old) }
+    ensures limited { IsLimited gathered.new }
+{
+    let writes = write_bits(alloc, net, index, at, node, target, value)?;
+    gathered.write(at, writes.as_slice())?;
+    Ok(None)
+}
+
+/// Takes in an iRead.
+fn read(
+    alloc: Global,
+    net: &Net,
+    index: &Index,
+    gathered: &mut Gathered,
+    at: Place,
+    node: u32,
+    target: &Target,
+    value: &Option<Value>,
+) -> Result<Option<BitStep>, TargetFault>
+    requires net { IsNet net.now }
+    requires index { IsIndex net.now index.now }
+    requires few { gathered.old.asked + 1 < 2 ^ 32 }
+    requires limited { IsLimited gathered.old }
+    ensures answer { Binds (found_then (read_bits net.now at node (gathered.old.asked + 1) (seen_target target.now) (option_map seen_value value.now)) (λ rs. nothing_done (with_reads (seen_gathered gathered.old) at rs))) (seen_gathered gathered.new) result }
+    ensures stays { OnErr result (seen_gathered gathered.new ≡ seen_gathered gathered.old) }
+    ensures limited { IsLimited gathered.new }
+{
+    let number = gathered.asked + 1;
+    let reads = read_bits(alloc, net, index, at, node, number, target, value)?;
+    gathered.read(at, reads.as_slice())?;
+    Ok(None)
+}
+
+/// What a step makes of the queue, and its bit step.
+fn bind(
+    alloc: Global,
+    net: &Net,
+    tree: &Tree,
+    index: &Index,
+    gathered: &mut Gathered,
+    step: &Step,
+) -> Result<Option<BitStep>, TargetFault>
+    requires net { IsNet net.now }
+    requires index { IsIndex net.now index.now }
+    requires few { gathered.old.asked + 1 < 2 ^ 32 }
+    requires limited { IsLimited gathered.old }
+    ensures answer { Binds (feed net.now (places_in tree.now) (seen_gathered gathered.old) (seen_step step.now)) (seen_gathered gathered.new) result }
+    ensures stays { OnErr result (seen_gathered gathered.new ≡ seen_gathered gathered.old) }
+    ensures limited { IsLimited gathered.new }
+{
+    let at = step.at;
+    let node = step.node;
+    match &step.what {
+        Deed::Write { target, value } => write(
+            alloc, net, index, gathered, at, node, target, value,
+        ),
+        Deed::Read { target, value } => read(alloc, net, index, gathered, at, node, target, value),
+        Deed::Apply => gathered.apply(alloc, at, tree),
+        Deed::RunLoop(value) => gathered.run_value(at, value),
+        Deed::Reset => Ok(Some(BitStep::Reset)),
+        Deed::MergeBegin | Deed::BranchEnd | Deed::MergeEnd => Ok(None),
+    }
+}
+
+/// Binds the steps of a procedure to single register bits (IEEE 1687-2014, PDL level 0: iWrite, iRead, iApply, iRunLoop,
+/// iReset).
+///
+/// Contracts see the network, its nested form, and the queue: what came since the last iApply.
+#[derive(Drop)]
+pub struct Binder<'a> {
+    alloc: Global,
+    net: &'a Net,
+    tree: &'a Tree,
+    /// Made at the first step.
+    index: Option<Index>,
+    gathered: Gathered,
+}
+
+impl<'a> Model for Binder<'a> {
+    ghost use Rattle.std.specs.Coded.{codes};
+    ghost use Rattle.net_graph.specs.Nets.{IsNet};
+    ghost use Rattle.net_tree.specs.FormCode.{form_code};
+    ghost use Rattle.pdl_targets.specs.SeenBinder.{ABinder, IsMade};
+    ghost use Rattle.pdl_targets.specs.SeenGathered.{seen_gathered, IsLimited};
+
+    ghost Value = { ABinder };
+
+    ghost coded = { Prim.hlevel (codes, form_code) };
+
+    ghost view = { λ b. record { net = b.net.now; form = b.tree.now; queue = seen_gathered b.gathered } };
+
+    ghost invariant = { λ b. IsNet b.net.now × IsMade b.net.now b.index × IsLimited b.gathered };
+}
+
+impl<'a> Binder<'a> {
+    /// An empty queue for the steps of a procedure on a network, which is well formed, and whose nested form the tree is.
+    /// Takes no memory.
+    pub fn new(alloc: Global, net: &'a Net, tree: &'a Tree) -> Self
+        requires { IsNet net.now }
+        ensures { result ≡ record { net = net.now; form = tree.now; queue = empty } }
+    {
+        Binder {
+            alloc,
+            net,
+            tree,
+            index: None,
+            gathered: Gathered::new(alloc),
+        }
+    }
+
+    /// Takes in a step. A write or a read joins the queue; an iApply gives the rounds of the queue, or `None` where it names
+    /// no bit, and empties it; an iRunLoop gives its cycles, or `None` where they are 0. After a refusal the queue is as it
+    /// was. The iReads that were taken in, with this step, are fewer than 2^32.
+    ///
+    /// # Errors
+    ///
+    /// At an iWrite or an iRead the first of these: [`TargetFault::NoTarget`], [`TargetFault::NoValue`],
+    /// [`TargetFault::ValueWide`]; then for each bit that isn't x, from position 0 on, [`TargetFault::NotWritable`] or
+    /// [`TargetFault::NotReadable`], and [`TargetFault::SelectTarget`]. At an iApply [`TargetFault::Limit`] where its rounds
+    /// would be more than 4096 with those before. At an iRunLoop [`TargetFault::BadCount`], and [`TargetFault::Limit`] above
+    /// 1,000,000 cycles, or above 4,000,000 with those before.
+    pub fn feed(&mut self, step: &Step) -> Result<Option<BitStep>, TargetFault>
+        requires { self.old.queue.asked + 1 < 2 ^ 32 }
+        ensures given { IfOk result (λ o. feed self.old.net (places_in self.old.form) self.old.queue (seen_step step.now) ≡ Is (record { queue = self.new.queue; step = option_map bit_steps.seen_step o })) }
+        ensures refused { IfErr result (Refuses (feed self.old.net (places_in self.old.form) self.old.queue (seen_step step.now))) }
+        ensures stays { OnErr result (self.new.queue ≡ self.old.queue) }
+        ensures net { self.new.net ≡ self.old.net }
+        ensures form { self.new.form ≡ self.old.form }
+    {
+        let index = match self.index.take() {
+            Some(index) => index,
+            None => index_of(self.alloc, self.net)?,
+        };
+        let answer = bind(
+            self.alloc,
+            self.net,
+            self.tree,
+            &index,
+            &mut self.gathered,
+            step,
+        );
+        self.index = Some(index);
+        answer
+    }
+
+    /// Ends the steps. Takes no memory.
+    ///
+    /// # Errors
+    ///
+    /// [`TargetFault::Unapplied`] exactly where an iWrite or an iRead came after the last iApply, with the place of the first.
+    pub fn finish(&self) -> Result<(), TargetFault>
+        ensures { Finishes (finish self.now.queue) result }
+    {
+        self.gathered.finish()
+    }
+}

@@ -1,0 +1,65 @@
+// The names of the cells, in an index.
+ghost use Rattle.std.specs.Prelude.{◌≡◌, ◌<◌, ◌≤◌, ◌+◌, ◌^◌, ◌++◌, [], length, map, IfOk, codes};
+ghost use Rattle.ij_text.specs.Numbering.{AreDistinct};
+ghost use Rattle.net_graph.specs.Nets.{IsNet};
+ghost use Rattle.pdl_parser.specs.Views.{bytes_of};
+ghost use Rattle.pdl_expand.specs.Values.{cell_of};
+ghost use Rattle.pdl_expand.specs.Expansion.{dotted, dotted_paths};
+ghost use Rattle.pdl_targets.specs.Index.{IsIndex};
+
+use ij_bits::{List, OutOfMemory};
+use ij_text::{Name, Names};
+use net_graph::{Net, Node};
+use std::alloc::Global;
+
+/// What is looked up in a network for each step.
+#[derive(Drop)]
+pub(crate) struct Index {
+    /// The dotted paths of the cells.
+    pub cells: Names,
+}
+
+/// Adds a dot and a name.
+fn with_name(text: Name, name: &[u8]) -> Result<Name, OutOfMemory>
+    ensures { IfOk result (λ r. r.items ≡ text.items ++ (codes "." ++ name.now)) }
+{
+    let mut bytes = text.into_vec();
+    bytes.push(b'.')?;
+    bytes.extend_from_slice(name)?;
+    Ok(List::from(bytes))
+}
+
+/// Adds names, each behind a dot.
+pub(crate) fn put_names(text: Name, names: &[Name]) -> Result<Name, OutOfMemory>
+    ensures { IfOk result (λ r. r.items ≡ text.items ++ dotted (map bytes_of names.now)) }
+{
+    let mut text = text;
+    for name in names {
+        text = with_name(text, name.as_slice())?;
+    }
+    Ok(text)
+}
+
+/// The dotted paths of cells, none of which stands twice.
+fn dotted_paths(alloc: Global, nodes: &[Node]) -> Result<Names, OutOfMemory>
+    requires distinct { AreDistinct (dotted_paths (map cell_of nodes.now)) }
+    requires few { length nodes.now < 2 ^ 32 }
+    ensures { IfOk result (λ names. names ≡ dotted_paths (map cell_of nodes.now)) }
+{
+    let mut names = Names::new(alloc);
+    for node in nodes {
+        let text = put_names(List::new(alloc), node.path.as_slice())?;
+        names.intern(&text)?;
+    }
+    Ok(names)
+}
+
+/// The index of a network.
+pub(crate) fn index_of(alloc: Global, net: &Net) -> Result<Index, OutOfMemory>
+    requires { IsNet net.now }
+    ensures { IfOk result (IsIndex net.now) }
+{
+    pdl_expand::paths_differ();
+    let cells = dotted_paths(alloc, net.nodes.as_slice())?;
+    Ok(Index { cells })
+}

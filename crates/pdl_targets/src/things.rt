@@ -1,0 +1,139 @@
+// What a target names.
+ghost use Rattle.std.specs.Prelude.{◌≡◌, ◌<◌, ◌≤◌, ◌+◌, ◌-◌, ◌^◌, ◌++◌, [], length, map, IfOk};
+ghost use Rattle.std.specs.Option.{option_map, IfSome};
+ghost use Rattle.net_graph.specs.Nets.{IsNet, IsThing};
+ghost use Rattle.pdl_parser.specs.Views.{bytes_of};
+ghost use Rattle.pdl_expand.specs.Expansion.{dotted, but_last, last, cell, cell_at};
+ghost use Rattle.pdl_expand.specs.Values.{cells_of};
+ghost use Rattle.pdl_targets.specs.Index.{IsIndex};
+ghost use Rattle.pdl_targets.specs.Seen.{Finds};
+ghost use Rattle.pdl_targets.specs.Targets.{has_index, position_of, slice_of, spots_of, thing_at, thing_in, thing_of};
+
+use crate::fault::TargetFault;
+use crate::index::{Index, put_names};
+use ij_bits::{List, OutOfMemory};
+use ij_text::{Name, Place};
+use net_graph::{Net, Spot, Thing};
+use std::alloc::Global;
+
+/// The names in front of the last one.
+fn in_front(path: &[Name]) -> &[Name]
+    ensures { map bytes_of result.now ≡ but_last (map bytes_of path.now) }
+{
+    match path {
+        [front @ .., _] => front,
+        [] => path,
+    }
+}
+
+/// The last name.
+fn last(path: &[Name]) -> &[u8]
+    ensures { result.now ≡ last (map bytes_of path.now) }
+{
+    match path {
+        [.., name] => name.as_slice(),
+        [] => b"",
+    }
+}
+
+/// The number of the thing of this name in a cell.
+fn thing_in<'a>(things: &'a [Thing], node: u32, name: &[u8]) -> Option<&'a Thing>
+    ensures { option_map (λ t. t.now) result ≡ thing_in things.now node name.now }
+{
+    for thing in things {
+        if thing.node == node && thing.name.as_slice() == name {
+            return Some(thing);
+        }
+    }
+    None
+}
+
+/// The path of a cell.
+fn path_of<'a>(net: &'a Net, node: u32, none: &'a [Name]) -> &'a [Name]
+    requires { none.now ≡ [] }
+    ensures { map bytes_of result.now ≡ (cell (cells_of net.now) node).path }
+{
+    if (node as usize) < net.nodes.len() {
+        net.nodes.get(node as usize).path.as_slice()
+    } else {
+        none
+    }
+}
+
+/// The cell that the names in front of a path's last one lead to, from a cell.
+fn cell_of(
+    alloc: Global,
+    net: &Net,
+    index: &Index,
+    node: u32,
+    path: &[Name],
+) -> Result<Option<u32>, OutOfMemory>
+    requires { IsIndex net.now index.now }
+    ensures { IfOk result (λ o. o ≡ cell_at (cells_of net.now) ((cell (cells_of net.now) node).path ++ but_last (map bytes_of path.now))) }
+{
+    let key = put_names(List::new(alloc), path_of(net, node, &path[..0]))?;
+    let key = put_names(key, in_front(path))?;
+    Ok(index.cells.find(&key))
+}
+
+/// The thing that a path leads to from a cell.
+pub(crate) fn thing_at<'a>(
+    alloc: Global,
+    net: &'a Net,
+    index: &Index,
+    node: u32,
+    path: &[Name],
+) -> Result<Option<&'a Thing>, OutOfMemory>
+    requires { IsIndex net.now index.now }
+    ensures { IfOk result (λ o. option_map (λ t. t.now) o ≡ thing_at net.now node (map bytes_of path.now)) }
+{
+    match cell_of(alloc, net, index, node, path)? {
+        Some(cell) => Ok(thing_in(net.things.as_slice(), cell, last(path))),
+        None => Ok(None),
+    }
+}
+
+/// How far an index is from the right one.
+fn position_of(thing: &Thing, i: u32) -> u32
+    ensures { result ≡ position_of thing.now i }
+{
+    i.saturating_sub(thing.right) + thing.right.saturating_sub(i)
+}
+
+/// Whether an index lies in the range of a thing.
+fn has_index(thing: &Thing, i: u32) -> bool
+    ensures { result ≡ has_index thing.now i }
+{
+    i >= thing.left.min(thing.right) && i <= thing.left.max(thing.right)
+}
+
+/// The bits from a left index to a right one, position 0 first.
+fn slice_of(at: Place, thing: &Thing, left: u32, right: u32) -> Result<&[Spot], TargetFault>
+    requires { length thing.now.bits.items ≡ (thing.now.left - thing.now.right) + (thing.now.right - thing.now.left) + 1 }
+    ensures spots { Finds (λ spots. spots.now) (slice_of at thing.now left right) result }
+    ensures few { IfOk result (λ spots. length spots.now ≤ length thing.now.bits.items) }
+{
+    let from = position_of(thing, right) as usize;
+    let to = position_of(thing, left) as usize;
+    if has_index(thing, left) && has_index(thing, right) && to >= from {
+        Ok(&thing.bits.as_slice()[from..to + 1])
+    } else {
+        Err(TargetFault::NoTarget { at })
+    }
+}
+
+/// The bits of a thing in a range, position 0 first.
+pub(crate) fn spots_of(
+    at: Place,
+    thing: &Thing,
+    range: Option<(u32, u32)>,
+) -> Result<&[Spot], TargetFault>
+    requires { length thing.now.bits.items ≡ (thing.now.left - thing.now.right) + (thing.now.right - thing.now.left) + 1 }
+    ensures spots { Finds (λ spots. spots.now) (spots_of at thing.now range) result }
+    ensures few { IfOk result (λ spots. length spots.now ≤ length thing.now.bits.items) }
+{
+    match range {
+        None => Ok(thing.bits.as_slice()),
+        Some((left, right)) => slice_of(at, thing, left, right),
+    }
+}
