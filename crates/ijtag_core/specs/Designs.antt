@@ -13,12 +13,12 @@ use Rattle.ijtag_core.specs.FirstForm.{first_form, applied, first_design}
 -- what is compiled; the network is made and not used so far
 unfoldable pub compiled_form : Compile → List SeenModule → SeenDevice → List ℕ → List ℕ → List ℕ → Part SeenForm
 compiled_form c modules of icl pdl device = do
-  net ← network_below modules c.top of
+  network ← network_below modules c.top of
   form ← first_form c icl pdl device
   applied form
 
 -- what is played on
 unfoldable pub played_design : Play → List SeenModule → SeenDevice → List ℕ → List ℕ → List ℕ → Part Design
 played_design p modules of icl device tables = do
-  net ← network_below modules p.top of
+  network ← network_below modules p.top of
   first_design p icl device tables

@@ -8,6 +8,8 @@ pub mod DeviceText
 pub mod SvfText
 pub mod Elaborated
 pub mod Connected
+pub mod NetNames
+pub mod Nested
 pub mod Networks
 pub mod FirstForm
 pub mod Designs

@@ -1,6 +1,7 @@
 // From the design to what is compiled or played, as long as one kind of chip is: the network, and then the first form.
 ghost use Rattle.std.specs.Prelude.{IfOk};
 ghost use Rattle.bench_file.specs.Device.{seen_device};
+ghost use Rattle.icl_frames.specs.Written.{AreWritten};
 ghost use Rattle.icl_syntax.specs.Views.{seen_design};
 ghost use Rattle.first_form.specs.SeenForms.{seen_form};
 ghost use Rattle.first_form.specs.Texts.{IsForm};
@@ -28,10 +29,11 @@ pub(crate) fn read_compiled_form(
     pdl: &[u8],
     device: &[u8],
 ) -> Result<Form, StageFault>
+    requires { AreWritten (seen_design modules.now) }
     ensures follows { Follows (compiled_form (seen_compile words.now) (seen_design modules.now) (seen_device of.now) icl.now pdl.now device.now) seen_form result }
     ensures form { IfOk result (λ form. IsForm (seen_form form)) }
 {
-    let _net = read_network(alloc, modules, words.top, of)?;
+    let _network = read_network(alloc, modules, words.top, of)?;
     let form = read_first_form(alloc, words, icl, pdl, device)?;
     let form = check_applied(alloc, form)?;
     Ok(form)
@@ -48,9 +50,10 @@ pub(crate) fn read_played_design(
     device: &[u8],
     tables: &[u8],
 ) -> Result<Design, StageFault>
+    requires { AreWritten (seen_design modules.now) }
     ensures { Follows (played_design (seen_play words.now) (seen_design modules.now) (seen_device of.now) icl.now device.now tables.now) (λ design. design) result }
 {
-    let _net = read_network(alloc, modules, words.top, of)?;
+    let _network = read_network(alloc, modules, words.top, of)?;
     let design = read_first_design(alloc, words, icl, device, tables)?;
     Ok(design)
 }
