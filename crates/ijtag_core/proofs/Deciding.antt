@@ -24,7 +24,7 @@ use Rattle.icl_references.specs.Roles.{CellOf}
 use Rattle.icl_elab.specs.Hierarchy.{hierarchy}
 use Rattle.ijtag_core.specs.Elaborated.{elab_refusal, elaborated}
 use Rattle.ijtag_core.specs.Designs.{compiled_form, played_design}
-use Rattle.ijtag_core.specs.FirstForm.{first_form, applied, first_design}
+use Rattle.ijtag_core.specs.FirstForm.{first_form, applied, applied_form, first_design}
 use Rattle.ijtag_core.specs.IclText.{lex_refusal, parse_refusal, icl_tokens, icl_design, icl_text}
 use Rattle.ijtag_core.specs.Order.{loaded_one, loaded, accepted, played_texts, playable, work_on, work}
 use Rattle.ijtag_core.specs.Refusals.{Refusal, refused_at, refused_word}
@@ -38,6 +38,9 @@ use Rattle.net_tree.specs.Form.{Items}
 use Rattle.nest_check.specs.Laws.{OneForm, OneCause, LawfulHasNone}
 use Rattle.nest_check.specs.declared.fault.NestFault.{NestFault}
 use Rattle.nest_check.specs.declared.fault.NestFault.TheVariants.{OutOfMemory as NestMemory}
+use Rattle.pdl_parser.specs.Laws.{ProceduresAreOne, ProceduresAreNotRefused, RefusalsAreOne as PdlRefusalsAreOne}
+use Rattle.pdl_parser.specs.Refusals.{AFault}
+use Rattle.ijtag_core.specs.PdlText.{pdl_text, pdl_refusal}
 use Rattle.ijtag_core.specs.Nested.{IsNested, IsUnnested, nested, nest_refusal}
 use Rattle.ijtag_core.proofs.SameNets.{same_describes, same_cause}
 use Rattle.icl_signals.specs.Refusals.{Refusal as ConnectRefusal}
@@ -206,13 +209,21 @@ unfolding applied
 applied_decided form =
     record { one = λ a b p q. p.0 ∙ sym q.0; apart = λ a r p q. let all = p.1 in let some = q.1 in cc; alike = λ r s p q. let a = p.1 in let b = q.1 in let c = p.2 in let d = q.2 in cc }
 
+applied_form_decided : (c : Compile) (icl pdl device : List ℕ) → IsDecided (applied_form c icl pdl device)
+unfolding applied_form
+applied_form_decided c icl pdl device = in_turn_decided (first_form c icl pdl device) _ (form_decided c icl pdl device) applied_decided
+
 first_design_decided : (p : Play) (icl device tables : List ℕ) → IsDecided (first_design p icl device tables)
 unfolding first_design
 first_design_decided p icl device tables = record { one = λ a b x y. y.1 a x.0; apart = λ a r x y. y.1 a x.0; alike = λ r s x y. x.0 ∙ sym y.0 }
 
--- ---- the network, and the commands
+pdl_alike : (fault other : AFault) (r s : Refusal) → fault ≡ other → pdl_refusal fault ≡ Some r → pdl_refusal other ≡ Some s → r ≡ s
+pdl_alike fault other r s same p q = cc
+
+-- ---- the network, the procedures, and the commands
 
 module _ (one_form : OneForm) (one_cause : OneCause) (lawful_none : LawfulHasNone)
+    (procs_one : ProceduresAreOne) (procs_not_refused : ProceduresAreNotRefused) (pdl_refusals : PdlRefusalsAreOne)
     (cuttings : CuttingsAreOne) (no_fault : CutTextsHaveNoFault) (faults : FaultsAreOne) (designs : DesignsAreOne) (not_refused : DesignsAreNotRefused) (refusals : RefusalsAreOne) where
   nested_apart : (net other : Net) (form : Items) (fault : NestFault) (of : NetOf) (r : Refusal) → seen_net other ≡ seen_net net → IsNested net form → IsUnnested other fault → nest_refusal of fault ≡ Some r → ⊥
   nested_apart net other form fault of r same is not told =
@@ -240,10 +251,16 @@ module _ (one_form : OneForm) (one_cause : OneCause) (lawful_none : LawfulHasNon
       in_turn_decided (elaborated modules top) _ (elaborated_decided modules top)
       (λ cells. in_turn_decided (connected cells of) _ (connected_decided cells of) (λ net. in_turn_decided (nested net) _ (nested_decided net) (λ form. give_decided _)))
 
+  pdl_decided : (text : List ℕ) → IsDecided (pdl_text text)
+  unfolding pdl_text
+  pdl_decided text =
+      record { one = λ x y p q. procs_one _ x y p q; apart = λ x r p q. procs_not_refused text x q.0 p q.1; alike = λ r s p q. pdl_alike p.0 q.0 r s (pdl_refusals text p.0 q.0 p.1 q.1) p.2 q.2 }
+
   compiled_decided : (c : Compile) (modules : List SeenModule) (of : SeenDevice) (icl pdl device : List ℕ) → IsDecided (compiled_form c modules of icl pdl device)
   unfolding compiled_form
   compiled_decided c modules of icl pdl device =
-      in_turn_decided (network_below modules c.top of) _ (network_decided modules c.top of) (λ network. in_turn_decided (first_form c icl pdl device) _ (form_decided c icl pdl device) applied_decided)
+      in_turn_decided (network_below modules c.top of) _ (network_decided modules c.top of) (λ network. in_turn_decided (pdl_text pdl) _ (pdl_decided pdl)
+      (λ procs. applied_form_decided c icl pdl device))
 
   played_decided : (p : Play) (modules : List SeenModule) (of : SeenDevice) (icl device tables : List ℕ) → IsDecided (played_design p modules of icl device tables)
   unfolding played_design

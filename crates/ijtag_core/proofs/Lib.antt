@@ -6,6 +6,7 @@ pub mod Begun
 pub mod Ends
 pub mod Verdicts
 pub mod Few
+pub mod Parts
 pub mod SameLists
 pub mod SameNets
 pub mod Deciding

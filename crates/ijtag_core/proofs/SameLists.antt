@@ -15,7 +15,7 @@ cons_tail x y xs ys e = cc
 
 -- the length of lists that look alike, and what a function of the view makes of them
 pub same_length : {A B : Type 0} (f : A → B) (xs ys : List A) → map f xs ≡ map f ys → length xs ≡ length ys
-same_length f xs ys e = sym (length-map f xs) ∙ ap length e ∙ length-map f ys
+same_length f xs ys e = sym (length-map xs f) ∙ ap length e ∙ length-map ys f
 
 pub through : {A B C : Type 0} (f : A → B) (h : B → C) (xs ys : List A) → map f xs ≡ map f ys → map (λ x. h (f x)) xs ≡ map (λ x. h (f x)) ys
 through f h xs ys e = sym (map-map h f xs) ∙ ap (map h) e ∙ map-map h f ys
@@ -87,10 +87,10 @@ same_part f (b ∷ before) after (y ∷ ys) x e =
 
 -- the first element of which something doesn't hold, where it speaks of the view alone
 pub same_first : {A B : Type 0} (f : A → B) (P : A → Type 0) → ((x y : A) → f x ≡ f y → P x → P y) → (xs ys : List A) (n : ℕ) (x : A) → map f xs ≡ map f ys → IsFirstAt P xs n x → (y : A) × IsFirstAt P ys n y
-same_first f P kept xs ys n x e (before, after, whole, long, all, no) =
+same_first f P kept xs ys n x e (before, after, whole, long, all, fails) =
     let p = same_part f before after ys x (sym (ap (map f) whole) ∙ e) in
-    (p.at, (p.front, p.back, p.whole, sym (same_length f before p.front p.fronts) ∙ long, same_all f P kept before p.front p.fronts all, λ (h : P p.at). no (kept p.at x (sym p.ats) h)))
+    (p.at, (p.front, p.back, p.whole, sym (same_length f before p.front p.fronts) ∙ long, same_all f P kept before p.front p.fronts all, λ (h : P p.at). fails (kept p.at x (sym p.ats) h)))
 
 -- the same element, by another saying that comes to the same
 pub other_first : {A : Type 0} (P Q : A → Type 0) → ((x : A) → P x → Q x) → ((x : A) → Q x → P x) → (xs : List A) (x : A) → IsFirst P xs x → IsFirst Q xs x
-other_first P Q to back xs x (n, (before, after, whole, long, all, no)) = (n, (before, after, whole, long, All-weaker P Q to before all, λ (h : Q x). no (back x h)))
+other_first P Q to back xs x (n, (before, after, whole, long, all, fails)) = (n, (before, after, whole, long, All-weaker P Q to before all, λ (h : Q x). fails (back x h)))

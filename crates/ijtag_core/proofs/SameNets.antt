@@ -5,7 +5,7 @@ use Rattle.std.specs.List.{list_any, count_by}
 use Rattle.std.specs.Option.{unwrap_or}
 use Rattle.std.proofs.lemmas.Simd.{map-map}
 use Rattle.std.proofs.lemmas.List.Elements.{All-weaker}
-use Rattle.ij_bits.specs.BitLists.{bit}
+use Rattle.ij_bits.specs.BitLists.{bit as value_at}
 use Rattle.ij_bits.specs.declared.tern.Tern.{Tern}
 use Rattle.ij_text.specs.Numbers.{open_bits, tern_bits}
 use Rattle.net_graph.specs.declared.net.BitId.{BitId}
@@ -202,7 +202,7 @@ same_cares (x ∷ xs) (y ∷ ys) e =
 
 same_reset : (a b : Net) → Same a b → (at : BitId) → HasReset a at → HasReset b at
 same_reset a b same at h =
-    subst (λ (l : List (List Bool)). IsTrue (bit (get_or l at.reg []) at.pos)) (same_cares a.regs.items b.regs.items (same_regs a b same)) h
+    subst (λ (l : List (List Bool)). IsTrue (value_at (get_or l at.reg []) at.pos)) (same_cares a.regs.items b.regs.items (same_regs a b same)) h
 
 same_listed : (a b : Net) → Same a b → (m : ℕ) → IsListed a m → IsListed b m
 same_listed a b same m h = subst (λ (p : Option Point). IsSome p) (same_mux_source a b same m) h
@@ -232,17 +232,21 @@ same_met a b same _ (BeforeRow m row h c) =
     subst (λ (q : Point). IsMet b q) (sym (ap (λ (w : RowOf). w.from) e)) (BeforeRow m other (same_met a b same (Mux m) h) there)
 
 same_all_met : (a b : Net) → Same a b → AllAreMet a → AllAreMet b
-same_all_met a b same (p, q) =
-    (λ (r : ℕ) (lt : r < length b.regs.items). same_met a b same (Reg r) (p r (subst (λ (n : ℕ). r < n) (sym (reg_count a b same)) lt)),
-    λ (m : ℕ) (lt : m < length b.muxes.items). same_met a b same (Mux m) (q m (subst (λ (n : ℕ). m < n) (sym (mux_count a b same)) lt)))
+same_all_met a b same (p, q) = (
+  λ (r : ℕ) (lt : r < length b.regs.items). same_met a b same (Reg r) (p r (subst (λ (n : ℕ). r < n) (sym (reg_count a b same)) lt)),
+  λ (m : ℕ) (lt : m < length b.muxes.items). same_met a b same (Mux m) (q m (subst (λ (n : ℕ). m < n) (sym (mux_count a b same)) lt)),
+)
 
 same_first_unmet : (a b : Net) → Same a b → (cell : Point) → IsFirstUnmet a cell → IsFirstUnmet b cell
 same_first_unmet a b same Entry h = h
-same_first_unmet a b same (Reg r) (lt, before, no) =
-    (subst (λ (n : ℕ). r < n) (reg_count a b same) lt, λ j l. same_met a b same (Reg j) (before j l), λ (h : IsMet b (Reg r)). no (same_met b a (sym same) (Reg r) h))
-same_first_unmet a b same (Mux m) (lt, regs, before, no) =
-    (subst (λ (n : ℕ). m < n) (mux_count a b same) lt, λ (r : ℕ) (l : r < length b.regs.items). same_met a b same (Reg r) (regs r (subst (λ (n : ℕ). r < n) (sym (reg_count a b same)) l)),
-    λ j l. same_met a b same (Mux j) (before j l), λ (h : IsMet b (Mux m)). no (same_met b a (sym same) (Mux m) h))
+same_first_unmet a b same (Reg r) (lt, before, fails) =
+    (subst (λ (n : ℕ). r < n) (reg_count a b same) lt, λ j l. same_met a b same (Reg j) (before j l), λ (h : IsMet b (Reg r)). fails (same_met b a (sym same) (Reg r) h))
+same_first_unmet a b same (Mux m) (lt, regs, before, fails) = (
+  subst (λ (n : ℕ). m < n) (mux_count a b same) lt,
+  λ (r : ℕ) (l : r < length b.regs.items). same_met a b same (Reg r) (regs r (subst (λ (n : ℕ). r < n) (sym (reg_count a b same)) l)),
+  λ j l. same_met a b same (Mux j) (before j l),
+  λ (h : IsMet b (Mux m)). fails (same_met b a (sym same) (Mux m) h),
+)
 
 -- ---- causes
 
@@ -265,18 +269,22 @@ module _ (a b : Net) (same : Same a b) (form : Items) (m : ℕ) where
 same_fault : (a b : Net) → Same a b → (form : Items) (m : ℕ) (fault : NestFault) → IsFaultOfMux a form m fault → IsFaultOfMux b form m fault
 same_fault a b same form m (Unreached cell) h = h
 same_fault a b same form m NotNested h = h
-same_fault a b same form m (SelectInside mux) (e, no) = (e, λ (h : All (IsOutside form m) (selects_of b m)). no (outside b a (sym same) form m h))
+same_fault a b same form m (SelectInside mux) (e, fails) = (e, λ (h : All (IsOutside form m) (selects_of b m)). fails (outside b a (sym same) form m h))
 same_fault a b same form m (SelectShared bit) (o, h) =
     (outside a b same form m o, first_kept a b same m (IsUnshared a) (IsUnshared b) (same_unshared a b same) (same_unshared b a (sym same)) bit h)
-same_fault a b same form m (SelectDrives bit inst) (o, u, h, i, at) =
-    (outside a b same form m o, unshared a b same form m u, first_kept a b same m (DrivesNone a) (DrivesNone b) (same_undriven a b same) (same_undriven b a (sym same)) bit h,
-    same_first seen_inst (IsUndriven bit) (kept_undriven bit) a.insts.items b.insts.items inst i (same_insts a b same) at)
+same_fault a b same form m (SelectDrives bit inst) (o, u, h, first) =
+    let (i, at) = first in (
+      outside a b same form m o,
+      unshared a b same form m u,
+      first_kept a b same m (DrivesNone a) (DrivesNone b) (same_undriven a b same) (same_undriven b a (sym same)) bit h,
+      same_first seen_inst (IsUndriven bit) (kept_undriven bit) a.insts.items b.insts.items inst i (same_insts a b same) at,
+    )
 same_fault a b same form m (SelectNoReset bit) (o, u, d, h) =
     (outside a b same form m o, unshared a b same form m u, undriven a b same form m d, first_kept a b same m (HasReset a) (HasReset b) (same_reset a b same) (same_reset b a (sym same)) bit h)
-same_fault a b same form m (ResetUnlisted mux) (o, u, d, r, e, no) =
-    (outside a b same form m o, unshared a b same form m u, undriven a b same form m d, resets a b same form m r, e, λ (h : IsListed b m). no (same_listed b a (sym same) m h))
-same_fault a b same form m (TooDeep mux) (o, u, d, r, l, e, no) =
-    (outside a b same form m o, unshared a b same form m u, undriven a b same form m d, resets a b same form m r, same_listed a b same m l, e, no)
+same_fault a b same form m (ResetUnlisted mux) (o, u, d, r, e, fails) =
+    (outside a b same form m o, unshared a b same form m u, undriven a b same form m d, resets a b same form m r, e, λ (h : IsListed b m). fails (same_listed b a (sym same) m h))
+same_fault a b same form m (TooDeep mux) (o, u, d, r, l, e, fails) =
+    (outside a b same form m o, unshared a b same form m u, undriven a b same form m d, resets a b same form m r, same_listed a b same m l, e, fails)
 same_fault a b same form m OutOfMemory h = h
 
 same_select : (a b : Net) → Same a b → (fault : NestFault) → IsSelectFault a fault → IsSelectFault b fault

@@ -11,6 +11,7 @@ pub mod Connected
 pub mod NetNames
 pub mod Nested
 pub mod Networks
+pub mod PdlText
 pub mod FirstForm
 pub mod Designs
 pub mod Order

@@ -8,4 +8,5 @@ pub(crate) mod form;
 pub(crate) mod icl;
 pub(crate) mod nest;
 pub(crate) mod network;
+pub(crate) mod pdl;
 pub(crate) mod svf;

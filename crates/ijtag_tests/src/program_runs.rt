@@ -311,6 +311,54 @@ fn refused_forms_tell_why(rt: HostRuntime) -> Result<(), Fail> {
     Ok(())
 }
 
+// The procedures' text is read behind the network, and in front of the first form. A text that is read stops there, whatever it does.
+#[test]
+fn refused_procedures_tell_why(rt: HostRuntime) -> Result<(), Fail> {
+    let alloc = rt.alloc();
+    let words = compile_words(alloc)?;
+    let rows: [(&[u8], &[u8]); 9] = [
+        (b"iProc p {} {", b"refused pdl PdlSyntax 1:1\n"),
+        (b"iPDLLevel 1\n", b"refused pdl NotInLevel0 1:1\n"),
+        (
+            b"iProcsForModule chip\niProc p {} { iScan }\n",
+            b"refused pdl LeftOut 2:14 iScan\n",
+        ),
+        (
+            b"iProcsForModule chip\niProc p {} {\n  iWrite net.R 1_\n}\n",
+            b"refused pdl BadNumber 3:16\n",
+        ),
+        (
+            b"iProcsForModule chip\niProc p {} {\n  iWrite net.R 340282366920938463463374607431768211456\n}\n",
+            b"refused pdl TooWide 3:16\n",
+        ),
+        (
+            b"iProcsForModule chip\niProc p {} {\n}\niProc p {} {\n}\n",
+            b"refused pdl ProcTwice 4:7\n",
+        ),
+        (
+            b"iProcsForModule chip\niProc p {a} {\n  iWrite net.R $b\n}\n",
+            b"refused pdl NoArg 3:16 b\n",
+        ),
+        (
+            b"iProcsForModule chip\niProc p {} {\n  iMerge -end\n}\n",
+            b"refused pdl PdlSyntax 3:10\n",
+        ),
+        (
+            b"iProcsForModule chip\niProc p {} {\n  iMerge -begin\n  iMerge -end\n}\n",
+            b"refused core FirstForm\n",
+        ),
+    ];
+    for (pdl, said) in rows {
+        let mut shelf = shelf_with(alloc, pdl)?;
+        let mut out = MemSink::new(alloc);
+        let mut err = MemSink::new(alloc);
+        let status = ijtag(alloc, &words, &mut shelf, &mut out, &mut err);
+        assert_eq!(rt; status, Status::Refused);
+        assert_eq!(rt; err.bytes(), said);
+    }
+    Ok(())
+}
+
 // Each write of the error stream fails once, at each command: the status is that of the refusal, and what the stream took is a first
 // part of its line.
 #[test]
