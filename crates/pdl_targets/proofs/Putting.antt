@@ -1,11 +1,10 @@
 -- Where the queue puts a write or a read: in place of one of the same bit, or at the end.
-use Rattle.std.proofs.Common.{◌≡◌, ℕ, zero, suc, ◌+◌, ◌<◌, ◌≤◌, Bool, true, false, cond, List, [], ◌∷◌, ◌++◌, length, get_or, set, Option, Some, None, refl, sym, ap, ◌∙◌, arith}
+use Rattle.std.proofs.Common.{◌≡◌, ℕ, zero, suc, ◌<◌, ◌≤◌, Bool, true, false, cond, List, [], ◌∷◌, ◌++◌, length, get_or, set, Option, Some, None, refl, sym, ap, ◌∙◌, arith}
 use Rattle.std.specs.Prelude.{nat_lt}
 use Rattle.std.specs.List.{position, position_or_len}
 use Rattle.std.proofs.lemmas.List.Quantifiers.{position-Some}
 use Rattle.std.proofs.lemmas.List.Sums.{fails_before_first}
 use Rattle.std.proofs.lemmas.Bool.{ltb-false}
-use Rattle.net_graph.specs.declared.net.BitId.{BitId}
 use Rattle.net_graph.specs.declared.step.WriteBit.{WriteBit}
 use Rattle.net_graph.specs.declared.step.ReadBit.{ReadBit}
 use Rattle.net_graph.specs.Path.{same_place}

@@ -1,10 +1,10 @@
 -- A number is too wide where it has a 1 or an x at the width or above.
-use Rattle.std.proofs.Common.{◌≡◌, ◌≢◌, ℕ, zero, suc, ◌+◌, ◌-◌, ◌^◌, ◌<◌, ◌≤◌, Bool, true, false, cond, List, [], ◌∷◌, length, drop, get_or, Option, Some, None, refl, sym, ap, ◌∙◌, subst, arith}
-use Rattle.std.specs.Prelude.{nat_lt, not, ◌↔◌}
+use Rattle.std.proofs.Common.{◌≡◌, ◌≢◌, ℕ, zero, suc, ◌^◌, ◌<◌, ◌≤◌, Bool, true, false, cond, List, [], ◌∷◌, length, drop, get_or, Option, Some, None, refl, ap, arith}
+use Rattle.std.specs.Prelude.{nat_lt, not}
 use Rattle.std.proofs.lemmas.Bool.{ltb-false, ltb-true}
 use Rattle.ij_text.specs.declared.Place.{Place}
 use Rattle.ij_text.specs.Numbers.{Written, InDecimal, InBits, IsWide, bits_in}
-use Rattle.pdl_targets.specs.Targets.{Found, Is, Fails, IsValueWide, all_zero, fitted, is_wide}
+use Rattle.pdl_targets.specs.Targets.{Is, Fails, IsValueWide, all_zero, fitted, is_wide}
 
 -- some item that isn't 0, from an index on
 some_not_zero : (bits : List (Option Bool)) (from k : ℕ) → from ≤ k → k < length bits → get_or bits k (Some false) ≢ Some false → all_zero (drop from bits) ≡ false

@@ -1,5 +1,5 @@
 -- What the calls answer, as the definitions say it.
-use Rattle.std.specs.Prelude.{◌≡◌, Option, Some, None, Result, Ok, Err, MatchResult}
+use Rattle.std.specs.Prelude.{◌≡◌, Option, Some, None, Result, Ok, Err}
 use Rattle.std.specs.Option.{IfSome}
 use Rattle.pdl_targets.specs.declared.fault.TargetFault.{TargetFault}
 use Rattle.pdl_targets.specs.declared.fault.TargetFault.TheVariants as fault

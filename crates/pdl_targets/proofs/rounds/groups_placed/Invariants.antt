@@ -1,8 +1,8 @@
-use Rattle.std.proofs.Common.{◌≡◌, ◌++◌, length, map}
+use Rattle.std.proofs.Common.{length, map}
 use Rattle.std.specs.Prelude.{All}
 use Rattle.net_graph.specs.SeenSteps.{seen_group}
 use Rattle.pdl_targets.specs.Rounds.{Places, groups}
-use Rattle.pdl_targets.specs.SeenPlaces.{IsPlaced, numbers, seen_placed}
+use Rattle.pdl_targets.specs.SeenPlaces.{IsPlaced, numbers}
 use Rattle.pdl_targets.proofs.PlacedRounds.{GoesOn}
 use Rattle.pdl_targets.proofs.rounds.groups_placed.Given as goal
 
