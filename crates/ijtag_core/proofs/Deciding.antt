@@ -1,6 +1,6 @@
 -- The work of a command comes to one end at most: what is given is one value, and then nothing is refused; and a refusal is one.
 use Rattle.std.specs.Prelude.{Option, None, Result, Ok, Err, codes}
-use Rattle.std.proofs.Common.{refl, ◌≡◌, ◌<◌, ◌≤◌, ◌∙◌, sym, ap, subst, inl, inr, ℕ, Some, List, [], ◌∷◌, length, arith}
+use Rattle.std.proofs.Common.{refl, ◌≡◌, ◌≢◌, ◌<◌, ◌≤◌, ◌∙◌, sym, ap, subst, inl, inr, ℕ, Some, List, [], ◌∷◌, length, arith}
 use Rattle.ij_io.specs.Files.{Files, bytes_of}
 use Rattle.icl_lexer.specs.Cutting.{AreTokens, tokens_from}
 use Rattle.icl_lexer.specs.Laws.{CuttingsAreOne, CutTextsHaveNoFault, FaultsAreOne}
@@ -24,7 +24,7 @@ use Rattle.icl_references.specs.Roles.{CellOf}
 use Rattle.icl_elab.specs.Hierarchy.{hierarchy}
 use Rattle.ijtag_core.specs.Elaborated.{elab_refusal, elaborated}
 use Rattle.ijtag_core.specs.Designs.{compiled_form, played_design}
-use Rattle.ijtag_core.specs.FirstForm.{first_form, applied, first_design}
+use Rattle.ijtag_core.specs.FirstForm.{first_form, applied, applied_form, first_design}
 use Rattle.ijtag_core.specs.IclText.{lex_refusal, parse_refusal, icl_tokens, icl_design, icl_text}
 use Rattle.ijtag_core.specs.Order.{loaded_one, loaded, accepted, played_texts, playable, work_on, work}
 use Rattle.ijtag_core.specs.Refusals.{Refusal, refused_at, refused_word}
@@ -32,7 +32,17 @@ use Rattle.ijtag_core.specs.declared.refusal.Stage.TheVariants.{Icl, Svf}
 use Rattle.bench_file.specs.Device.{SeenDevice, device}
 use Rattle.bench_file.specs.declared.fault.DeviceFault.{DeviceFault}
 use Rattle.icl_signals.specs.Connecting.{network}
-use Rattle.icl_signals.specs.PlainNets.{NetOf}
+use Rattle.icl_signals.specs.PlainNets.{NetOf, seen_net}
+use Rattle.net_graph.specs.declared.net.Net.{Net}
+use Rattle.net_tree.specs.Form.{Items}
+use Rattle.nest_check.specs.Laws.{OneForm, OneCause, LawfulHasNone}
+use Rattle.nest_check.specs.declared.fault.NestFault.{NestFault}
+use Rattle.nest_check.specs.declared.fault.NestFault.TheVariants.{OutOfMemory as NestMemory}
+use Rattle.pdl_parser.specs.Laws.{ProceduresAreOne, ProceduresAreNotRefused, RefusalsAreOne as PdlRefusalsAreOne}
+use Rattle.pdl_parser.specs.Refusals.{AFault}
+use Rattle.ijtag_core.specs.PdlText.{pdl_text, pdl_refusal}
+use Rattle.ijtag_core.specs.Nested.{IsNested, IsUnnested, nested, nest_refusal}
+use Rattle.ijtag_core.proofs.SameNets.{same_describes, same_cause}
 use Rattle.icl_signals.specs.Refusals.{Refusal as ConnectRefusal}
 use Rattle.ijtag_core.specs.Connected.{connect_refusal, connected}
 use Rattle.ijtag_core.specs.Networks.{network_below}
@@ -158,10 +168,6 @@ unfolding connected
 connected_decided cells of =
     record { one = λ a b p q. ok_is a b (network cells of.link of.instr) p q; apart = λ a r p q. network_not_refused cells of.link of.instr a q.0 p q.1; alike = λ r s p q. network_alike cells of.link of.instr p.0 q.0 r s p.1 q.1 p.2 q.2 }
 
-network_decided : (modules : List SeenModule) (top : List ℕ) (of : SeenDevice) → IsDecided (network_below modules top of)
-unfolding network_below
-network_decided modules top of = in_turn_decided (elaborated modules top) _ (elaborated_decided modules top) (λ cells. connected_decided cells of)
-
 -- how a cause is told
 abbrev told_cause : Cause → Place → Refusal
 told_cause (CauseLeftOut word) at = refused_word Svf (codes "LeftOut") at word
@@ -203,29 +209,72 @@ unfolding applied
 applied_decided form =
     record { one = λ a b p q. p.0 ∙ sym q.0; apart = λ a r p q. let all = p.1 in let some = q.1 in cc; alike = λ r s p q. let a = p.1 in let b = q.1 in let c = p.2 in let d = q.2 in cc }
 
+applied_form_decided : (c : Compile) (icl pdl device : List ℕ) → IsDecided (applied_form c icl pdl device)
+unfolding applied_form
+applied_form_decided c icl pdl device = in_turn_decided (first_form c icl pdl device) _ (form_decided c icl pdl device) applied_decided
+
 first_design_decided : (p : Play) (icl device tables : List ℕ) → IsDecided (first_design p icl device tables)
 unfolding first_design
 first_design_decided p icl device tables = record { one = λ a b x y. y.1 a x.0; apart = λ a r x y. y.1 a x.0; alike = λ r s x y. x.0 ∙ sym y.0 }
 
-compiled_decided : (c : Compile) (modules : List SeenModule) (of : SeenDevice) (icl pdl device : List ℕ) → IsDecided (compiled_form c modules of icl pdl device)
-unfolding compiled_form
-compiled_decided c modules of icl pdl device =
-    in_turn_decided (network_below modules c.top of) _ (network_decided modules c.top of) (λ net. in_turn_decided (first_form c icl pdl device) _ (form_decided c icl pdl device) applied_decided)
+pdl_alike : (fault other : AFault) (r s : Refusal) → fault ≡ other → pdl_refusal fault ≡ Some r → pdl_refusal other ≡ Some s → r ≡ s
+pdl_alike fault other r s same p q = cc
 
-played_decided : (p : Play) (modules : List SeenModule) (of : SeenDevice) (icl device tables : List ℕ) → IsDecided (played_design p modules of icl device tables)
-unfolding played_design
-played_decided p modules of icl device tables =
-    in_turn_decided (network_below modules p.top of) _ (network_decided modules p.top of) (λ net. first_design_decided p icl device tables)
+-- ---- the network, the procedures, and the commands
 
--- ---- commands
+module _ (one_form : OneForm) (one_cause : OneCause) (lawful_none : LawfulHasNone)
+    (procs_one : ProceduresAreOne) (procs_not_refused : ProceduresAreNotRefused) (pdl_refusals : PdlRefusalsAreOne)
+    (cuttings : CuttingsAreOne) (no_fault : CutTextsHaveNoFault) (faults : FaultsAreOne) (designs : DesignsAreOne) (not_refused : DesignsAreNotRefused) (refusals : RefusalsAreOne) where
+  nested_apart : (net other : Net) (form : Items) (fault : NestFault) (of : NetOf) (r : Refusal) → seen_net other ≡ seen_net net → IsNested net form → IsUnnested other fault → nest_refusal of fault ≡ Some r → ⊥
+  nested_apart net other form fault of r same is not told =
+      let none = lawful_none net form fault is.well_formed is.describes is.lawful (same_cause other net same fault not.cause) in cc
 
-texts_decided : (p : Play) (modules : List SeenModule) (svf icl device tables : List ℕ) → IsDecided (played_texts p modules svf icl device tables)
-unfolding played_texts
-texts_decided p modules svf icl device tables =
-    in_turn_decided (device_text device) _ (device_decided device) (λ of. in_turn_decided (svf_text svf) _ (svf_decided svf)
-    (λ commands. in_turn_decided (played_design p modules of icl device tables) _ (played_decided p modules of icl device tables) (λ design. give_decided (record { design = design; commands = commands }))))
+  nested_alike : (net other : Net) (fault next : NestFault) (of : NetOf) (r s : Refusal) → seen_net other ≡ seen_net net → IsUnnested net fault → IsUnnested other next → nest_refusal of fault ≡ Some r → nest_refusal of next ≡ Some s → r ≡ s
+  nested_alike net other fault next of r s same one two told also =
+      let first : fault ≢ NestMemory = λ (e : fault ≡ NestMemory). absurd (cc) in
+      let second : next ≢ NestMemory = λ (e : next ≡ NestMemory). absurd (cc) in
+      let e = one_cause net fault next one.well_formed first second one.cause (same_cause other net same next two.cause) in
+      cc
 
-module _ (cuttings : CuttingsAreOne) (no_fault : CutTextsHaveNoFault) (faults : FaultsAreOne) (designs : DesignsAreOne) (not_refused : DesignsAreNotRefused) (refusals : RefusalsAreOne) where
+  nested_decided : (of : NetOf) → IsDecided (nested of)
+  unfolding nested
+  nested_decided of =
+      record {
+        one = λ x y (net, same, is) (other, also, too). one_form net x y is.well_formed is.describes (same_describes other net (also ∙ sym same) y too.describes);
+        apart = λ x r (net, same, is) (other, fault, also, not, told). nested_apart net other x fault of r (also ∙ sym same) is not told;
+        alike = λ r s (net, fault, same, one, told) (other, next, also, two, tells). nested_alike net other fault next of r s (also ∙ sym same) one two told tells;
+      }
+
+  network_decided : (modules : List SeenModule) (top : List ℕ) (of : SeenDevice) → IsDecided (network_below modules top of)
+  unfolding network_below
+  network_decided modules top of =
+      in_turn_decided (elaborated modules top) _ (elaborated_decided modules top)
+      (λ cells. in_turn_decided (connected cells of) _ (connected_decided cells of) (λ net. in_turn_decided (nested net) _ (nested_decided net) (λ form. give_decided _)))
+
+  pdl_decided : (text : List ℕ) → IsDecided (pdl_text text)
+  unfolding pdl_text
+  pdl_decided text =
+      record { one = λ x y p q. procs_one _ x y p q; apart = λ x r p q. procs_not_refused text x q.0 p q.1; alike = λ r s p q. pdl_alike p.0 q.0 r s (pdl_refusals text p.0 q.0 p.1 q.1) p.2 q.2 }
+
+  compiled_decided : (c : Compile) (modules : List SeenModule) (of : SeenDevice) (icl pdl device : List ℕ) → IsDecided (compiled_form c modules of icl pdl device)
+  unfolding compiled_form
+  compiled_decided c modules of icl pdl device =
+      in_turn_decided (network_below modules c.top of) _ (network_decided modules c.top of) (λ network. in_turn_decided (pdl_text pdl) _ (pdl_decided pdl)
+      (λ procs. applied_form_decided c icl pdl device))
+
+  played_decided : (p : Play) (modules : List SeenModule) (of : SeenDevice) (icl device tables : List ℕ) → IsDecided (played_design p modules of icl device tables)
+  unfolding played_design
+  played_decided p modules of icl device tables =
+      in_turn_decided (network_below modules p.top of) _ (network_decided modules p.top of) (λ network. first_design_decided p icl device tables)
+
+  -- ---- commands
+
+  texts_decided : (p : Play) (modules : List SeenModule) (svf icl device tables : List ℕ) → IsDecided (played_texts p modules svf icl device tables)
+  unfolding played_texts
+  texts_decided p modules svf icl device tables =
+      in_turn_decided (device_text device) _ (device_decided device) (λ of. in_turn_decided (svf_text svf) _ (svf_decided svf)
+      (λ commands. in_turn_decided (played_design p modules of icl device tables) _ (played_decided p modules of icl device tables) (λ design. give_decided (record { design = design; commands = commands }))))
+
   icl_decided : (text : List ℕ) → IsDecided (icl_text text)
   unfolding icl_text
   icl_decided text = in_turn_decided (icl_tokens text) _ (tokens_decided cuttings no_fault faults text) (design_decided designs not_refused refusals text)

@@ -11,6 +11,10 @@ use Rattle.icl_syntax.specs.Tokens.{SeenToken}
 use Rattle.icl_parser.specs.Refusals.{IsRefused, OnRefusal}
 use Rattle.icl_parser.specs.declared.fault.ParseFault.{ParseFault}
 use Rattle.icl_parser.specs.declared.fault.ParseFault.TheVariants.{LeftOut, ExprLimit, Syntax, OutOfMemory as NoMemoryForTree}
+use Rattle.pdl_parser.specs.Refusals.{seen_fault as seen_pdl_fault, OnRefusal as OnPdlRefusal, IsRefused as IsPdlRefused}
+use Rattle.pdl_parser.specs.declared.fault.PdlFault.{PdlFault}
+use Rattle.pdl_parser.specs.declared.fault.PdlFault.TheVariants.{LeftOut as PdlLeftOut, NotInLevel0, BadNumber, TooWide, ProcTwice, NoArg, PdlSyntax, OutOfMemory as NoMemoryForProcs}
+use Rattle.ijtag_core.specs.PdlText.{pdl_refusal}
 use Rattle.svf_reader.specs.Answers.{Refuses, IsRefused as IsRefusedSvf}
 use Rattle.svf_reader.specs.Meaning.{LeftOut as LeftOutCause, SvfSyntax as SyntaxCause, SvfLimit as LimitCause, HexWide as WideCause, TdiMissing as TdiCause}
 use Rattle.svf_reader.specs.declared.fault.SvfFault.{SvfFault}
@@ -50,6 +54,16 @@ parse_fault_is text tokens (LeftOut at word) is r told = is
 parse_fault_is text tokens (ExprLimit at) is r told = is
 parse_fault_is text tokens (Syntax at) is r told = is
 parse_fault_is text tokens NoMemoryForTree is r told = absurd (cc)
+
+pub pdl_fault_is : (text : List ℕ) (fault : PdlFault) → OnPdlRefusal text fault → (r : Refusal) → pdl_refusal (seen_pdl_fault fault) ≡ Some r → IsPdlRefused text (seen_pdl_fault fault)
+pdl_fault_is text (PdlLeftOut at word) is r told = is
+pdl_fault_is text (NotInLevel0 at) is r told = is
+pdl_fault_is text (BadNumber at) is r told = is
+pdl_fault_is text (TooWide at) is r told = is
+pdl_fault_is text (ProcTwice at) is r told = is
+pdl_fault_is text (NoArg at name) is r told = is
+pdl_fault_is text (PdlSyntax at) is r told = is
+pdl_fault_is text NoMemoryForProcs is r told = absurd (cc)
 
 module _ (A : Type 0) where
   abbrev pub svf_err : SvfFault → Result A SvfFault

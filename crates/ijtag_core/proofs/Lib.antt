@@ -5,5 +5,9 @@ pub mod Loading
 pub mod Begun
 pub mod Ends
 pub mod Verdicts
+pub mod Few
+pub mod Parts
+pub mod SameLists
+pub mod SameNets
 pub mod Deciding
 pub mod Statuses

@@ -3,6 +3,7 @@ use Rattle.std.specs.Prelude.{◌≡◌, ℕ, List, Some, None, codes}
 use Rattle.first_form.specs.Texts.{SeenForm, AreTextsOf, AreDesignTexts}
 use Rattle.first_form.specs.declared.form.Design.{Design}
 use Rattle.register_compiler.specs.Procedure.{unapplied_line}
+use Rattle.ijtag_core.specs.Work.{◌>>=◌}
 use Rattle.ijtag_core.specs.Command.{Compile, Play}
 use Rattle.ijtag_core.specs.Refusals.{Part, refused, refused_at}
 use Rattle.ijtag_core.specs.declared.refusal.Stage.TheVariants.{Core, Pdl}
@@ -32,6 +33,11 @@ applied form = record {
   gives = λ same. (same ≡ form) × (unapplied_line form.lines ≡ None);
   refuses = λ r. (line : ℕ) × (unapplied_line form.lines ≡ Some line) × (r ≡ refused_at Pdl (codes "Unapplied") (record { line = line; col = 3 }));
 }
+
+unfoldable pub applied_form : Compile → List ℕ → List ℕ → List ℕ → Part SeenForm
+applied_form c icl pdl device = do
+  form ← first_form c icl pdl device
+  applied form
 
 -- the one design that the texts of a play are of
 unfoldable pub first_design : Play → List ℕ → List ℕ → List ℕ → Part Design

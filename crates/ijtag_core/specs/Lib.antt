@@ -8,7 +8,10 @@ pub mod DeviceText
 pub mod SvfText
 pub mod Elaborated
 pub mod Connected
+pub mod NetNames
+pub mod Nested
 pub mod Networks
+pub mod PdlText
 pub mod FirstForm
 pub mod Designs
 pub mod Order

@@ -34,7 +34,8 @@ loaded files (load ∷ loads) = do
   texts ← loaded files loads
   give (text ∷ texts)
 
--- ---- compile: the ICL text, the device, the network, then the first form, then that an iApply follows each command
+-- ---- compile: the ICL text, the device, the network, the PDL text, then the first form, then that an iApply
+-- follows each command
 
 abbrev pub accepted : Compile → List (List ℕ) → Part SeenForm
 accepted c (icl ∷ pdl ∷ device ∷ []) = do

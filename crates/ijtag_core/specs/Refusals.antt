@@ -6,13 +6,14 @@ use Rattle.ij_io.specs.Bytes.{concat}
 use Rattle.ij_text.specs.declared.Place.{Place}
 use Rattle.ijtag_core.specs.Work.{Work}
 use Rattle.ijtag_core.specs.declared.refusal.Stage.{Stage}
-use Rattle.ijtag_core.specs.declared.refusal.Stage.TheVariants.{File, Icl, Device, Svf, Elab, Connect, Pdl, Core}
+use Rattle.ijtag_core.specs.declared.refusal.Stage.TheVariants.{File, Icl, Device, Svf, Elab, Connect, Nest, Pdl, Core}
 
--- what stands behind the cause: a place, a number, or a text as it stands
+-- what stands behind the cause: a place, a number, a text as it stands, or a bit by its register and index
 pub data Arg : Type 0 where
   At : (place : Place) → Arg
   Num : (n : ℕ) → Arg
   Said : (text : List ℕ) → Arg
+  Bit : (register : List ℕ) → (index : ℕ) → Arg
 
 -- the stage that refuses, the cause, and what stands behind it
 pub record Refusal : Type 0 where
@@ -45,6 +46,7 @@ stage_name Device = codes "device"
 stage_name Svf = codes "svf"
 stage_name Elab = codes "elab"
 stage_name Connect = codes "connect"
+stage_name Nest = codes "nest"
 stage_name Pdl = codes "pdl"
 stage_name Core = codes "core"
 
@@ -52,6 +54,7 @@ unfoldable pub arg_text : Arg → List ℕ
 arg_text (At place) = concat (codes " " ∷ decimal place.line ∷ codes ":" ∷ decimal place.col ∷ [])
 arg_text (Num n) = concat (codes " " ∷ decimal n ∷ [])
 arg_text (Said text) = concat (codes " " ∷ text ∷ [])
+arg_text (Bit register index) = concat (codes " " ∷ register ∷ codes "[" ∷ decimal index ∷ codes "]" ∷ [])
 
 unfoldable pub head_text : Stage → List ℕ → List ℕ
 head_text stage kind = concat (codes "refused " ∷ stage_name stage ∷ codes " " ∷ kind ∷ [])

@@ -1,8 +1,10 @@
 -- Words, refusals, stops and verdicts as contracts see them: with plain lists.
 use Rattle.std.specs.Prelude.{Bool, true, false, map}
 use Rattle.ijtag_core.specs.Command.{Command, Compile, Play, Compiles, Plays, Load, source, svf_file}
+use Rattle.icl_signals.specs.PlainNets.{seen_net}
+use Rattle.ijtag_core.specs.Networks.{NestedNet}
 use Rattle.ijtag_core.specs.Order.{SeenPlayable}
-use Rattle.ijtag_core.specs.Refusals.{Refusal, Arg, At, Num, Said}
+use Rattle.ijtag_core.specs.Refusals.{Refusal, Arg, At, Num, Said, Bit}
 use Rattle.ijtag_core.specs.Stops.{Stop, Usage, Refuses, ReadFault, WriteFault, OutputFault, NoMemory}
 use Rattle.ijtag_core.specs.declared.words.CompileWords.{CompileWords}
 use Rattle.ijtag_core.specs.declared.words.PlayWords.{PlayWords}
@@ -11,7 +13,7 @@ use Rattle.ijtag_core.specs.declared.words.CommandWords.TheVariants.{Compile as 
 use Rattle.ijtag_core.specs.declared.load.Load.{Load as LoadWords}
 use Rattle.ijtag_core.specs.declared.load.Load.TheVariants.{Source as SourceLoad, Svf as SvfLoad}
 use Rattle.ijtag_core.specs.declared.refusal.Arg.{Arg as RustArg}
-use Rattle.ijtag_core.specs.declared.refusal.Arg.TheVariants.{At as AtArg, Num as NumArg, Said as SaidArg}
+use Rattle.ijtag_core.specs.declared.refusal.Arg.TheVariants.{At as AtArg, Num as NumArg, Said as SaidArg, Bit as BitArg}
 use Rattle.ijtag_core.specs.declared.refusal.Refusal.{Refusal as RustRefusal}
 use Rattle.ijtag_core.specs.declared.refusal.StageFault.{StageFault}
 use Rattle.ijtag_core.specs.declared.refusal.StageFault.TheVariants.{Refused as RefusedStage, OutOfMemory as MemoryStage}
@@ -20,6 +22,7 @@ use Rattle.ijtag_core.specs.declared.status.Verdict.TheVariants.{Agrees as Agree
 use Rattle.ijtag_core.specs.declared.stop.Stop.{Stop as RustStop}
 use Rattle.ijtag_core.specs.declared.stop.Stop.TheVariants.{Usage as UsageStop, Refused as RefusedStop, ReadFault as ReadStop, WriteFault as WriteStop, OutputFault as OutputStop, OutOfMemory as MemoryStop}
 use Rattle.ijtag_core.specs.declared.commands.play.Playable.{Playable}
+use Rattle.ijtag_core.specs.declared.stages.network.Network.{Network}
 
 abbrev pub seen_compile : CompileWords → Compile
 seen_compile words =
@@ -41,6 +44,7 @@ abbrev pub seen_arg : RustArg → Arg
 seen_arg (AtArg place) = At place
 seen_arg (NumArg n) = Num n
 seen_arg (SaidArg text) = Said text.items
+seen_arg (BitArg register index) = Bit register.items index
 
 abbrev pub seen_refusal : RustRefusal → Refusal
 seen_refusal refusal = record { stage = refusal.stage; kind = refusal.kind.now; args = map seen_arg refusal.args.items }
@@ -62,6 +66,9 @@ stop_from MemoryStage = MemoryStop
 abbrev pub differing : Verdict → Bool
 differing Agreeing = false
 differing Differing = true
+
+abbrev pub seen_network : Network → NestedNet
+seen_network network = record { net = seen_net network.net; form = network.form }
 
 abbrev pub seen_playable : Playable → SeenPlayable
 seen_playable it = record { design = it.design; commands = it.commands }

@@ -8,6 +8,7 @@ mod commands;
 mod decided;
 mod load;
 mod memory;
+mod net_names;
 mod refusal;
 mod run;
 mod stages;

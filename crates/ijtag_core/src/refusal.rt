@@ -28,6 +28,8 @@ pub(crate) enum Stage {
     Elab,
     /// The hierarchy's signals are followed to a network (IEEE 1687-2014, ICL).
     Connect,
+    /// The network's multiplexers stand inside one another (IEEE 1687-2014, ICL: ScanMux).
+    Nest,
     /// The procedures' text is read (IEEE 1687-2014, PDL level 0).
     Pdl,
     /// The chip isn't of the one kind that is compiled and played so far.
@@ -47,6 +49,7 @@ impl Stage {
             Stage::Svf => b"svf",
             Stage::Elab => b"elab",
             Stage::Connect => b"connect",
+            Stage::Nest => b"nest",
             Stage::Pdl => b"pdl",
             Stage::Core => b"core",
         }
@@ -62,6 +65,8 @@ pub(crate) enum Arg {
     Num(u64),
     /// A name or a word, as it stands.
     Said(Text),
+    /// A bit of a scan register, by the register's name and the bit's index, as `NAME[INDEX]`.
+    Bit(Name, u64),
 }
 
 /// What a file or a text is refused for.
@@ -117,6 +122,32 @@ pub(crate) fn refused(alloc: Global, stage: Stage, kind: &'static [u8]) -> Stage
 {
     let args = List::new(alloc);
     StageFault::Refused(Refusal { stage, kind, args })
+}
+
+/// A refusal that tells one thing.
+pub(crate) fn refused_one(alloc: Global, stage: Stage, kind: &'static [u8], arg: Arg) -> StageFault
+    ensures { IsToldAs (Some (record { stage = stage; kind = kind.now; args = seen_arg arg ∷ [] })) result }
+{
+    match one(alloc, arg) {
+        Ok(args) => StageFault::Refused(Refusal { stage, kind, args }),
+        Err(_) => StageFault::OutOfMemory,
+    }
+}
+
+/// A refusal that tells two things.
+pub(crate) fn refused_two(
+    alloc: Global,
+    stage: Stage,
+    kind: &'static [u8],
+    first: Arg,
+    second: Arg,
+) -> StageFault
+    ensures { IsToldAs (Some (record { stage = stage; kind = kind.now; args = seen_arg first ∷ seen_arg second ∷ [] })) result }
+{
+    match two(alloc, first, second) {
+        Ok(args) => StageFault::Refused(Refusal { stage, kind, args }),
+        Err(_) => StageFault::OutOfMemory,
+    }
 }
 
 /// A refusal that tells a place.
@@ -225,6 +256,16 @@ fn put_arg<K: Sink>(arg: &Arg, k: &mut K) -> Result<(), StoreFault>
         ),
         Arg::Num(n) => put_words(k, &[Word::Text(b" "), Word::Number(*n)]),
         Arg::Said(text) => put_words(k, &[Word::Text(b" "), Word::Text(text.as_slice())]),
+        Arg::Bit(register, index) => put_words(
+            k,
+            &[
+                Word::Text(b" "),
+                Word::Text(register.as_slice()),
+                Word::Text(b"["),
+                Word::Number(*index),
+                Word::Text(b"]"),
+            ],
+        ),
     }
 }
 

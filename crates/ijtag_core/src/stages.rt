@@ -6,5 +6,7 @@ pub(crate) mod device;
 pub(crate) mod elab;
 pub(crate) mod form;
 pub(crate) mod icl;
+pub(crate) mod nest;
 pub(crate) mod network;
+pub(crate) mod pdl;
 pub(crate) mod svf;

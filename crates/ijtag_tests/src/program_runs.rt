@@ -241,6 +241,124 @@ fn refused_networks_tell_why(rt: HostRuntime) -> Result<(), Fail> {
     Ok(())
 }
 
+/// A chip of one instance, whose module has these items between its scan input and its end.
+fn chip_with(alloc: Global, items: &[u8]) -> Result<Vec<u8>, AllocError> {
+    let mut text = Vec::from_slice(
+        alloc,
+        b"Module C { DataInPort d; }\nModule Net {\n  ScanInPort SI; ScanInterface client { Port SI; Port SO; }\n",
+    )?;
+    text.extend_from_slice(items)?;
+    text.extend_from_slice(
+        b"\n}\nModule chip {\n  Instance net Of Net;\n  AccessLink tap Of STD_1149_1_2001 {\n    BSDLEntity chip; IJTAG { ScanInterface { net.client; } }\n  }\n}\n",
+    )?;
+    Ok(text)
+}
+
+// The nested form comes behind the network, and in front of the first form: registers and multiplexers by their paths, bits by
+// their indices.
+#[test]
+fn refused_forms_tell_why(rt: HostRuntime) -> Result<(), Fail> {
+    let alloc = rt.alloc();
+    let rows: [(&[u8], &[u8]); 9] = [
+        (
+            b"ScanOutPort SO { Source R; } ScanRegister R { ScanInSource SI; } ScanRegister U { ScanInSource SI; }",
+            b"refused nest Unreached net.U\n",
+        ),
+        (
+            b"ScanOutPort SO { Source R; } ScanRegister R { ScanInSource SI; } ScanMux m SelectedBy R { 1'b0 : SI; }",
+            b"refused nest Unreached net.m\n",
+        ),
+        (
+            b"ScanOutPort SO { Source S[0]; } ScanRegister A { ScanInSource SI; } ScanRegister B { ScanInSource SI; } ScanMux m SelectedBy S[0] { 1'b0 : A; 1'b1 : B; } ScanRegister C { ScanInSource m; } ScanMux n SelectedBy S[1] { 1'b0 : C; 1'b1 : B; } ScanRegister S[1:0] { ScanInSource n; ResetValue 2'b0; }",
+            b"refused nest NotNested\n",
+        ),
+        (
+            b"ScanOutPort SO { Source m; } ScanRegister S { ScanInSource SI; ResetValue 1'b0; } ScanMux m SelectedBy S { 1'b0 : S; 1'b1 : SI; }",
+            b"refused nest SelectInside net.m\n",
+        ),
+        (
+            b"ScanOutPort SO { Source S[7]; } ScanMux m SelectedBy S[6] { 1'b0 : SI; 1'b1 : A; } ScanRegister A { ScanInSource SI; } ScanMux n SelectedBy S[6] { 1'b0 : m; 1'b1 : B; } ScanRegister B { ScanInSource m; } ScanRegister S[5:7] { ScanInSource n; ResetValue 3'b0; }",
+            b"refused nest SelectShared net.S[6]\n",
+        ),
+        (
+            b"ScanOutPort SO { Source R[3]; } ScanMux m SelectedBy R[4] { 1'b0 : SI; 1'b1 : Q; } ScanRegister Q { ScanInSource SI; } ScanRegister R[4:3] { ScanInSource m; ResetValue 2'b0; } Instance c Of C { InputPort d = R[4]; }",
+            b"refused nest SelectDrives net.R[4] net.c\n",
+        ),
+        (
+            b"ScanOutPort SO { Source S; } ScanMux m SelectedBy S { 1'b0 : SI; 1'b1 : A; } ScanRegister A { ScanInSource SI; } ScanRegister S { ScanInSource m; }",
+            b"refused nest SelectNoReset net.S[0]\n",
+        ),
+        (
+            b"ScanOutPort SO { Source S[0]; } ScanMux m SelectedBy S { 2'b01 : SI; 2'b10 : A; } ScanRegister A { ScanInSource SI; } ScanRegister S[1:0] { ScanInSource m; ResetValue 2'b0; }",
+            b"refused nest ResetUnlisted net.m\n",
+        ),
+        (
+            b"ScanOutPort SO { Source S; } ScanMux m SelectedBy S { 1'b0 : SI; 1'b1 : A; } ScanRegister A { ScanInSource SI; } ScanRegister S { ScanInSource m; ResetValue 1'b0; }",
+            b"refused core FirstForm\n",
+        ),
+    ];
+    for words in [compile_words(alloc)?, play_words(alloc)?] {
+        for (items, said) in rows {
+            let mut shelf = shelf_to_play(alloc, SVF, TABLES)?;
+            shelf.put_file("a.icl", &chip_with(alloc, items)?)?;
+            let mut out = MemSink::new(alloc);
+            let mut err = MemSink::new(alloc);
+            let status = ijtag(alloc, &words, &mut shelf, &mut out, &mut err);
+            assert_eq!(rt; status, Status::Refused);
+            assert_eq!(rt; err.bytes(), said);
+        }
+    }
+    Ok(())
+}
+
+// The procedures' text is read behind the network, and in front of the first form. A text that is read stops there, whatever it does.
+#[test]
+fn refused_procedures_tell_why(rt: HostRuntime) -> Result<(), Fail> {
+    let alloc = rt.alloc();
+    let words = compile_words(alloc)?;
+    let rows: [(&[u8], &[u8]); 9] = [
+        (b"iProc p {} {", b"refused pdl PdlSyntax 1:1\n"),
+        (b"iPDLLevel 1\n", b"refused pdl NotInLevel0 1:1\n"),
+        (
+            b"iProcsForModule chip\niProc p {} { iScan }\n",
+            b"refused pdl LeftOut 2:14 iScan\n",
+        ),
+        (
+            b"iProcsForModule chip\niProc p {} {\n  iWrite net.R 1_\n}\n",
+            b"refused pdl BadNumber 3:16\n",
+        ),
+        (
+            b"iProcsForModule chip\niProc p {} {\n  iWrite net.R 340282366920938463463374607431768211456\n}\n",
+            b"refused pdl TooWide 3:16\n",
+        ),
+        (
+            b"iProcsForModule chip\niProc p {} {\n}\niProc p {} {\n}\n",
+            b"refused pdl ProcTwice 4:7\n",
+        ),
+        (
+            b"iProcsForModule chip\niProc p {a} {\n  iWrite net.R $b\n}\n",
+            b"refused pdl NoArg 3:16 b\n",
+        ),
+        (
+            b"iProcsForModule chip\niProc p {} {\n  iMerge -end\n}\n",
+            b"refused pdl PdlSyntax 3:10\n",
+        ),
+        (
+            b"iProcsForModule chip\niProc p {} {\n  iMerge -begin\n  iMerge -end\n}\n",
+            b"refused core FirstForm\n",
+        ),
+    ];
+    for (pdl, said) in rows {
+        let mut shelf = shelf_with(alloc, pdl)?;
+        let mut out = MemSink::new(alloc);
+        let mut err = MemSink::new(alloc);
+        let status = ijtag(alloc, &words, &mut shelf, &mut out, &mut err);
+        assert_eq!(rt; status, Status::Refused);
+        assert_eq!(rt; err.bytes(), said);
+    }
+    Ok(())
+}
+
 // Each write of the error stream fails once, at each command: the status is that of the refusal, and what the stream took is a first
 // part of its line.
 #[test]

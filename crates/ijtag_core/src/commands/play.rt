@@ -6,6 +6,7 @@ ghost use Rattle.tap_machine.specs.declared.Stable.TheVariants.{Reset as InReset
 ghost use Rattle.tap_machine.specs.Play.{pins, scans_in};
 ghost use Rattle.ijtag_core.specs.Command.{Plays, play_loads, names_of};
 ghost use Rattle.ijtag_core.specs.Follows.{Follows, AreTexts, seen_texts};
+ghost use Rattle.icl_frames.specs.Written.{AreWritten};
 ghost use Rattle.icl_syntax.specs.Views.{seen_design};
 ghost use Rattle.ijtag_core.specs.Order.{playable, played_texts, work, report_of, any_differs, differs_at};
 ghost use Rattle.ijtag_core.specs.Runs.{IsDone, IsPartDone, IsStop, OnlyTheseRise, counts, seen};
@@ -51,6 +52,7 @@ fn accept_texts(
 ) -> Result<Playable, StageFault>
     requires svf { length svf.now ≤ 134217728 }
     requires device { length device.now ≤ 134217728 }
+    requires modules { AreWritten (seen_design modules.now) }
     ensures follows { Follows (played_texts (seen_play words.now) (seen_design modules.now) svf.now icl.now device.now tables.now) seen_playable result }
     ensures clocks { IfOk result (λ it. length (pins InReset 0 it.commands) ≤ 1000000000) }
     ensures scans { IfOk result (λ it. scans_in it.commands ≤ 1000000000) }

@@ -1,7 +1,9 @@
 // The network of the hierarchy (IEEE 1687-2014, ICL: AccessLink).
-ghost use Rattle.std.specs.Prelude.{◌≡◌};
+ghost use Rattle.std.specs.Prelude.{◌≡◌, IfOk};
 ghost use Rattle.std.specs.Option.{option_map};
 ghost use Rattle.bench_file.specs.Device.{seen_device};
+ghost use Rattle.icl_elab.specs.WellFormed.{IsHierarchy};
+ghost use Rattle.net_graph.specs.Nets.{IsNet};
 ghost use Rattle.icl_references.specs.Roles.{seen_hier};
 ghost use Rattle.icl_signals.specs.PlainNets.{seen_net};
 ghost use Rattle.icl_signals.specs.Refusals.{seen_fault};
@@ -39,7 +41,8 @@ pub(crate) fn connect_hierarchy(
     hier: &Hier,
     device: &Device,
 ) -> Result<Net, StageFault>
-    ensures { Follows (connected (seen_hier hier.now) (seen_device device.now)) seen_net result }
+    ensures follows { Follows (connected (seen_hier hier.now) (seen_device device.now)) seen_net result }
+    ensures well_formed { IfOk result (λ net. IsHierarchy (seen_hier hier.now) → IsNet net) }
 {
     match connect(alloc, hier, &device.link, &device.instr) {
         Ok(net) => Ok(net),

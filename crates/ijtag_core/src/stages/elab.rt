@@ -1,6 +1,8 @@
 // The hierarchy of the design (IEEE 1687-2014, ICL).
 ghost use Rattle.std.specs.Prelude.{◌≡◌, codes, IfOk};
 ghost use Rattle.std.specs.Option.{option_map};
+ghost use Rattle.icl_elab.specs.WellFormed.{IsHierarchy};
+ghost use Rattle.icl_frames.specs.Written.{AreWritten};
 ghost use Rattle.icl_syntax.specs.Views.{seen_design};
 ghost use Rattle.icl_values.specs.Faults.{seen_fault};
 ghost use Rattle.icl_references.specs.Roles.{seen_hier};
@@ -65,7 +67,8 @@ fn told(alloc: Global, fault: ElabFault) -> StageFault
 /// The hierarchy below the top module of this name.
 #[tactic(auto, unfolding(crate::specs::Elaborated::elaborated))]
 fn elaborate_below(alloc: Global, design: &Design, top: &Name) -> Result<Hier, StageFault>
-    ensures { Follows (elaborated (seen_design design.now) top.now.items) seen_hier result }
+    ensures follows { Follows (elaborated (seen_design design.now) top.now.items) seen_hier result }
+    ensures well_formed { IfOk result (λ h. AreWritten (seen_design design.now) → IsHierarchy (seen_hier h)) }
 {
     match elaborate(alloc, design, top) {
         Ok(hier) => Ok(hier),
@@ -79,7 +82,8 @@ pub(crate) fn elaborate_design(
     design: &Design,
     top: &str,
 ) -> Result<Hier, StageFault>
-    ensures { Follows (elaborated (seen_design design.now) top.now) seen_hier result }
+    ensures follows { Follows (elaborated (seen_design design.now) top.now) seen_hier result }
+    ensures well_formed { IfOk result (λ h. AreWritten (seen_design design.now) → IsHierarchy (seen_hier h)) }
 {
     let top = name_of(alloc, top.as_bytes())?;
     let hier = elaborate_below(alloc, design, &top)?;

@@ -2,7 +2,7 @@
 ghost use Rattle.std.specs.Prelude.{Some, codes, IfOk};
 ghost use Rattle.first_form.specs.SeenForms.{seen_form};
 ghost use Rattle.first_form.specs.Texts.{IsForm};
-ghost use Rattle.ijtag_core.specs.FirstForm.{first_form, applied, first_design};
+ghost use Rattle.ijtag_core.specs.FirstForm.{first_form, applied, applied_form, first_design};
 ghost use Rattle.ijtag_core.specs.Follows.{Follows, IsToldAs};
 ghost use Rattle.ijtag_core.specs.Refusals.{refused};
 ghost use Rattle.ijtag_core.specs.Seen.{seen_compile, seen_play};
@@ -23,7 +23,7 @@ fn not_first(alloc: Global) -> StageFault
 
 /// The design and the procedure of the texts, where they are of the first form with top module `chip` and procedure `p`.
 #[tactic(auto, unfolding(crate::specs::FirstForm::first_form))]
-pub(crate) fn read_first_form(
+fn read_first_form(
     alloc: Global,
     words: &CompileWords<'_>,
     icl: &[u8],
@@ -45,7 +45,7 @@ pub(crate) fn read_first_form(
 
 /// The same form, where an iApply follows each iWrite and iRead.
 #[tactic(auto, unfolding(crate::specs::FirstForm::applied))]
-pub(crate) fn check_applied(alloc: Global, form: Form) -> Result<Form, StageFault>
+fn check_applied(alloc: Global, form: Form) -> Result<Form, StageFault>
     requires { IsForm (seen_form form) }
     ensures follows { Follows (applied (seen_form form)) seen_form result }
     ensures form { IfOk result (λ form. IsForm (seen_form form)) }
@@ -57,6 +57,23 @@ pub(crate) fn check_applied(alloc: Global, form: Form) -> Result<Form, StageFaul
         }
         None => Ok(form),
     }
+}
+
+/// The design and the procedure of the texts, where they are of the first form, and an iApply follows each iWrite and iRead.
+#[tactic(auto, unfolding(crate::specs::FirstForm::applied_form))]
+pub(crate) fn read_applied_form(
+    alloc: Global,
+    words: &CompileWords<'_>,
+    icl: &[u8],
+    pdl: &[u8],
+    device: &[u8],
+) -> Result<Form, StageFault>
+    ensures follows { Follows (applied_form (seen_compile words.now) icl.now pdl.now device.now) seen_form result }
+    ensures form { IfOk result (λ form. IsForm (seen_form form)) }
+{
+    let form = read_first_form(alloc, words, icl, pdl, device)?;
+    let form = check_applied(alloc, form)?;
+    Ok(form)
 }
 
 /// The design of the texts of a play, where they are of the first form with top module `chip` and no instruments.

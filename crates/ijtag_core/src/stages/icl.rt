@@ -1,12 +1,14 @@
 // The ICL text (IEEE 1687-2014).
-ghost use Rattle.std.specs.Prelude.{◌≡◌, ◌≤◌, length};
+ghost use Rattle.std.specs.Prelude.{◌≡◌, ◌≤◌, length, IfOk};
+ghost use Rattle.icl_frames.specs.Written.{AreWritten};
 ghost use Rattle.icl_lexer.specs.Cutting.{AreTokens};
 ghost use Rattle.icl_syntax.specs.Views.{seen_design};
 ghost use Rattle.ijtag_core.specs.Follows.{Follows, IsToldAs};
 ghost use Rattle.ijtag_core.specs.IclText.{icl_text, icl_tokens, icl_design, lex_refusal, parse_refusal};
 
 use crate::refusal::{Stage, StageFault, refused_at, refused_word};
-use icl_lexer::{LexFault, Token, lex};
+use icl_frames::designs_are_written;
+use icl_lexer::{LexFault, Token, lex, tokens_are_in_the_text};
 use icl_parser::{ParseFault, parse};
 use icl_syntax::Design;
 use ij_bits::List;
@@ -65,8 +67,11 @@ fn read_modules(alloc: Global, text: &[u8], tokens: &List<Token>) -> Result<Desi
 #[tactic(auto, unfolding(crate::specs::IclText::icl_text))]
 pub(crate) fn read_icl(alloc: Global, text: &[u8]) -> Result<Design, StageFault>
     requires { length text.now ≤ 134217728 }
-    ensures { Follows (icl_text text.now) seen_design result }
+    ensures follows { Follows (icl_text text.now) seen_design result }
+    ensures written { IfOk result (λ design. AreWritten (seen_design design)) }
 {
+    designs_are_written();
+    tokens_are_in_the_text();
     let tokens = read_tokens(alloc, text)?;
     let design = read_modules(alloc, text, &tokens)?;
     Ok(design)

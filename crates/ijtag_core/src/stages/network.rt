@@ -1,16 +1,28 @@
-// From the design's modules to the network that is compiled for or played on: the hierarchy, and then its signals.
+// From the design's modules to the network that is compiled for or played on: the hierarchy, its signals, and the nested form.
+ghost use Rattle.std.specs.Prelude.{IfOk};
 ghost use Rattle.bench_file.specs.Device.{seen_device};
-ghost use Rattle.icl_signals.specs.PlainNets.{seen_net};
+ghost use Rattle.icl_frames.specs.Written.{AreWritten};
 ghost use Rattle.icl_syntax.specs.Views.{seen_design};
 ghost use Rattle.ijtag_core.specs.Follows.{Follows};
+ghost use Rattle.ijtag_core.specs.Nested.{IsNested};
 ghost use Rattle.ijtag_core.specs.Networks.{network_below};
+ghost use Rattle.ijtag_core.specs.Seen.{seen_network};
 
 use crate::refusal::StageFault;
 use crate::stages::connect::connect_hierarchy;
 use crate::stages::elab::elaborate_design;
+use crate::stages::nest::nest_network;
 use icl_syntax::Design;
 use net_graph::{Device, Net};
+use net_tree::Tree;
 use std::alloc::Global;
+
+/// A network with its nested form.
+#[derive(Drop)]
+pub(crate) struct Network {
+    pub net: Net,
+    pub form: Tree,
+}
 
 /// The network below the top module of this name, between the ends that the device's instruction selects.
 #[tactic(auto, unfolding(crate::specs::Networks::network_below))]
@@ -19,10 +31,13 @@ pub(crate) fn read_network(
     design: &Design,
     top: &str,
     device: &Device,
-) -> Result<Net, StageFault>
-    ensures { Follows (network_below (seen_design design.now) top.now (seen_device device.now)) seen_net result }
+) -> Result<Network, StageFault>
+    requires { AreWritten (seen_design design.now) }
+    ensures follows { Follows (network_below (seen_design design.now) top.now (seen_device device.now)) seen_network result }
+    ensures nested { IfOk result (λ network. IsNested network.net network.form) }
 {
     let hier = elaborate_design(alloc, design, top)?;
     let net = connect_hierarchy(alloc, &hier, device)?;
-    Ok(net)
+    let form = nest_network(alloc, &net)?;
+    Ok(Network { net, form })
 }
