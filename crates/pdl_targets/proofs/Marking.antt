@@ -2,7 +2,7 @@
 use Rattle.std.proofs.Common.{◌≡◌, ℕ, suc, ◌+◌, ◌<◌, ◌==◌, Bool, true, false, List, [], ◌∷◌, ◌++◌, length, get_or, drop, map, refl, sym, ap, ◌∙◌, subst, arith}
 use Rattle.std.specs.Prelude.{All, not, ◌||◌, flat_map}
 use Rattle.std.specs.List.{list_any}
-use Rattle.std.proofs.lemmas.List.Elements.{All-head, All-tail}
+use Rattle.std.proofs.Math.Seq.{drop-cons}
 use Rattle.net_graph.specs.declared.net.BitId.{BitId}
 use Rattle.net_graph.specs.declared.net.Mux.{Mux}
 use Rattle.net_graph.specs.declared.net.Net.{Net}
@@ -54,3 +54,15 @@ none_marked zeros net b all = ap (λ k. all || not (k == 0)) (zeros net b) ∙ o
 
 pub all_there : EachBitHasOne → (net : Net) (marks : Marks) → ((b : BitId) → HasMark (zero_marks net) b → HasMark marks b) → (bits : List BitId) → All (IsBitOf net) bits → All (HasMark marks) bits
 all_there each net marks stay bits h k d l = stay (get_or bits k d) (each net (get_or bits k d) (h k d l))
+
+-- any bit
+abbrev pub first_bit : BitId
+first_bit = record { reg = 0; pos = 0 }
+
+pub next_bit : (bits : List BitId) (i : ℕ) → i < length bits → drop i bits ≡ get_or bits i first_bit ∷ drop (i + 1) bits
+next_bit bits i h = let e : suc i ≡ i + 1 = omega arith in drop-cons bits i first_bit h ∙ ap (λ k. get_or bits i first_bit ∷ drop k bits) e
+
+pub next_mux : (muxes : List Mux) (i : ℕ) (mux : Mux) → i < length muxes → mux ≡ get_or muxes i mux → flat_map (λ m. m.select.items) (drop i muxes) ≡ mux.select.items ++ flat_map (λ m. m.select.items) (drop (i + 1) muxes)
+next_mux muxes i mux h is =
+    let e : suc i ≡ i + 1 = omega arith in
+    ap (flat_map (λ m. m.select.items)) (drop-cons muxes i mux h ∙ ap (λ y. y ∷ drop (suc i) muxes) (sym is) ∙ ap (λ k. mux ∷ drop k muxes) e)
