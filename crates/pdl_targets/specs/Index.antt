@@ -4,7 +4,9 @@ use Rattle.net_graph.specs.declared.net.Net.{Net}
 use Rattle.pdl_expand.specs.Values.{cells_of}
 use Rattle.pdl_expand.specs.Expansion.{dotted_paths}
 use Rattle.pdl_targets.specs.declared.index.Index.{Index}
+use Rattle.pdl_targets.specs.Marked.{AreSelects}
 
--- an index has the paths of the network's cells
+-- an index has the paths of the network's cells and its select bits
 pub record IsIndex (net : Net) (index : Index) : Type 0 where
   pub cells : index.cells ≡ dotted_paths (cells_of net)
+  pub selects : AreSelects net index.selects

@@ -7,6 +7,8 @@ ghost use Rattle.pdl_expand.specs.Values.{cell_of};
 ghost use Rattle.pdl_expand.specs.Expansion.{dotted, dotted_paths};
 ghost use Rattle.pdl_targets.specs.Index.{IsIndex};
 
+use crate::select_table::selects_of;
+use bit_marks::BitMarks;
 use ij_bits::{List, OutOfMemory};
 use ij_text::{Name, Names};
 use net_graph::{Net, Node};
@@ -17,6 +19,8 @@ use std::alloc::Global;
 pub(crate) struct Index {
     /// The dotted paths of the cells.
     pub cells: Names,
+    /// The bits that select.
+    pub selects: BitMarks,
 }
 
 /// Adds a dot and a name.
@@ -61,5 +65,6 @@ pub(crate) fn index_of(alloc: Global, net: &Net) -> Result<Index, OutOfMemory>
 {
     pdl_expand::paths_differ();
     let cells = dotted_paths(alloc, net.nodes.as_slice())?;
-    Ok(Index { cells })
+    let selects = selects_of(alloc, net)?;
+    Ok(Index { cells, selects })
 }

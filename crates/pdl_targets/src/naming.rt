@@ -84,7 +84,7 @@ pub(crate) fn write_bits(
     ensures { Finds (λ ws. ws.items) (write_bits net.now at node (seen_target target.now) (seen_value value.now)) result }
 {
     let named = named_bits(alloc, net, index, at, node, target, value)?;
-    writes_of(alloc, net, at, named.spots, &named.values)
+    writes_of(alloc, net, &index.selects, at, named.spots, &named.values)
 }
 
 /// The reads of an iRead without a value.
@@ -121,7 +121,15 @@ fn value_read(
     ensures { Finds (λ rs. rs.items) (read_bits net.now at node number (seen_target target.now) (Some (seen_value value.now))) result }
 {
     let named = named_bits(alloc, net, index, at, node, target, value)?;
-    reads_of(alloc, net, at, number, named.spots, &named.values)
+    reads_of(
+        alloc,
+        net,
+        &index.selects,
+        at,
+        number,
+        named.spots,
+        &named.values,
+    )
 }
 
 /// The reads of an iRead, which is the one of this number.

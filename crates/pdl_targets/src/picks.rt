@@ -3,9 +3,12 @@ ghost use Rattle.std.specs.Prelude.{◌≡◌, ◌<◌, ◌+◌, ◌^◌, length
 ghost use Rattle.ij_bits.specs.BitLists.{flip_if};
 ghost use Rattle.net_graph.specs.Path.{same_place};
 ghost use Rattle.net_graph.specs.Signals.{capture_signal};
+ghost use Rattle.pdl_targets.specs.Marked.{AreSelects};
 ghost use Rattle.pdl_targets.specs.Targets.{captured_from, capturing, compared, held_if_captured, is_inverted, same_source, select_compared, written};
 
-use net_graph::{BitId, Net, Reg, Sig, Spot, is_select};
+use crate::select_table::is_select;
+use bit_marks::BitMarks;
+use net_graph::{BitId, Net, Reg, Sig, Spot};
 
 /// A register bit, and whether a bit of a target is its inverse.
 #[derive(Clone, Copy, Drop)]
@@ -163,14 +166,15 @@ pub(crate) fn compared(net: &Net, spot: Spot) -> Option<Picked>
 }
 
 /// The select bit by which a read of a register bit is refused.
-pub(crate) fn select_compared(net: &Net, bit: BitId) -> Option<BitId>
+pub(crate) fn select_compared(net: &Net, selects: &BitMarks, bit: BitId) -> Option<BitId>
+    requires { AreSelects net.now selects.now }
     ensures { result ≡ select_compared net.now bit }
 {
-    if is_select(net, bit) {
+    if is_select(net, selects, bit) {
         return Some(bit);
     }
     match capture_of(net, bit) {
-        Sig::Bit { bit, inverted: _ } if is_select(net, bit) => Some(bit),
+        Sig::Bit { bit, inverted: _ } if is_select(net, selects, bit) => Some(bit),
         _ => None,
     }
 }

@@ -1,31 +1,36 @@
 // The register bits that the bits of a target stand for.
 ghost use Rattle.std.specs.Prelude.{◌≡◌, ◌<◌, ◌≤◌, ◌+◌, ◌^◌, [], ◌∷◌, ◌++◌, length, All, drop, Some};
 ghost use Rattle.ij_text.specs.Numbers.{tern_bits};
+ghost use Rattle.pdl_targets.specs.Marked.{AreSelects};
 ghost use Rattle.pdl_targets.specs.Seen.{Finds};
 ghost use Rattle.pdl_targets.specs.Targets.{read_bit, reads_of, write_bit, writes_of, compared, written};
 
 use crate::fault::TargetFault;
 use crate::picks::{Picked, compared, flip_if, select_compared, written};
+use crate::select_table::is_select;
 use crate::values::value_at;
+use bit_marks::BitMarks;
 use ij_bits::{List, Tern};
 use ij_text::Place;
-use net_graph::{Net, ReadBit, Spot, WriteBit, is_select};
+use net_graph::{Net, ReadBit, Spot, WriteBit};
 use std::alloc::Global;
 
 /// The write of a bit that stands for a register bit.
 fn write_bit(
     net: &Net,
+    selects: &BitMarks,
     at: Place,
     picked: Option<Picked>,
     value: bool,
 ) -> Result<WriteBit, TargetFault>
+    requires { AreSelects net.now selects.now }
     ensures { Finds (λ w. w) (write_bit net.now at picked value) result }
 {
     let Some(picked) = picked else {
         return Err(TargetFault::NotWritable { at });
     };
     let bit = picked.bit;
-    if is_select(net, bit) {
+    if is_select(net, selects, bit) {
         return Err(TargetFault::SelectTarget { at, bit });
     }
     Ok(WriteBit {
@@ -37,18 +42,20 @@ fn write_bit(
 /// The read of a bit that stands for a register bit, by the iRead of this number, at this index of what it names.
 fn read_bit(
     net: &Net,
+    selects: &BitMarks,
     at: Place,
     read: u32,
     index: u32,
     picked: Option<Picked>,
     value: bool,
 ) -> Result<ReadBit, TargetFault>
+    requires { AreSelects net.now selects.now }
     ensures { Finds (λ r. r) (read_bit net.now at read index picked value) result }
 {
     let Some(picked) = picked else {
         return Err(TargetFault::NotReadable { at });
     };
-    if let Some(bit) = select_compared(net, picked.bit) {
+    if let Some(bit) = select_compared(net, selects, picked.bit) {
         return Err(TargetFault::SelectTarget { at, bit });
     }
     Ok(ReadBit {
@@ -64,10 +71,12 @@ fn read_bit(
 pub(crate) fn writes_of(
     alloc: Global,
     net: &Net,
+    selects: &BitMarks,
     at: Place,
     spots: &[Spot],
     values: &Tern,
 ) -> Result<List<WriteBit>, TargetFault>
+    requires selects { AreSelects net.now selects.now }
     requires few { length spots.now < 2 ^ 32 }
     requires wide { length values.now.value.items ≡ length spots.now }
     ensures { Finds (λ ws. ws.items) (writes_of net.now at spots.now (tern_bits values.now)) result }
@@ -75,7 +84,7 @@ pub(crate) fn writes_of(
     let mut writes = List::new(alloc);
     for i in 0..spots.len() {
         match value_at(values, i as u32) {
-            Some(value) => match write_bit(net, at, written(spots[i]), value) {
+            Some(value) => match write_bit(net, selects, at, written(spots[i]), value) {
                 Ok(write) => writes.push(write)?,
                 Err(fault) => return Err(fault),
             },
@@ -89,6 +98,7 @@ pub(crate) fn writes_of(
 pub(crate) fn reads_of(
     alloc: Global,
     net: &Net,
+    selects: &BitMarks,
     at: Place,
     read: u32,
     spots: &[Spot],
@@ -96,6 +106,7 @@ pub(crate) fn reads_of(
 ) -> Result<List<ReadBit>, TargetFault>
     requires regs { length net.now.regs.items < 2 ^ 32 }
     requires short { All (λ reg. length reg.capture.items < 2 ^ 32) net.now.regs.items }
+    requires selects { AreSelects net.now selects.now }
     requires few { length spots.now < 2 ^ 32 }
     requires wide { length values.now.value.items ≡ length spots.now }
     ensures { Finds (λ rs. rs.items) (reads_of net.now at read 0 spots.now (tern_bits values.now)) result }
@@ -105,7 +116,7 @@ pub(crate) fn reads_of(
         match value_at(values, i as u32) {
             Some(value) => {
                 let picked = compared(net, spots[i]);
-                match read_bit(net, at, read, i as u32, picked, value) {
+                match read_bit(net, selects, at, read, i as u32, picked, value) {
                     Ok(bit) => reads.push(bit)?,
                     Err(fault) => return Err(fault),
                 }
