@@ -1,4 +1,4 @@
-//! Tests of the readers of procedures, devices and SVF, on texts that stand in tables, and of all readers at the largest sizes.
+//! Tests of the readers of procedures, devices, tables and SVF, on texts that stand in tables, and of all readers at the largest sizes.
 #![tactic(auto)]
 
 #[cfg(test)]
@@ -9,5 +9,7 @@ mod largest;
 mod pdl_texts;
 #[cfg(test)]
 mod svf_texts;
+#[cfg(test)]
+mod table_files;
 #[cfg(test)]
 mod written_svf;
