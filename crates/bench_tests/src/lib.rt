@@ -6,4 +6,6 @@ mod clocked_benches;
 #[cfg(test)]
 mod play_reports;
 #[cfg(test)]
+mod report_lines;
+#[cfg(test)]
 mod tap_walks;

@@ -1,5 +1,5 @@
 -- What the calls answer, as the definitions say it.
-use Rattle.std.specs.Prelude.{◌≡◌, Option, Some, None, Result, Ok, Err}
+use Rattle.std.specs.Prelude.{◌≡◌, Option, Some, None, IsSome, Result, Ok, Err}
 use Rattle.std.specs.Option.{IfSome}
 use Rattle.pdl_targets.specs.declared.fault.TargetFault.{TargetFault}
 use Rattle.pdl_targets.specs.declared.fault.TargetFault.TheVariants as fault
@@ -27,7 +27,12 @@ abbrev pub Finds : {A B : Type 0} → (B → A) → Found A → Result B TargetF
 Finds view found (Ok b) = found ≡ Is (view b)
 Finds view found (Err e) = Refuses found e
 
+-- an end with this fault; memory isn't wanting there
+pub record EndsWith (fault : Option AFault) (e : TargetFault) : Type 0 where
+  pub there : IsSome fault
+  pub says : fault ≡ fault_of e
+
 -- an end without a fault, or with the fault that is said
 abbrev pub Finishes : Option AFault → Result (Unit {0}) TargetFault → Type 0
 Finishes fault (Ok u) = fault ≡ None
-Finishes fault (Err e) = fault ≡ fault_of e
+Finishes fault (Err e) = EndsWith fault e
