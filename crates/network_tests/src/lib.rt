@@ -1,0 +1,7 @@
+//! Tests of the calls over scan networks, on networks of ICL texts that stand in tables.
+#![tactic(auto)]
+
+#[cfg(test)]
+mod nested_forms;
+#[cfg(test)]
+mod texts;
