@@ -5,3 +5,5 @@
 mod nested_forms;
 #[cfg(test)]
 mod texts;
+#[cfg(test)]
+mod update_stages;
