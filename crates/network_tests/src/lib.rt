@@ -1,0 +1,9 @@
+//! Tests of the calls over scan networks, on networks of ICL texts that stand in tables.
+#![tactic(auto)]
+
+#[cfg(test)]
+mod nested_forms;
+#[cfg(test)]
+mod texts;
+#[cfg(test)]
+mod update_stages;
