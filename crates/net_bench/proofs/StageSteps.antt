@@ -1,9 +1,10 @@
 -- Steps of the loops over a stage, bit by bit.
-use Rattle.std.proofs.Common.{◌≡◌, ℕ, suc, ◌+◌, ◌-◌, ◌<◌, ◌/◌, ◌%◌, ◌==◌, Bool, true, false, List, [], ◌∷◌, ◌++◌, length, take, drop, refl, sym, ap, ◌∙◌, arith, append_assoc}
-use Rattle.std.specs.Prelude.{slice_set, get_or, ◌&&◌, not}
+use Rattle.std.proofs.Common.{◌≡◌, ℕ, zero, suc, ◌+◌, ◌-◌, ◌<◌, ◌/◌, ◌%◌, ◌==◌, Bool, true, false, List, [], ◌∷◌, ◌++◌, length, take, drop, refl, sym, ap, ◌∙◌, arith, append_assoc}
+use Rattle.std.specs.Prelude.{slice_set, get_or, ◌&&◌, not, replicate}
 use mathlib.Core.Bool.{beq}
 use Rattle.std.proofs.lemmas.List.{take_more_set, drop_more}
 use Rattle.ij_bits.specs.BitLists.{bits_of, bits_eq, same_bit}
+use Rattle.net_bench.specs.Instruction.{capture_ir}
 
 one_less : (w i : ℕ) → i < w → w - i ≡ suc (w - (i + 1))
 one_less w i h = omega arith
@@ -30,3 +31,12 @@ agree true true e = refl
 agree true false e = absurd (cc)
 agree false true e = absurd (cc)
 agree false false e = refl
+
+-- a number's bits
+no_bits : (n : ℕ) → bits_of n 0 ≡ replicate n false
+no_bits zero = refl
+no_bits (suc n) = ap (λ bs. false ∷ bs) (no_bits n)
+
+pub captured_ir : (n : ℕ) → bits_of n 1 ≡ capture_ir n
+captured_ir zero = refl
+captured_ir (suc n) = ap (λ bs. true ∷ bs) (no_bits n)

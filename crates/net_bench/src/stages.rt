@@ -44,7 +44,7 @@ pub(crate) fn put_number(stage: &mut Bits, n: u64)
 }
 
 /// Capture-IR: 1 at position 0 and 0 elsewhere.
-#[tactic(auto, using(crate::proofs::FlatSteps::captured_ir))]
+#[tactic(auto, using(crate::proofs::StageSteps::captured_ir))]
 pub(crate) fn capture_instruction(stage: &mut Bits)
     ensures length { length stage.new.items ≡ length stage.old.items }
     ensures items { stage.new.items ≡ capture_ir (length stage.old.items) }
