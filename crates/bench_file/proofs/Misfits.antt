@@ -46,6 +46,21 @@ one_more net ts i insts inst within is h =
     ap (λ k. misfit (models_from net ts k (drop k insts))) next
     ∙ sym (ap (λ (l : List Inst). misfit (models_from net ts i l)) cut ∙ one_fits i inst (table_named ts (inst_path net inst)) (models_from net ts (suc i) (drop (suc i) insts)) h)
 
+no_fit : (i : ℕ) (m : SeenModel) (rest : Result (List SeenModel) FitsFault) (b : Bool) → is_some (cond b None (Some (PortWidth i))) ≡ true → misfit (cond b (in_front m rest) (Err (PortWidth i))) ≡ cond b None (Some (PortWidth i))
+no_fit i m rest true h = absurd cc
+no_fit i m rest false h = refl
+
+one_fails : (i : ℕ) (inst : Inst) (o : Option SeenTable) (rest : Result (List SeenModel) FitsFault) → is_some (inst_misfit i inst o) ≡ true → misfit (one_model i inst o rest) ≡ inst_misfit i inst o
+one_fails i inst None rest h = refl
+one_fails i inst (Some t) rest h = no_fit i (arranged inst t.model) rest (has_ports inst t.model) h
+
+pub one_misfit : (net : Net) (ts : List SeenTable) (i : ℕ) (insts : List Inst) (inst : Inst) → i < length insts → inst ≡ get_or insts i inst → (fault : Option FitsFault)
+    → fault ≡ inst_misfit i inst (table_named ts (inst_path net inst)) → is_some fault ≡ true → misfit (models_from net ts i (drop i insts)) ≡ fault
+one_misfit net ts i insts inst within is fault h some =
+    let cut : drop i insts ≡ inst ∷ drop (suc i) insts = drop-cons insts i inst within ∙ ap (λ (x : Inst). x ∷ drop (suc i) insts) (sym is) in
+    ap (λ (l : List Inst). misfit (models_from net ts i l)) cut
+    ∙ one_fails i inst (table_named ts (inst_path net inst)) (models_from net ts (suc i) (drop (suc i) insts)) (ap is_some (sym h) ∙ some) ∙ sym h
+
 -- ---- tables that name an instrument
 
 cut_table : (ts : List Table) (i : ℕ) (t : Table) → i < length ts → t ≡ get_or ts i t → drop i ts ≡ t ∷ drop (suc i) ts

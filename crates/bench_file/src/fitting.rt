@@ -151,7 +151,7 @@ fn has_outs(inst: &Inst, m: &Model) -> bool
 }
 
 /// Whether a model has the ports of an instrument, in any order.
-fn has_ports(inst: &Inst, m: &Model) -> bool
+pub(crate) fn has_ports(inst: &Inst, m: &Model) -> bool
     ensures { result ≡ has_ports inst.now (seen_model m.now) }
 {
     has_ins(inst, m) && has_outs(inst, m)
@@ -173,7 +173,7 @@ fn same_path(path: &[Name], other: &[Name]) -> bool
 }
 
 /// The instance names of an instrument.
-fn inst_path<'a>(net: &'a Net, inst: &Inst) -> &'a [Name]
+pub(crate) fn inst_path<'a>(net: &'a Net, inst: &Inst) -> &'a [Name]
     ensures { name_texts result.now ≡ inst_path net.now inst.now }
 {
     let node = inst.node as usize;
@@ -185,7 +185,7 @@ fn inst_path<'a>(net: &'a Net, inst: &Inst) -> &'a [Name]
 }
 
 /// The first table of a path.
-fn table_named<'a>(tables: &'a [Table], path: &[Name]) -> Option<&'a Table>
+pub(crate) fn table_named<'a>(tables: &'a [Table], path: &[Name]) -> Option<&'a Table>
     ensures { option_map (λ t. seen_table t.now) result ≡ table_named (map seen_table tables.now) (name_texts path.now) }
 {
     for t in tables {

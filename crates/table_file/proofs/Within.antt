@@ -24,10 +24,10 @@ pub right_false : (a b : Bool) → (a || b) ≡ false → b ≡ false
 right_false true b h = absurd cc
 right_false false b h = h
 
-less : (m n : ℕ) → nat_le m n ≡ false → n < m
+pub less : (m n : ℕ) → nat_le m n ≡ false → n < m
 less m n h = grind (arith, nat_tests)
 
-at_most : (m n : ℕ) → nat_lt m n ≡ false → n ≤ m
+pub at_most : (m n : ℕ) → nat_lt m n ≡ false → n ≤ m
 at_most m n h = grind (arith, nat_tests)
 
 below : (width n : ℕ) → width ≤ 64 → is_above width n ≡ false → n < 2 ^ 64

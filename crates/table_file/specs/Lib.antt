@@ -1,3 +1,4 @@
 pub mod Tables
 pub mod Small
 pub mod Answers
+pub mod Formed

@@ -5,6 +5,7 @@ mod adding;
 mod blocks;
 mod fault;
 mod growing;
+mod laws;
 mod limits;
 mod names;
 mod read;
@@ -12,5 +13,6 @@ mod table;
 mod widths;
 
 pub use fault::TableFault;
+pub use laws::tables_are_models;
 pub use read::read_tables;
 pub use table::Table;

@@ -1,5 +1,5 @@
 // The tables of a file.
-ghost use Rattle.std.specs.Prelude.{◌≡◌, ◌+◌, ◌^◌, ◌<◌, ◌≤◌, [], length, IfOk, IsErr, IsErrOf, Ok, Err, None, Some};
+ghost use Rattle.std.specs.Prelude.{◌≡◌, ◌+◌, ◌^◌, ◌<◌, ◌≤◌, [], length, All, IfOk, IsErr, IsErrOf, Ok, Err, None, Some};
 ghost use Rattle.ij_text.specs.declared.Place.{Place};
 ghost use Rattle.instruments.specs.Models.{IsModel};
 ghost use Rattle.instruments.specs.Seen.{seen_model};
@@ -108,10 +108,13 @@ fn read(alloc: Global, src: &[u8]) -> Result<List<Table>, TableFault>
 /// `TableWidth`, `TableLimit`; a second block for a path is `TableTwice`. What is read takes memory by `alloc`; where there is
 /// none, the answer is `OutOfMemory`.
 ///
+/// Each table's model is well formed (`IsModel`, `specs/Models.antt` of `instruments`).
+///
 /// The text has at most 134,217,728 bytes, as any source text; a longer one must not be given.
 pub fn read_tables(alloc: Global, src: &[u8]) -> Result<List<Table>, TableFault>
     requires { length src.now ≤ 134217728 }
     ensures ok { IfOk result (λ ts. tables src.now ≡ Ok (seen_tables ts)) }
+    ensures models { IfOk result (λ ts. All (λ t. IsModel (seen_model t.model)) ts.items) }
     ensures refused { (fault : TableFault) → tables src.now ≡ Err fault → IsErr result }
     ensures syntax { (at : Place) → IsErrOf result (TableFault.TableSyntax at) → tables src.now ≡ Err (TableFault.TableSyntax at) }
     ensures name { (at : Place) → IsErrOf result (TableFault.TableName at) → tables src.now ≡ Err (TableFault.TableName at) }

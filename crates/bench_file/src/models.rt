@@ -1,0 +1,150 @@
+// The models of a network's instruments.
+ghost use Rattle.std.specs.Prelude.{◌≡◌, ◌<◌, ◌≤◌, ℕ, [], map, length, option_map, slice_index_or, All, IfOk, IsErrOf, Ok, Err, None};
+ghost use Rattle.ij_text.specs.declared.Place.{Place};
+ghost use Rattle.net_graph.specs.Nets.{IsNet, IsInst};
+ghost use Rattle.instruments.specs.Models.{IsModel};
+ghost use Rattle.instruments.specs.Seen.{seen_model};
+ghost use Rattle.table_file.specs.Answers.{seen_tables};
+ghost use Rattle.table_file.specs.Tables.{seen_table};
+ghost use Rattle.bench_file.specs.Answers.{GivesModels, seen_models};
+ghost use Rattle.bench_file.specs.Fits.{arranged, fitted, misfit, model_for, models_from, ModelsFit};
+ghost use Rattle.bench_file.specs.declared.fault.FitsFault.{FitsFault};
+
+use crate::copying::{memory_copy, outs_named, port_defs, words_copy};
+use crate::fault::FitsFault;
+use crate::fitting::{has_ports, inst_path, misfit, table_named};
+use crate::moving::rows_moved;
+use ij_bits::{List, OutOfMemory};
+use instruments::model::Model;
+use net_graph::{Inst, Net};
+use std::alloc::Global;
+use table_file::Table;
+
+/// The models of a network's instruments, one for each, in the network's order.
+///
+/// Contracts see the list of the models.
+#[derive(Drop)]
+pub struct Fitted {
+    models: List<Model>,
+}
+
+impl std::marker::Model for Fitted {
+    ghost use Rattle.std.specs.Prelude.{List};
+    ghost use Rattle.instruments.specs.declared.model.Model.{Model};
+
+    ghost Value = { List Model };
+
+    ghost view = { λ f. f.models.items };
+}
+
+impl Fitted {
+    /// The model of an instrument, by the instrument's number in the network: its ports stand in the network's order, and
+    /// its operands name them in this order. Takes no memory.
+    pub fn model(&self, inst: u32) -> &Model
+        requires { inst < length self.now }
+        ensures { result.now ≡ slice_index_or self.now inst result.now }
+    {
+        self.models.get(inst as usize)
+    }
+
+    /// The models, for a bench. Takes no memory.
+    pub fn models(&self) -> &List<Model>
+        ensures { result.now.items ≡ self.now }
+    {
+        &self.models
+    }
+}
+
+/// A model with the ports in the order of an instrument.
+#[tactic(auto, unfolding(crate::specs::Fits::arranged))]
+fn arranged(alloc: Global, inst: &Inst, m: &Model) -> Result<Model, OutOfMemory>
+    requires few { length inst.now.ins.items ≤ 16 }
+    requires narrow { All (λ port. length port.bits.items ≤ 64) inst.now.ins.items }
+    ensures { IfOk result (λ r. seen_model r ≡ arranged inst.now (seen_model m.now)) }
+{
+    let old = m.ins.as_slice();
+    let new = inst.ins.as_slice();
+    Ok(Model {
+        words: words_copy(alloc, m.words.as_slice())?,
+        mem: memory_copy(alloc, &m.mem)?,
+        ins: port_defs(alloc, new)?,
+        outs: outs_named(alloc, m.outs.as_slice(), inst.outs.as_slice())?,
+        change: rows_moved(alloc, m.change.as_slice(), old, new)?,
+        run: rows_moved(alloc, m.run.as_slice(), old, new)?,
+    })
+}
+
+/// The model of an instrument from its table.
+fn model_for(alloc: Global, i: u32, inst: &Inst, table: Option<&Table>) -> Result<Model, FitsFault>
+    requires few { length inst.now.ins.items ≤ 16 }
+    requires narrow { All (λ port. length port.bits.items ≤ 64) inst.now.ins.items }
+    ensures { GivesModels seen_model result (model_for i inst.now (option_map (λ t. seen_table t.now) table.entry)) }
+{
+    match table {
+        None => Err(FitsFault::NoTable { inst: i }),
+        Some(t) => {
+            if !has_ports(inst, &t.model) {
+                return Err(FitsFault::PortWidth { inst: i });
+            }
+            let model = arranged(alloc, inst, &t.model)?;
+            Ok(model)
+        }
+    }
+}
+
+fn models_from(alloc: Global, net: &Net, tables: &[Table]) -> Result<List<Model>, FitsFault>
+    requires few { length net.now.insts.items ≤ 256 }
+    requires insts { All (IsInst net.now) net.now.insts.items }
+    ensures { GivesModels seen_models result (models_from net.now (map seen_table tables.now) 0 net.now.insts.items) }
+{
+    let mut models = List::new(alloc);
+    for i in 0..net.insts.len() {
+        let inst = net.insts.get(i);
+        let table = table_named(tables, inst_path(net, inst));
+        models.push(model_for(alloc, i as u32, inst, table)?)?;
+    }
+    Ok(models)
+}
+
+/// The models from tables that fit.
+fn made(alloc: Global, net: &Net, tables: &List<Table>) -> Result<Fitted, OutOfMemory>
+    requires net { IsNet net.now }
+    requires tables { All (λ t. IsModel (seen_model t.model)) tables.now.items }
+    requires fit { misfit (fitted net.now (seen_tables tables.now)) ≡ None }
+    ensures ok { IfOk result (λ f. fitted net.now (seen_tables tables.now) ≡ Ok (map seen_model f)) }
+    ensures fit { IfOk result (λ f. ModelsFit net.now (map seen_model f)) }
+    ensures count { IfOk result (λ f. length f ≡ length net.now.insts.items) }
+    ensures models { IfOk result (λ f. All (λ m. IsModel (seen_model m)) f) }
+{
+    match models_from(alloc, net, tables.as_slice()) {
+        Ok(models) => Ok(Fitted { models }),
+        Err(_) => Err(OutOfMemory),
+    }
+}
+
+/// The models of a network's instruments: a table for each, with the ports of the instrument in any order.
+///
+/// # Errors
+///
+/// What [`misfit`] says, where the tables don't fit; then no memory was taken. Models that fit are new ones, and take memory by
+/// `alloc`; where there is none, the answer is `OutOfMemory`.
+pub fn fits(alloc: Global, net: &Net, tables: &List<Table>) -> Result<Fitted, FitsFault>
+    requires net { IsNet net.now }
+    requires tables { All (λ t. IsModel (seen_model t.model)) tables.now.items }
+    ensures ok { IfOk result (λ f. fitted net.now (seen_tables tables.now) ≡ Ok (map seen_model f)) }
+    ensures fit { IfOk result (λ f. ModelsFit net.now (map seen_model f)) }
+    ensures count { IfOk result (λ f. length f ≡ length net.now.insts.items) }
+    ensures models { IfOk result (λ f. All (λ m. IsModel (seen_model m)) f) }
+    ensures refused { (fault : FitsFault) → fitted net.now (seen_tables tables.now) ≡ Err fault → IsErrOf result fault }
+    ensures missing { (inst : ℕ) → IsErrOf result (FitsFault.NoTable inst) → fitted net.now (seen_tables tables.now) ≡ Err (FitsFault.NoTable inst) }
+    ensures extra { (at : Place) → IsErrOf result (FitsFault.ExtraTable at) → fitted net.now (seen_tables tables.now) ≡ Err (FitsFault.ExtraTable at) }
+    ensures ports { (inst : ℕ) → IsErrOf result (FitsFault.PortWidth inst) → fitted net.now (seen_tables tables.now) ≡ Err (FitsFault.PortWidth inst) }
+{
+    match misfit(net, tables) {
+        Some(fault) => Err(fault),
+        None => {
+            let fitted = made(alloc, net, tables)?;
+            Ok(fitted)
+        }
+    }
+}
