@@ -1,0 +1,4 @@
+pub mod BitSteps
+pub mod Seen
+pub mod SeenProgress
+pub mod Laws

@@ -1,0 +1,40 @@
+// Why a procedure has no further bit step.
+ghost use Rattle.std.specs.Prelude.{◌≡◌};
+ghost use Rattle.bit_steps.specs.Seen.{of_expand, of_target};
+
+use pdl_expand::ExpandFault;
+use pdl_targets::TargetFault;
+
+/// Why a procedure has no further bit step (IEEE 1687-2014, PDL level 0).
+#[derive(Drop)]
+pub enum StepFault {
+    /// There is no memory. No other variant stands for it: [`ExpandFault::OutOfMemory`] and [`TargetFault::OutOfMemory`] are
+    /// never handed on.
+    OutOfMemory,
+    /// The procedure can't go on.
+    Expand(ExpandFault),
+    /// A step can't be bound to register bits, or an `iApply` is missing.
+    Target(TargetFault),
+}
+
+impl From<ExpandFault> for StepFault {
+    ghost from_gives = { λ fault e. e ≡ of_expand fault };
+
+    fn from(fault: ExpandFault) -> StepFault {
+        match fault {
+            ExpandFault::OutOfMemory => StepFault::OutOfMemory,
+            other => StepFault::Expand(other),
+        }
+    }
+}
+
+impl From<TargetFault> for StepFault {
+    ghost from_gives = { λ fault e. e ≡ of_target fault };
+
+    fn from(fault: TargetFault) -> StepFault {
+        match fault {
+            TargetFault::OutOfMemory => StepFault::OutOfMemory,
+            other => StepFault::Target(other),
+        }
+    }
+}

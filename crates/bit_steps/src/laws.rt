@@ -1,0 +1,30 @@
+// What follows for the bit steps of a procedure.
+ghost use Rattle.bit_steps.specs.Laws.{StepsAreBound, BitStepsAreOfTheNetwork, BitStepsHavePaths, BitStepsAreFew, BitRoundsAreFew, BitCyclesAreFew, BitRunsAreShort};
+
+/// The bit steps of a procedure are what binding makes of the steps of its expansion, so what holds of these holds of them
+/// (IEEE 1687-2014, PDL level 0).
+pub fn bit_steps_are_bound()
+    ensures { StepsAreBound }
+{}
+
+/// Bit steps in their network:
+///
+/// - `steps`: each one writes and reads data bits of a well formed network, each bit once in a round.
+/// - `paths`: each round of an iApply names something, and its registers can be on one path (IEEE 1687-2014, ScanMux).
+pub fn bit_steps_are_of_the_network()
+    ensures steps { BitStepsAreOfTheNetwork }
+    ensures paths { BitStepsHavePaths }
+{}
+
+/// How much a procedure can ask for:
+///
+/// - `steps`: at most 100,000 bit steps.
+/// - `rounds`: at most 4096 rounds of all its iApplys.
+/// - `cycles`: at most 4,000,000 cycles of all its iRunLoops.
+/// - `runs`: at most 1,000,000 cycles of one iRunLoop.
+pub fn bit_steps_are_few()
+    ensures steps { BitStepsAreFew }
+    ensures rounds { BitRoundsAreFew }
+    ensures cycles { BitCyclesAreFew }
+    ensures runs { BitRunsAreShort }
+{}

@@ -1,0 +1,71 @@
+-- What each step of a procedure with merges comes to (IEEE 1687-2014, PDL level 0: iMerge): the bit steps of a merge are
+-- ready at its end, all others at once.
+use Rattle.std.specs.Prelude.{List, [], ◌∷◌, ◌++◌, Option, Some, None}
+use Rattle.ij_text.specs.declared.Place.{Place}
+use Rattle.net_graph.specs.declared.net.Net.{Net}
+use Rattle.net_graph.specs.SeenSteps.{SeenStep}
+use Rattle.pdl_expand.specs.Values.{ADeed, Writes, Reads, Applies, Runs, Resets, BeginsMerge, EndsBranch, EndsMerge, AStep}
+use Rattle.pdl_targets.specs.Binding.{Queue, Answer, empty, feed as bind, finish}
+use Rattle.pdl_targets.specs.Rounds.{Places}
+use Rattle.pdl_targets.specs.Targets.{AFault as TargetFault, Found, Is as IsBound, Fails as IsRefused}
+use Rattle.merge_order.specs.Merge.{Branch, if_any, merged}
+
+-- why a step isn't taken in
+pub data AFault : Type 0 where
+  IsMergeInside : Place → AFault
+  IsMergeReset : Place → AFault
+  Targets : TargetFault → AFault
+
+-- a merge that is begun: its branches that have ended, and the bit steps of the next one
+pub record Merging : Type 0 where
+  pub branches : List Branch
+  pub next : Branch
+
+-- what was taken in: the queue, and the merge that is begun, if one is
+pub record State : Type 0 where
+  pub queue : Queue
+  pub merging : Option Merging
+
+abbrev pub begin : State
+begin = record { queue = empty; merging = None }
+
+-- what a step comes to: the state behind it, and the bit steps that become ready; or the fault in place of them
+pub data Fed : Type 0 where
+  Is : State → List SeenStep → Fed
+  Fails : AFault → Fed
+
+-- a bit step is ready at once, or waits for the end of the merge
+abbrev pub given : Option Merging → Answer → Fed
+given None answer = Is (record { queue = answer.queue; merging = None }) (if_any answer.step)
+given (Some m) answer = Is (record { queue = answer.queue; merging = Some (record { branches = m.branches; next = m.next ++ if_any answer.step }) }) []
+
+abbrev pub answered : Option Merging → Found Answer → Fed
+answered merging (IsBound answer) = given merging answer
+answered merging (IsRefused fault) = Fails (Targets fault)
+
+-- what is written and read in front of a branch, and at its end, is applied
+abbrev pub if_applied : Option TargetFault → State → Fed
+if_applied None s = Is s []
+if_applied (Some fault) s = Fails (Targets fault)
+
+-- the end of a branch
+abbrev pub branch_ended : Merging → Merging
+branch_ended m = record { branches = m.branches ++ m.next ∷ []; next = [] }
+
+-- A step. Neither a merge nor an iReset stands in a merge. A mark of a merge that isn't begun comes to nothing.
+abbrev pub feed : Net → Places → State → AStep → Fed
+feed net places s step = deed step.what s.merging
+  where
+    deed : ADeed → Option Merging → Fed
+    deed BeginsMerge None = if_applied (finish s.queue) (record s { merging = Some (record { branches = []; next = [] }) })
+    deed BeginsMerge (Some m) = Fails (IsMergeInside step.at)
+    deed EndsBranch None = Is s []
+    deed EndsBranch (Some m) = if_applied (finish s.queue) (record s { merging = Some (branch_ended m) })
+    deed EndsMerge None = Is s []
+    deed EndsMerge (Some m) = Is (record s { merging = None }) (merged places m.branches)
+    deed Resets None = answered None (bind net places s.queue step)
+    deed Resets (Some m) = Fails (IsMergeReset step.at)
+    deed (Writes target value) merging = answered merging (bind net places s.queue step)
+    deed (Reads target value) merging = answered merging (bind net places s.queue step)
+    deed Applies merging = answered merging (bind net places s.queue step)
+    deed (Runs value) merging = answered merging (bind net places s.queue step)

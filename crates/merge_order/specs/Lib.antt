@@ -1,0 +1,3 @@
+pub mod Merge
+pub mod Feeding
+pub mod Laws

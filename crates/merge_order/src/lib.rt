@@ -1,0 +1,7 @@
+//! The order of the bit steps of a merge (IEEE 1687-2014, PDL level 0: iMerge): its calls are branches that advance turn by
+//! turn, and what their iApplys do in one turn is joined where it can be.
+#![tactic(auto)]
+
+mod laws;
+
+pub use laws::merges_of_one_branch;

@@ -1,0 +1,20 @@
+use Rattle.ij_io.proofs.Adding.{adds_front, adds_then_part, at_refusal}
+use Rattle.ij_io.specs.Words.{words_text}
+use Rattle.svf_writer.proofs.Texts.{adds_part_as}
+use Rattle.retargeter.proofs.Texts.{quiet_is}
+use Rattle.retargeter.proofs.scan.put_quiet.Goals as goal
+
+pub returns-in_err-put_words-clause-part : goal.returns-in_err-put_words-clause-part
+unfolding words_text
+returns-in_err-put_words-clause-part g c =
+    at_refusal _ (adds_part_as (quiet_is c.len.result c.args.tdi.now.items c.len.ensures) (adds_front _ c.in_err-put_words.ensures.part))
+
+pub returns-in_err-put_part-clause-part : goal.returns-in_err-put_part-clause-part
+unfolding words_text
+returns-in_err-put_part-clause-part g c =
+    at_refusal _ (adds_part_as (quiet_is c.len.result c.args.tdi.now.items c.len.ensures) (adds_then_part c.in_ok-put_words.ensures.whole (adds_front _ c.in_err-put_part.ensures.part)))
+
+pub returns-in_err-write-clause-part : goal.returns-in_err-write-clause-part
+unfolding words_text
+returns-in_err-write-clause-part g c =
+    at_refusal _ (adds_part_as (quiet_is c.len.result c.args.tdi.now.items c.len.ensures) (adds_then_part c.in_ok-put_words.ensures.whole (adds_then_part c.in_ok-put_part.ensures.whole c.in_err-write.ensures.part)))

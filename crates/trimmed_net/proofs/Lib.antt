@@ -1,0 +1,2 @@
+pub mod OneTern
+pub mod ViewsKept
