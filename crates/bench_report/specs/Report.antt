@@ -1,10 +1,10 @@
 -- What is printed of a play of SVF commands on the bench of a network with its instruments (Serial Vector Format, revision E).
 use Rattle.std.specs.Prelude.{ℕ, suc, List, [], ◌∷◌, ◌++◌, map, get_or, length, None}
+use Rattle.instruments.specs.After.{machine_of}
 use Rattle.instruments.specs.Machine.{count_log}
 use Rattle.instruments.specs.OnNetwork.{Running, inner_at}
-use Rattle.instruments.specs.Seen.{SeenModel, seen_model}
+use Rattle.instruments.specs.Seen.{SeenModel}
 use Rattle.instruments.specs.declared.Counts.{Counts}
-use Rattle.instruments.specs.declared.model.Model.{Model}
 use Rattle.net_graph.specs.declared.device.Device.{Device}
 use Rattle.net_graph.specs.declared.net.Net.{Net}
 use Rattle.svf_writer.specs.SeenCommands.{SeenCommand}
@@ -13,7 +13,7 @@ use Rattle.tap_machine.specs.Play.{pins, scans_in}
 use Rattle.net_bench.specs.Bench.{Chip, State, fault_free, power_up}
 use Rattle.net_bench.specs.Board.{SeenBench}
 use Rattle.net_bench.specs.Playing.{Compare, play_from, compares_from, differing}
-use Rattle.net_bench.specs.Runners.{machines_of}
+use Rattle.runners.specs.Runners.{machines_of}
 use Rattle.report.specs.Differs.{differ_text}
 use Rattle.report.specs.Instruments.{instrument_text}
 use Rattle.report.specs.Registers.{registers_text}
@@ -42,24 +42,24 @@ abbrev pub instruments_from : Net → List (Running Counts) → ℕ → List See
 instruments_from net insts i [] = []
 instruments_from net insts i (m ∷ ms) = inst_text net insts i m ++ instruments_from net insts (suc i) ms
 
-abbrev pub instruments_text : Net → List Model → List (Running Counts) → List ℕ
-instruments_text net models insts = instruments_from net insts 0 (map seen_model models)
+abbrev pub instruments_text : Net → List SeenModel → List (Running Counts) → List ℕ
+instruments_text net models insts = instruments_from net insts 0 models
 
 -- what the bench holds at an end: registers, then instruments
-abbrev pub state_text : Net → List Model → State Counts → List ℕ
+abbrev pub state_text : Net → List SeenModel → State Counts → List ℕ
 state_text net models s = registers_text net s.holds ++ instruments_text net models s.insts
 
 -- the device with instruments that a table describes, their events counted
-abbrev pub chip : Net → Device → List Model → Chip Counts
-chip net device models = fault_free count_log net device (machines_of models)
+abbrev pub chip : Net → Device → List SeenModel → Chip Counts
+chip net device models = fault_free count_log net device (map machine_of models)
 
 -- the compares of a play from power-up that differ
-abbrev pub differs_of : Net → Device → List Model → List SeenCommand → List Compare
+abbrev pub differs_of : Net → Device → List SeenModel → List SeenCommand → List Compare
 differs_of net device models commands =
     differing (compares_from (chip net device models) 0 commands (power_up (chip net device models)))
 
 -- a line for each, then what the bench holds at the end, then the totals
-abbrev pub play_report : Net → Device → List Model → List SeenCommand → List ℕ
+abbrev pub play_report : Net → Device → List SeenModel → List SeenCommand → List ℕ
 play_report net device models commands =
     let differs = differs_of net device models commands in
     compare_lines differs

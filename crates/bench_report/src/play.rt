@@ -1,12 +1,13 @@
 // A whole play.
-ghost use Rattle.std.specs.Prelude.{◌≡◌, ◌≤◌, [], ◌∷◌, length, OnOk, OnErr, IfOk};
+ghost use Rattle.std.specs.Prelude.{◌≡◌, ◌≤◌, [], ◌∷◌, length, map, OnOk, OnErr, IfOk};
 ghost use Rattle.ij_io.specs.Bytes.{Adds, AddsPart};
 ghost use Rattle.ij_io.specs.Causes.{HasCause};
+ghost use Rattle.instruments.specs.Seen.{seen_model};
 ghost use Rattle.svf_writer.specs.SeenCommands.{seen_command};
 ghost use Rattle.tap_machine.specs.declared.Stable.TheVariants.{Reset as InReset};
 ghost use Rattle.tap_machine.specs.Play.{pins, scans_in};
 ghost use Rattle.net_bench.specs.Bench.{power_up};
-ghost use Rattle.net_bench.specs.Runners.{AreModels};
+ghost use Rattle.runners.specs.Runners.{AreModels};
 ghost use Rattle.net_graph.specs.Nets.{IsNet};
 ghost use Rattle.bench_report.specs.Report.{chip_of, differs_of, play_report};
 
@@ -62,9 +63,9 @@ fn put_report<K: Sink>(
     requires start { bench.old.state ≡ power_up (chip_of bench.old) }
     requires clocks { length (pins InReset 0 commands.now) ≤ 1000000000 }
     requires scans { scans_in commands.now ≤ 1000000000 }
-    ensures whole { OnOk result (Adds (K.taken k.old) (K.taken k.new) (play_report net.now bench.old.device models.now.items commands.now)) }
-    ensures differs { IfOk result (λ n. n ≡ length (differs_of net.now bench.old.device models.now.items commands.now)) }
-    ensures part { OnErr result (AddsPart (K.taken k.old) (K.taken k.new) (play_report net.now bench.old.device models.now.items commands.now)) }
+    ensures whole { OnOk result (Adds (K.taken k.old) (K.taken k.new) (play_report net.now bench.old.device (map seen_model models.now.items) commands.now)) }
+    ensures differs { IfOk result (λ n. n ≡ length (differs_of net.now bench.old.device (map seen_model models.now.items) commands.now)) }
+    ensures part { OnErr result (AddsPart (K.taken k.old) (K.taken k.new) (play_report net.now bench.old.device (map seen_model models.now.items) commands.now)) }
     ensures cause { HasCause (K.faults k.old) (K.faults k.new) result StoreFault.Failed }
 {
     let scans = scan_count(commands);
@@ -100,9 +101,9 @@ pub fn put_play<K: Sink>(
     requires models { AreModels net.now models.now.items }
     requires clocks { length (pins InReset 0 commands.now) ≤ 1000000000 }
     requires scans { scans_in commands.now ≤ 1000000000 }
-    ensures whole { OnOk result (Adds (K.taken k.old) (K.taken k.new) (play_report net.now device.now models.now.items commands.now)) }
-    ensures differs { IfOk result (λ n. n ≡ length (differs_of net.now device.now models.now.items commands.now)) }
-    ensures part { OnErr result (AddsPart (K.taken k.old) (K.taken k.new) (play_report net.now device.now models.now.items commands.now)) }
+    ensures whole { OnOk result (Adds (K.taken k.old) (K.taken k.new) (play_report net.now device.now (map seen_model models.now.items) commands.now)) }
+    ensures differs { IfOk result (λ n. n ≡ length (differs_of net.now device.now (map seen_model models.now.items) commands.now)) }
+    ensures part { OnErr result (AddsPart (K.taken k.old) (K.taken k.new) (play_report net.now device.now (map seen_model models.now.items) commands.now)) }
     ensures cause { HasCause (K.faults k.old) (K.faults k.new) result StoreFault.Failed }
 {
     let mut bench = Bench::new(alloc, net, device, models)?;

@@ -1,11 +1,11 @@
 // What a bench holds.
-ghost use Rattle.std.specs.Prelude.{◌≡◌, ◌<◌, ℕ, get_or, length, OnOk, OnErr};
+ghost use Rattle.std.specs.Prelude.{◌≡◌, ◌<◌, ℕ, get_or, length, map, OnOk, OnErr};
 ghost use Rattle.ij_io.specs.Bytes.{Adds, AddsPart};
 ghost use Rattle.ij_io.specs.Causes.{HasCause};
 ghost use Rattle.instruments.specs.Models.{IsModel};
 ghost use Rattle.instruments.specs.OnNetwork.{inner_at};
 ghost use Rattle.instruments.specs.Seen.{seen_model};
-ghost use Rattle.net_bench.specs.Runners.{AreModels};
+ghost use Rattle.runners.specs.Runners.{AreModels};
 ghost use Rattle.net_graph.specs.Nets.{IsNet};
 ghost use Rattle.bench_report.specs.Report.{inst_text, instruments_text, state_text};
 
@@ -71,8 +71,8 @@ fn put_instruments<K: Sink>(
     requires well_formed { IsNet net.now }
     requires models { AreModels net.now models.now.items }
     requires bench { bench.now.models ≡ models.now.items }
-    ensures whole { OnOk result (Adds (K.taken k.old) (K.taken k.new) (instruments_text net.now models.now.items bench.now.state.insts)) }
-    ensures part { OnErr result (AddsPart (K.taken k.old) (K.taken k.new) (instruments_text net.now models.now.items bench.now.state.insts)) }
+    ensures whole { OnOk result (Adds (K.taken k.old) (K.taken k.new) (instruments_text net.now (map seen_model models.now.items) bench.now.state.insts)) }
+    ensures part { OnErr result (AddsPart (K.taken k.old) (K.taken k.new) (instruments_text net.now (map seen_model models.now.items) bench.now.state.insts)) }
     ensures cause { HasCause (K.faults k.old) (K.faults k.new) result StoreFault.Failed }
 {
     let _running = bench.instruments();
@@ -93,8 +93,8 @@ pub(crate) fn put_state<K: Sink>(
     requires models { AreModels net.now models.now.items }
     requires net { bench.now.net ≡ net.now }
     requires bench { bench.now.models ≡ models.now.items }
-    ensures whole { OnOk result (Adds (K.taken k.old) (K.taken k.new) (state_text net.now models.now.items bench.now.state)) }
-    ensures part { OnErr result (AddsPart (K.taken k.old) (K.taken k.new) (state_text net.now models.now.items bench.now.state)) }
+    ensures whole { OnOk result (Adds (K.taken k.old) (K.taken k.new) (state_text net.now (map seen_model models.now.items) bench.now.state)) }
+    ensures part { OnErr result (AddsPart (K.taken k.old) (K.taken k.new) (state_text net.now (map seen_model models.now.items) bench.now.state)) }
     ensures cause { HasCause (K.faults k.old) (K.faults k.new) result StoreFault.Failed }
 {
     put_registers(net, bench.holds(), k)?;
