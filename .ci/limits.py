@@ -46,7 +46,7 @@ with tempfile.TemporaryDirectory() as folder:
     icl = folder / 'long.icl'
     module = (FLAT / 'chip.icl').read_bytes()
     icl.write_bytes(module + b' ' * (SOURCE_LIMIT - len(module)))
-    check('ICL at the limit', compile_to(folder / 'none.svf', icl), (3, b'', b'refused core FirstForm\n'))
+    check('ICL at the limit', compile_to(folder / 'at.svf', icl), (0, b'', b''))
     with icl.open('ab') as file:
         file.write(b' ')
     check('ICL above the limit', compile_to(folder / 'none.svf', icl), (3, b'', f'refused file Long {icl}\n'.encode()))

@@ -4,8 +4,9 @@ import pathlib
 import re
 import sys
 
-# what isn't a reader's refusal: want of memory, and causes that the crates of files and numbers hand to callers
-PASSED_OVER = {'OutOfMemory', 'Failed', 'Wide'}
+# what isn't a reader's refusal: want of memory, causes that the crates of files and numbers hand to callers, and variants that hold
+# another crate's refusal
+PASSED_OVER = {'OutOfMemory', 'Failed', 'Wide', 'Expand', 'Target', 'Refused'}
 
 page = pathlib.Path('docs/REFUSALS.md').read_text()
 missing = []

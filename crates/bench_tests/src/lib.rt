@@ -1,10 +1,6 @@
-//! Tests of the TAP controller, of players and benches, clock by clock.
+//! Tests of the TAP controller and of players, clock by clock, and of the lines of reports.
 #![tactic(auto)]
 
-#[cfg(test)]
-mod clocked_benches;
-#[cfg(test)]
-mod play_reports;
 #[cfg(test)]
 mod report_lines;
 #[cfg(test)]

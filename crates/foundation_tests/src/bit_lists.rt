@@ -80,6 +80,18 @@ fn bits_are_written_copied_and_shifted(rt: HostRuntime) -> Result<(), Fail> {
 }
 
 #[test]
+fn bits_made_with_room_take_the_bits_they_were_made_for(rt: HostRuntime) -> Result<(), Fail> {
+    let alloc = rt.alloc();
+    let bits = two_numbers(alloc)?;
+    let mut copy = Bits::with_room(alloc, 72)?;
+    assert_eq!(rt; copy.len(), 0);
+    copy.append_part_reserved(&bits, 0, 72);
+    assert_eq!(rt; digits(alloc, &copy, 62, 67)?, *b"08");
+    assert_eq!(rt; digits(alloc, &copy, 64, 72)?, *b"5A");
+    Ok(())
+}
+
+#[test]
 fn a_ring_gives_its_bits_in_order_while_it_turns(rt: HostRuntime) -> Result<(), Fail> {
     let alloc = rt.alloc();
     let bits = two_numbers(alloc)?;

@@ -5,18 +5,16 @@ use Rattle.ij_io.specs.Bytes.{Adds, AddsPart}
 use Rattle.ij_io.specs.Causes.{Rose}
 use Rattle.ij_io.specs.Files.{Files, file_at}
 use Rattle.ij_io.proofs.Adding.{with_none, adds_none}
-use Rattle.first_form.specs.Texts.{SeenForm}
-use Rattle.register_compiler.specs.Meaning.{DoesProcedure}
-use Rattle.register_compiler.specs.Svf.{svf_text}
 use Rattle.ijtag_core.specs.Command.{Command, Compile, Compiles, Play, Plays, compile_loads, play_loads, loads}
-use Rattle.ijtag_core.specs.Follows.{IsFault, IsLoadStop}
+use Rattle.ijtag_core.specs.Follows.{IsLoadStop}
+use Rattle.ijtag_stages.specs.Follows.{IsFault}
 use Rattle.ijtag_core.specs.Headline.{IsRetargeted}
-use Rattle.ijtag_core.specs.Order.{SeenPlayable, loaded, accepted, compiled, playable, played, report_of, any_differs, differs_at, work_on, work}
+use Rattle.ijtag_core.specs.Order.{SeenCompilable, SeenPlayable, loaded, accepted, written_text, compiled, playable, played, report_of, any_differs, differs_at, work_on, work}
 use Rattle.ijtag_core.specs.Runs.{IsDone, IsPartDone, HoldsPart, Counts, IsStop}
 use Rattle.ijtag_core.specs.Seen.{seen_stop, stop_from}
 use Rattle.ijtag_core.specs.Stops.{Stop, Usage, Refuses, ReadFault, WriteFault, OutputFault, NoMemory}
-use Rattle.ijtag_core.specs.declared.refusal.StageFault.{StageFault}
-use Rattle.ijtag_core.specs.declared.refusal.StageFault.TheVariants.{Refused, OutOfMemory}
+use Rattle.ijtag_stages.specs.declared.refusal.StageFault.{StageFault}
+use Rattle.ijtag_stages.specs.declared.refusal.StageFault.TheVariants.{Refused, OutOfMemory}
 
 -- the loads stop the command
 pub load_stop : (files : Option Files) (command : Command) (c : Counts) (stop : Stop) → IsLoadStop files (loads command) c.load c.load_now (loaded files (loads command)) stop → IsStop files command c stop
@@ -39,23 +37,31 @@ none_added old = record { added = with_none old }
 
 -- ---- compile
 
-pub compile_given : (files : Option Files) (c : Compile) (texts : List (List ℕ)) (form : SeenForm) → (loaded files (compile_loads c)).gives texts → (accepted c texts).gives form → (work files (Compiles c)).gives (compiled c form)
-compile_given files c texts form read is = (texts, read, (form, is, refl))
+-- what a compile has when its SVF text is made: what was accepted, and the text
+pub record IsMade (files : Option Files) (c : Compile) (bytes : List ℕ) : Type 0 where
+  pub texts : List (List ℕ)
+  pub it : SeenCompilable
+  pub read : (loaded files (compile_loads c)).gives texts
+  pub accepted_so : (accepted c texts).gives it
+  pub written : (written_text it).gives bytes
 
-pub compile_done : (files new : Option Files) (printed : Option (List ℕ)) (c : Compile) (texts : List (List ℕ)) (form : SeenForm) → (loaded files (compile_loads c)).gives texts → (accepted c texts).gives form
-    → file_at new c.svf ≡ option_map (λ _. Some (svf_text form)) files → IsDone (work files (Compiles c)) (record { files = files; printed = printed }) (record { files = new; printed = printed }) false
-compile_done files new printed c texts form read is written =
-    record { leaves = compiled c form; given = compile_given files c texts form read is; files = (written, tt); printed = none_added printed; verdict = refl }
+pub compile_given : (files : Option Files) (c : Compile) (bytes : List ℕ) → IsMade files c bytes → (work files (Compiles c)).gives (compiled c bytes)
+compile_given files c bytes m = (m.texts, m.read, (m.it, m.accepted_so, (bytes, m.written, refl)))
 
-pub compile_part : (files new : Option Files) (printed : Option (List ℕ)) (c : Compile) (texts : List (List ℕ)) (form : SeenForm) → (loaded files (compile_loads c)).gives texts → (accepted c texts).gives form
-    → HoldsPart files new c.svf (svf_text form) → IsPartDone (work files (Compiles c)) (record { files = files; printed = printed }) (record { files = new; printed = printed })
-compile_part files new printed c texts form read is part =
-    inr (record { leaves = compiled c form; given = compile_given files c texts form read is; files = (part, tt); printed = adds_none [] refl })
+pub compile_done : (files new : Option Files) (printed : Option (List ℕ)) (c : Compile) (bytes : List ℕ) → IsMade files c bytes
+    → file_at new c.svf ≡ option_map (λ _. Some bytes) files → IsDone (work files (Compiles c)) (record { files = files; printed = printed }) (record { files = new; printed = printed }) false
+compile_done files new printed c bytes m written =
+    record { leaves = compiled c bytes; given = compile_given files c bytes m; files = (written, tt); printed = none_added printed; verdict = refl }
 
-pub retargeted : (files : Option Files) (c : Compile) (texts : List (List ℕ)) (form : SeenForm) (svf : Option (Option (List ℕ))) → (loaded files (compile_loads c)).gives texts → (accepted c texts).gives form
-    → svf ≡ option_map (λ _. Some (svf_text form)) files → DoesProcedure form (svf_text form) → IsRetargeted files c svf
-retargeted files c texts form svf read is written right =
-    record { texts = texts; form = form; bytes = svf_text form; read = read; accepted = is; written = written; right = right }
+pub compile_part : (files new : Option Files) (printed : Option (List ℕ)) (c : Compile) (bytes : List ℕ) → IsMade files c bytes
+    → HoldsPart files new c.svf bytes → IsPartDone (work files (Compiles c)) (record { files = files; printed = printed }) (record { files = new; printed = printed })
+compile_part files new printed c bytes m part =
+    inr (record { leaves = compiled c bytes; given = compile_given files c bytes m; files = (part, tt); printed = adds_none [] refl })
+
+pub retargeted : (files : Option Files) (c : Compile) (bytes : List ℕ) (svf : Option (Option (List ℕ))) → IsMade files c bytes → svf ≡ option_map (λ _. Some bytes) files → IsRetargeted files c svf
+unfolding written_text
+retargeted files c bytes svf m written =
+    record { texts = m.texts; it = m.it; bytes = bytes; read = m.read; accepted = m.accepted_so; written = written; right = m.written }
 
 -- ---- play
 
@@ -74,18 +80,16 @@ play_part files old new p texts it read is part =
 
 -- ---- what was written behind the loads, which change no file
 
-pub written_now : (files mid new : Option Files) (name bytes text : List ℕ) → mid ≡ files → bytes ≡ text → file_at new name ≡ option_map (λ _. Some bytes) mid → file_at new name ≡ option_map (λ _. Some text) files
-written_now files mid new name bytes text same is whole =
-    whole ∙ ap (λ (b : List ℕ). option_map (λ _. Some b) mid) is ∙ ap (λ (fs : Option Files). option_map (λ _. Some text) fs) same
+pub written_now : (files mid new : Option Files) (name bytes : List ℕ) → mid ≡ files → file_at new name ≡ option_map (λ _. Some bytes) mid → file_at new name ≡ option_map (λ _. Some bytes) files
+written_now files mid new name bytes same whole = whole ∙ ap (λ (fs : Option Files). option_map (λ _. Some bytes) fs) same
 
-pub part_now : (files mid new : Option Files) (name bytes text : List ℕ) → mid ≡ files → bytes ≡ text → HoldsPart mid new name bytes → HoldsPart files new name text
-part_now files mid new name bytes text same is part =
-    subst (λ (fs : Option Files). HoldsPart fs new name text) same (subst (λ (b : List ℕ). HoldsPart mid new name b) is part)
+pub part_now : (files mid new : Option Files) (name bytes : List ℕ) → mid ≡ files → HoldsPart mid new name bytes → HoldsPart files new name bytes
+part_now files mid new name bytes same part = subst (λ (fs : Option Files). HoldsPart fs new name bytes) same part
 
 -- a store of the SVF file failed
-pub compile_fault : (files : Option Files) (c : Compile) (counts : Counts) (texts : List (List ℕ)) (form : SeenForm) → (loaded files (compile_loads c)).gives texts → (accepted c texts).gives form
+pub compile_fault : (files : Option Files) (c : Compile) (counts : Counts) (bytes : List ℕ) → IsMade files c bytes
     → Rose (counts.store c.svf) (counts.store_now c.svf) → IsStop files (Compiles c) counts (WriteFault c.svf)
-compile_fault files c counts texts form read is rose = ((compiled c form, compile_given files c texts form read is), (inl refl, rose))
+compile_fault files c counts bytes m rose = ((compiled c bytes, compile_given files c bytes m), (inl refl, rose))
 
 -- a write of the report failed
 pub play_fault : (files : Option Files) (p : Play) (counts : Counts) (texts : List (List ℕ)) (it : SeenPlayable) → (loaded files (play_loads p)).gives texts → (playable p texts).gives it

@@ -1,13 +1,8 @@
 pub mod Told
-pub mod Printed
-pub mod Faults
 pub mod Loading
 pub mod Begun
 pub mod Ends
+pub mod Made
 pub mod Verdicts
-pub mod Few
-pub mod Parts
-pub mod SameLists
-pub mod SameNets
 pub mod Deciding
 pub mod Statuses

@@ -5,14 +5,16 @@ use Rattle.std.proofs.Common.{◌≡◌, ◌≢◌, ◌≤◌, ◌<◌, ◌+◌,
 use Rattle.ij_io.specs.Causes.{Rose}
 use Rattle.ij_io.specs.Files.{Files}
 use Rattle.ijtag_core.specs.Command.{Load, names_of, IsNoneOf}
-use Rattle.ijtag_core.specs.Follows.{IsLoadStop, IsToldAs, AreShort, seen_texts}
+use Rattle.ijtag_core.specs.Follows.{IsLoadStop, AreShort, seen_texts}
+use Rattle.ijtag_stages.specs.Follows.{IsToldAs}
+use Rattle.ijtag_stages.specs.Seen.{seen_refusal}
 use Rattle.ijtag_core.specs.Order.{loaded_one, loaded}
-use Rattle.ijtag_core.specs.Refusals.{Part, Refusal}
+use Rattle.ijtag_stages.specs.Refusals.{Part, Refusal}
 use Rattle.ijtag_core.specs.Runs.{IsReached}
-use Rattle.ijtag_core.specs.Seen.{seen_load, seen_refusal, seen_stop, stop_from}
+use Rattle.ijtag_core.specs.Seen.{seen_load, seen_stop, stop_from}
 use Rattle.ijtag_core.specs.Stops.{Stop, Usage, Refuses, ReadFault, WriteFault, OutputFault, NoMemory}
-use Rattle.ijtag_core.specs.declared.refusal.StageFault.{StageFault}
-use Rattle.ijtag_core.specs.declared.refusal.StageFault.TheVariants.{Refused, OutOfMemory}
+use Rattle.ijtag_stages.specs.declared.refusal.StageFault.{StageFault}
+use Rattle.ijtag_stages.specs.declared.refusal.StageFault.TheVariants.{Refused, OutOfMemory}
 use Rattle.ijtag_core.specs.declared.stop.Stop.{Stop as RustStop}
 use Rattle.ijtag_core.specs.declared.load.Load.{Load as LoadWords}
 use Rattle.ijtag_core.specs.declared.load.Load.TheVariants.{Source as SourceLoad}

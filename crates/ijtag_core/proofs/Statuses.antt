@@ -6,7 +6,7 @@ use Rattle.ij_io.specs.Files.{Files}
 use Rattle.ijtag_core.specs.Command.{Command, Load, loads, names_of, writes, IsOneOf}
 use Rattle.ijtag_core.specs.Leaves.{Leaves}
 use Rattle.ijtag_core.specs.Order.{work}
-use Rattle.ijtag_core.specs.Refusals.{Refusal}
+use Rattle.ijtag_stages.specs.Refusals.{Refusal}
 use Rattle.ijtag_core.specs.Runs.{Counts, Seen, IsReached, SomeRose, LoadRose, WriteRose, IsWriteStop, IsRunStop, IsStop, IsDone, IsOrMemory, IfTold, status_if, WorksAreDecided}
 use Rattle.ijtag_core.specs.Stops.{Stop, Usage, Refuses, ReadFault, WriteFault, OutputFault, NoMemory, status_of}
 use Rattle.ijtag_core.specs.declared.status.Status.{Status}

@@ -1,30 +1,13 @@
--- How the code goes: a call that follows work.
-use Rattle.std.specs.Prelude.{◌≡◌, ◌≤◌, ℕ, List, [], ◌∷◌, length, map, Vec, Option, Some, Result, Ok, Err}
+-- How the code goes: a call that loads files and follows work.
+use Rattle.std.specs.Prelude.{◌≡◌, ◌≤◌, ℕ, List, [], ◌∷◌, length, map, Vec, Option, Result, Ok, Err}
 use Rattle.std.specs.declared.alloc.Global.{Global}
 use Rattle.ij_io.specs.Files.{Files}
 use Rattle.ijtag_core.specs.Command.{Load}
-use Rattle.ijtag_core.specs.Refusals.{Part, Refusal}
+use Rattle.ijtag_stages.specs.Refusals.{Part}
 use Rattle.ijtag_core.specs.Runs.{IsReadFault}
-use Rattle.ijtag_core.specs.Seen.{seen_refusal, seen_stop}
+use Rattle.ijtag_core.specs.Seen.{seen_stop}
 use Rattle.ijtag_core.specs.Stops.{Stop, Usage, Refuses, ReadFault, WriteFault, OutputFault, NoMemory}
-use Rattle.ijtag_core.specs.declared.refusal.StageFault.{StageFault}
-use Rattle.ijtag_core.specs.declared.refusal.StageFault.TheVariants.{Refused as RefusedStage, OutOfMemory as MemoryStage}
 use Rattle.ijtag_core.specs.declared.stop.Stop.{Stop as RustStop}
-
--- a stage's fault is what the work refuses for, or want of memory
-abbrev pub IsFault : {A : Type 0} → Part A → StageFault → Type 0
-IsFault work (RefusedStage refusal) = work.refuses (seen_refusal refusal)
-IsFault work MemoryStage = Unit {0}
-
--- a stage gives what the work gives, or refuses as it does
-abbrev pub Follows : {A B : Type 0} → Part B → (A → B) → Result A StageFault → Type 0
-Follows work view (Ok a) = work.gives (view a)
-Follows work view (Err fault) = IsFault work fault
-
--- a fault tells this refusal, where there is one, unless memory ran out
-abbrev pub IsToldAs : Option Refusal → StageFault → Type 0
-IsToldAs refusal (RefusedStage told) = refusal ≡ Some (seen_refusal told)
-IsToldAs refusal MemoryStage = Unit {0}
 
 -- a stop of work that is done while files are loaded
 abbrev pub IsLoadStop : {A : Type 0} → Option Files → List Load → (List ℕ → ℕ) → (List ℕ → ℕ) → Part A → Stop → Type 0

@@ -2,22 +2,30 @@
 use Rattle.std.specs.Prelude.{◌≡◌, ◌<◌, ◌≤◌, ℕ, Bool, true, false, List, [], ◌∷◌, length, Option, IfSome, codes}
 use Rattle.ij_io.specs.Files.{Files, bytes_of}
 use Rattle.icl_syntax.specs.Values.{SeenModule}
+use Rattle.instruments.specs.Seen.{SeenModel}
+use Rattle.net_graph.specs.declared.device.Device.{Device}
+use Rattle.net_graph.specs.declared.net.Net.{Net}
+use Rattle.net_graph.specs.SeenSteps.{SeenStep}
+use Rattle.pdl_parser.specs.Values.{AProc}
 use Rattle.svf_writer.specs.SeenCommands.{SeenCommand}
+use Rattle.table_file.specs.Tables.{SeenTable}
 use Rattle.net_bench.specs.Playing.{Compare}
-use Rattle.play_report.specs.Report.{differs_of, play_report}
-use Rattle.first_form.specs.Texts.{SeenForm}
-use Rattle.first_form.specs.declared.form.Design.{Design}
-use Rattle.register_compiler.specs.Procedure.{device_of}
-use Rattle.register_compiler.specs.Svf.{svf_text as written_svf}
-use Rattle.ijtag_core.specs.Work.{give, never, ◌>>=◌}
+use Rattle.bench_report.specs.Report.{differs_of, play_report}
+use Rattle.group_scans.specs.Retargeting.{IsRetargeted as DoSteps}
+use Rattle.ijtag_stages.specs.Work.{give, never, ◌>>=◌}
 use Rattle.ijtag_core.specs.Command.{Command, Compile, Compiles, Play, Plays, Load, loads}
-use Rattle.ijtag_core.specs.Refusals.{Part, refused_name}
+use Rattle.ijtag_stages.specs.Refusals.{Part, refused_name}
 use Rattle.ijtag_core.specs.Leaves.{Leaves}
-use Rattle.ijtag_core.specs.DeviceText.{device_text}
-use Rattle.ijtag_core.specs.IclText.{icl_text}
-use Rattle.ijtag_core.specs.SvfText.{svf_text}
-use Rattle.ijtag_core.specs.Designs.{compiled_form, played_design}
-use Rattle.ijtag_core.specs.declared.refusal.Stage.TheVariants.{File}
+use Rattle.ijtag_stages.specs.DeviceText.{device_text}
+use Rattle.ijtag_stages.specs.Fitted.{models_of}
+use Rattle.ijtag_stages.specs.IclText.{icl_text}
+use Rattle.ijtag_stages.specs.Networks.{NestedNet, network_below}
+use Rattle.ijtag_stages.specs.PdlText.{pdl_text}
+use Rattle.ijtag_stages.specs.Procedure.{procedure}
+use Rattle.ijtag_stages.specs.SvfText.{svf_text}
+use Rattle.ijtag_stages.specs.TablesText.{tables_text}
+use Rattle.ijtag_stages.specs.Unmerged.{unmerged}
+use Rattle.ijtag_stages.specs.declared.refusal.Stage.TheVariants.{File}
 
 -- ---- loads: where the files aren't told, a load may give any text that is short enough, or find any file too long
 
@@ -34,44 +42,87 @@ loaded files (load ∷ loads) = do
   texts ← loaded files loads
   give (text ∷ texts)
 
--- ---- compile: the ICL text, the device, the network, the PDL text, then the first form, then that an iApply
--- follows each command
+-- ---- compile: the ICL text, the device, the network, the PDL text, then the steps of the procedure up to its end
 
-abbrev pub accepted : Compile → List (List ℕ) → Part SeenForm
+-- what is compiled
+pub record SeenCompilable : Type 0 where
+  pub network : NestedNet
+  pub device : Device
+  pub steps : List SeenStep
+
+-- the bit steps of a procedure that comes to its end, where no procedure has an iMerge
+unfoldable pub followed : List AProc → NestedNet → List ℕ → Part (List SeenStep)
+followed procs network name = do
+  steps ← procedure procs network name
+  none ← unmerged procs
+  give steps
+
+unfoldable pub compiled_procedure : Compile → List SeenModule → Device → List ℕ → Part SeenCompilable
+compiled_procedure c modules of pdl = do
+  network ← network_below modules c.top of
+  procs ← pdl_text pdl
+  steps ← followed procs network c.procedure
+  give (record { network = network; device = of; steps = steps })
+
+abbrev pub accepted : Compile → List (List ℕ) → Part SeenCompilable
 accepted c (icl ∷ pdl ∷ device ∷ []) = do
   modules ← icl_text icl
   of ← device_text device
-  compiled_form c modules of icl pdl device
+  compiled_procedure c modules of pdl
 accepted c _ = never
 
--- the SVF file has the text of the procedure
-abbrev pub compiled : Compile → SeenForm → Leaves
-compiled c form = record { files = record { name = c.svf; bytes = written_svf form } ∷ []; printed = []; differs = false }
+-- the one text that is written for the bit steps: their scans, each round's as few as can be
+unfoldable pub written_text : SeenCompilable → Part (List ℕ)
+written_text it = record { gives = λ bytes. DoSteps it.network.net it.network.form it.device it.steps bytes; refuses = λ r. ⊥ }
+
+-- the SVF file has it
+abbrev pub compiled : Compile → List ℕ → Leaves
+compiled c bytes = record { files = record { name = c.svf; bytes = bytes } ∷ []; printed = []; differs = false }
 
 abbrev pub compile : Compile → List (List ℕ) → Part Leaves
 compile c texts = do
-  form ← accepted c texts
-  give (compiled c form)
+  it ← accepted c texts
+  bytes ← written_text it
+  give (compiled c bytes)
 
--- ---- play: the ICL text, the device, the SVF text, the network, then the first form
+-- ---- play: the ICL text, the device, the tables, the SVF text, the network, then whether the tables fit it
 
 -- what is played, and on what
 pub record SeenPlayable : Type 0 where
-  pub design : Design
+  pub net : Net
+  pub device : Device
+  pub models : List SeenModel
   pub commands : List SeenCommand
 
--- what is played, where the design is known
-unfoldable pub played_texts : Play → List SeenModule → List ℕ → List ℕ → List ℕ → List ℕ → Part SeenPlayable
-played_texts p modules svf icl device tables = do
+-- what the texts beside the design say
+pub record SeenFiles : Type 0 where
+  pub device : Device
+  pub tables : List SeenTable
+  pub commands : List SeenCommand
+
+unfoldable pub played_files : List ℕ → List ℕ → List ℕ → Part SeenFiles
+played_files svf device tables = do
   of ← device_text device
+  ts ← tables_text tables
   commands ← svf_text svf
-  design ← played_design p modules of icl device tables
-  give (record { design = design; commands = commands })
+  give (record { device = of; tables = ts; commands = commands })
+
+-- and what they are played on
+unfoldable pub played_network : Play → List SeenModule → SeenFiles → Part SeenPlayable
+played_network p modules read = do
+  network ← network_below modules p.top read.device
+  models ← models_of network.net read.tables
+  give (record { net = network.net; device = read.device; models = models; commands = read.commands })
+
+unfoldable pub played_texts : Play → List SeenModule → List ℕ → List ℕ → List ℕ → Part SeenPlayable
+played_texts p modules svf device tables = do
+  read ← played_files svf device tables
+  played_network p modules read
 
 abbrev pub playable : Play → List (List ℕ) → Part SeenPlayable
 playable p (svf ∷ icl ∷ device ∷ tables ∷ []) = do
   modules ← icl_text icl
-  played_texts p modules svf icl device tables
+  played_texts p modules svf device tables
 playable p _ = never
 
 abbrev pub any_differs : List Compare → Bool
@@ -79,11 +130,11 @@ any_differs [] = false
 any_differs (compare ∷ compares) = true
 
 abbrev pub differs_at : SeenPlayable → List Compare
-differs_at it = differs_of it.design.width (device_of it.design.opcode) it.commands
+differs_at it = differs_of it.net it.device it.models it.commands
 
 -- the report of the play from power-up is printed
 unfoldable pub report_of : SeenPlayable → List ℕ
-report_of it = play_report it.design.width (device_of it.design.opcode) it.commands
+report_of it = play_report it.net it.device it.models it.commands
 
 abbrev pub played : SeenPlayable → Leaves
 played it = record { files = []; printed = report_of it; differs = any_differs (differs_at it) }

@@ -5,10 +5,10 @@ use Rattle.ij_io.specs.Bytes.{Adds, AddsPart}
 use Rattle.ij_io.specs.Causes.{Rose}
 use Rattle.ij_io.specs.Files.{Files, file_at}
 use Rattle.ijtag_core.specs.Command.{Command, Load, loads, names_of, writes, prints, IsOneOf, IsNoneOf}
-use Rattle.ijtag_core.specs.Work.{IsDecided}
+use Rattle.ijtag_stages.specs.Work.{IsDecided}
 use Rattle.ijtag_core.specs.Leaves.{Leaves, Written}
 use Rattle.ijtag_core.specs.Order.{loaded_one, work}
-use Rattle.ijtag_core.specs.Refusals.{Part}
+use Rattle.ijtag_stages.specs.Refusals.{Part}
 use Rattle.ijtag_core.specs.Stops.{Stop, Usage, Refuses, ReadFault, WriteFault, OutputFault, NoMemory, IsUsage}
 use Rattle.ijtag_core.specs.declared.status.Status.{Status}
 use Rattle.ijtag_core.specs.declared.status.Status.TheVariants.{Good, Differs, Usage as UsageStatus, Refused, ReadFault as ReadStatus, WriteFault as WriteStatus, OutOfMemory}

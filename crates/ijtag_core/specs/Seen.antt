@@ -1,10 +1,22 @@
--- Words, refusals, stops and verdicts as contracts see them: with plain lists.
-use Rattle.std.specs.Prelude.{Bool, true, false, map}
+-- Words, stops, verdicts and what is accepted as contracts see them: with plain lists.
+use Rattle.std.specs.Prelude.{◌≡◌, ◌<◌, ◌≤◌, ◌^◌, ℕ, Bool, true, false, List, length, map, None}
+use Rattle.bit_steps.specs.BitSteps.{bit_steps}
+use Rattle.ij_text.specs.Numbering.{AreDistinct}
+use Rattle.instruments.specs.Seen.{seen_model}
+use Rattle.runners.specs.Runners.{AreModels}
+use Rattle.net_graph.specs.Devices.{IsDevice}
+use Rattle.net_graph.specs.Nets.{IsNet}
+use Rattle.pdl_parser.specs.Grammar.{full_names}
+use Rattle.pdl_parser.specs.Views.{seen_procs}
+use Rattle.tap_machine.specs.declared.Stable.TheVariants.{Reset as InReset}
+use Rattle.tap_machine.specs.Play.{pins, scans_in}
+use Rattle.ijtag_stages.specs.Nested.{IsNested}
+use Rattle.ijtag_stages.specs.Seen.{seen_network, seen_refusal}
+use Rattle.ijtag_stages.specs.declared.refusal.StageFault.{StageFault}
+use Rattle.ijtag_stages.specs.declared.refusal.StageFault.TheVariants.{Refused as RefusedStage, OutOfMemory as MemoryStage}
 use Rattle.ijtag_core.specs.Command.{Command, Compile, Play, Compiles, Plays, Load, source, svf_file}
-use Rattle.icl_signals.specs.PlainNets.{seen_net}
-use Rattle.ijtag_core.specs.Networks.{NestedNet}
-use Rattle.ijtag_core.specs.Order.{SeenPlayable}
-use Rattle.ijtag_core.specs.Refusals.{Refusal, Arg, At, Num, Said, Bit}
+use Rattle.table_file.specs.Answers.{seen_tables}
+use Rattle.ijtag_core.specs.Order.{SeenCompilable, SeenFiles, SeenPlayable}
 use Rattle.ijtag_core.specs.Stops.{Stop, Usage, Refuses, ReadFault, WriteFault, OutputFault, NoMemory}
 use Rattle.ijtag_core.specs.declared.words.CompileWords.{CompileWords}
 use Rattle.ijtag_core.specs.declared.words.PlayWords.{PlayWords}
@@ -12,17 +24,13 @@ use Rattle.ijtag_core.specs.declared.words.CommandWords.{CommandWords}
 use Rattle.ijtag_core.specs.declared.words.CommandWords.TheVariants.{Compile as CompileCommand, Play as PlayCommand}
 use Rattle.ijtag_core.specs.declared.load.Load.{Load as LoadWords}
 use Rattle.ijtag_core.specs.declared.load.Load.TheVariants.{Source as SourceLoad, Svf as SvfLoad}
-use Rattle.ijtag_core.specs.declared.refusal.Arg.{Arg as RustArg}
-use Rattle.ijtag_core.specs.declared.refusal.Arg.TheVariants.{At as AtArg, Num as NumArg, Said as SaidArg, Bit as BitArg}
-use Rattle.ijtag_core.specs.declared.refusal.Refusal.{Refusal as RustRefusal}
-use Rattle.ijtag_core.specs.declared.refusal.StageFault.{StageFault}
-use Rattle.ijtag_core.specs.declared.refusal.StageFault.TheVariants.{Refused as RefusedStage, OutOfMemory as MemoryStage}
 use Rattle.ijtag_core.specs.declared.status.Verdict.{Verdict}
 use Rattle.ijtag_core.specs.declared.status.Verdict.TheVariants.{Agrees as Agreeing, Differs as Differing}
 use Rattle.ijtag_core.specs.declared.stop.Stop.{Stop as RustStop}
 use Rattle.ijtag_core.specs.declared.stop.Stop.TheVariants.{Usage as UsageStop, Refused as RefusedStop, ReadFault as ReadStop, WriteFault as WriteStop, OutputFault as OutputStop, OutOfMemory as MemoryStop}
+use Rattle.ijtag_core.specs.declared.commands.compile.Compilable.{Compilable}
+use Rattle.ijtag_core.specs.declared.commands.play.PlayedFiles.{PlayedFiles}
 use Rattle.ijtag_core.specs.declared.commands.play.Playable.{Playable}
-use Rattle.ijtag_core.specs.declared.stages.network.Network.{Network}
 
 abbrev pub seen_compile : CompileWords → Compile
 seen_compile words =
@@ -39,15 +47,6 @@ seen_command (PlayCommand words) = Plays (seen_play words)
 abbrev pub seen_load : LoadWords → Load
 seen_load (SourceLoad name) = source name.now
 seen_load (SvfLoad name) = svf_file name.now
-
-abbrev pub seen_arg : RustArg → Arg
-seen_arg (AtArg place) = At place
-seen_arg (NumArg n) = Num n
-seen_arg (SaidArg text) = Said text.items
-seen_arg (BitArg register index) = Bit register.items index
-
-abbrev pub seen_refusal : RustRefusal → Refusal
-seen_refusal refusal = record { stage = refusal.stage; kind = refusal.kind.now; args = map seen_arg refusal.args.items }
 
 abbrev pub seen_stop : RustStop → Stop
 seen_stop UsageStop = Usage
@@ -67,8 +66,37 @@ abbrev pub differing : Verdict → Bool
 differing Agreeing = false
 differing Differing = true
 
-abbrev pub seen_network : Network → NestedNet
-seen_network network = record { net = seen_net network.net; form = network.form }
+abbrev pub seen_compilable : List ℕ → Compilable → SeenCompilable
+seen_compilable procedure it = record {
+  network = seen_network it.network;
+  device = it.device;
+  steps = (bit_steps (seen_procs it.procs) it.network.net it.network.form procedure).steps;
+}
+
+abbrev pub seen_files : PlayedFiles → SeenFiles
+seen_files read = record { device = read.device; tables = seen_tables read.tables; commands = read.commands }
 
 abbrev pub seen_playable : Playable → SeenPlayable
-seen_playable it = record { design = it.design; commands = it.commands }
+seen_playable it = record { net = it.net; device = it.device; models = map seen_model it.models; commands = it.commands }
+
+-- what is known of what is compiled: a lawful network, a device, and a procedure that comes to its end
+pub record CanCompile (procedure : List ℕ) (it : Compilable) : Type 0 where
+  pub nested : IsNested it.network.net it.network.form
+  pub device : IsDevice it.device
+  pub procs : AreDistinct (full_names (seen_procs it.procs))
+  pub few : length it.procs.procs.items < 2 ^ 32
+  pub ends : (bit_steps (seen_procs it.procs) it.network.net it.network.form procedure).fault ≡ None
+
+-- and of what is played: a well formed network with a model for each instrument, and commands that take few clocks
+pub record CanPlay (it : Playable) : Type 0 where
+  pub well_formed : IsNet it.net
+  pub models : AreModels it.net it.models
+  pub clocks : length (pins InReset 0 it.commands) ≤ 1000000000
+  pub scans : scans_in it.commands ≤ 1000000000
+
+-- the same as one word each
+unfoldable pub IsCompilable : List ℕ → Compilable → Type 0
+IsCompilable procedure it = CanCompile procedure it
+
+unfoldable pub IsPlayable : Playable → Type 0
+IsPlayable it = CanPlay it

@@ -1,7 +1,7 @@
 -- Why a run stops short, the line that it then prints on the error stream, and its status.
 use Rattle.std.specs.Prelude.{ℕ, List, [], ◌∷◌, codes}
 use Rattle.ij_io.specs.Bytes.{concat}
-use Rattle.ijtag_core.specs.Refusals.{Refusal, refusal_text}
+use Rattle.ijtag_stages.specs.Refusals.{Refusal, refusal_text}
 use Rattle.ijtag_core.specs.declared.status.Status.{Status}
 use Rattle.ijtag_core.specs.declared.status.Status.TheVariants.{Usage as UsageStatus, Refused, ReadFault as ReadStatus, WriteFault as WriteStatus, OutOfMemory as MemoryStatus}
 

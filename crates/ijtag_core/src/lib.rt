@@ -1,6 +1,6 @@
 //! The program as a function of its words, over any files and streams: `compile` a procedure to SVF, `play` an SVF file.
 //!
-//! A command is a file of `commands`, a stage of its work a file of `stages`. `specs/Order` has the order of work of each command,
+//! A command is a file of `commands`, a stage of its work a call of `ijtag_stages`. `specs/Order` has the order of work of each command,
 //! and every call below follows it.
 #![tactic(auto)]
 
@@ -8,10 +8,7 @@ mod commands;
 mod decided;
 mod load;
 mod memory;
-mod net_names;
-mod refusal;
 mod run;
-mod stages;
 mod status;
 mod stop;
 mod top;

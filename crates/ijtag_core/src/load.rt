@@ -7,10 +7,10 @@ ghost use Rattle.ijtag_core.specs.Order.{loaded_one, loaded};
 ghost use Rattle.ijtag_core.specs.Runs.{OnlyTheseRise};
 ghost use Rattle.ijtag_core.specs.Seen.{seen_load};
 
-use crate::refusal::{Stage, refused_name};
 use crate::stop::Stop;
 use ij_io::{LoadFault, Shelf};
 use ij_text::{SOURCE_LIMIT, SVF_LIMIT};
+use ijtag_stages::{Stage, refused_name};
 use std::alloc::Global;
 
 /// A file that is loaded, by its name.

@@ -6,7 +6,7 @@ ghost use Rattle.ijtag_core.specs.Command.{command_in, writes_in, prints_in};
 ghost use Rattle.ijtag_core.specs.Headline.{IfCompiles, IsRetargeted};
 ghost use Rattle.ijtag_core.specs.Leaves.{Leaves};
 ghost use Rattle.ijtag_core.specs.Order.{work};
-ghost use Rattle.ijtag_core.specs.Refusals.{Refusal};
+ghost use Rattle.ijtag_stages.specs.Refusals.{Refusal};
 ghost use Rattle.ijtag_core.specs.Runs.{IsDone, OnlyTheseChange, IsOrMemory, IsEarlyStatus, status_if};
 
 use crate::{Status, ijtag};

@@ -8,9 +8,9 @@ ghost use Rattle.ijtag_core.specs.declared.stop.Stop.TheVariants as stops;
 ghost use Rattle.ijtag_core.specs.Stops.{status_of, stop_text, named_line};
 
 use crate::Status;
-use crate::refusal::{Refusal, StageFault, put_refusal};
 use ij_bits::OutOfMemory;
 use ij_io::{Sink, StoreFault, Word, put_words};
+use ijtag_stages::{Refusal, StageFault, put_refusal};
 use std::alloc::AllocFailed;
 
 /// Why a run stops short, with the file's name where it is a file's fault.

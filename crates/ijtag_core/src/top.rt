@@ -7,7 +7,7 @@ ghost use Rattle.ijtag_core.specs.Command.{command_in, loads, loads_in, writes_i
 ghost use Rattle.ijtag_core.specs.Headline.{IfCompiles, IsRetargeted};
 ghost use Rattle.ijtag_core.specs.Leaves.{Leaves};
 ghost use Rattle.ijtag_core.specs.Order.{work};
-ghost use Rattle.ijtag_core.specs.Refusals.{Refusal};
+ghost use Rattle.ijtag_stages.specs.Refusals.{Refusal};
 ghost use Rattle.ijtag_core.specs.Runs.{IsDone, IsPartDone, IsAccepted, IsReadFault, IsRunStop, IfTold, LoadRose, WriteRose, OnlyTheseChange, OnlyTheseRise, Tells, IsOrMemory, IsEarlyStatus, IsPartStatus, IsWriteStop, status_if, counts, seen};
 ghost use Rattle.ijtag_core.specs.Stops.{Stop, Usage, Refuses, ReadFault, stop_text};
 

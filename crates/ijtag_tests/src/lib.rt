@@ -2,8 +2,4 @@
 #![tactic(auto)]
 
 #[cfg(test)]
-mod compiled_procedures;
-#[cfg(test)]
-mod first_forms;
-#[cfg(test)]
 mod program_runs;

@@ -1,5 +1,4 @@
 // Runs of the program over memory and over real files.
-use crate::first_forms::icl_text;
 use ij_io::{HostShelf, HostSink, MemShelf, MemSink, SureShelf, SureSink};
 use ijtag_core::{Status, ijtag, ijtag_in_memory};
 use std::alloc::{AllocError, Global};
@@ -35,6 +34,14 @@ fn compile_words(alloc: Global) -> Result<Vec<String>, AllocError> {
         alloc,
         &["compile", "a.icl", "a.pdl", "a.dev", "chip", "p", "a.svf"],
     )
+}
+
+/// The ICL text of a register of so many bits.
+fn icl_text(alloc: Global, width: u32) -> Result<String, Fail> {
+    let left = width.wrapping_sub(1);
+    Ok(format!(in alloc;
+        "Module Net {{\n  ScanInPort SI; ScanOutPort SO {{ Source R[0]; }}\n  ScanInterface client {{ Port SI; Port SO; }}\n  ScanRegister R[{left}:0] {{ ScanInSource SI; CaptureSource R; ResetValue {width}'b0; }}\n}}\nModule chip {{\n  Instance net Of Net;\n  AccessLink tap Of STD_1149_1_2001 {{\n    BSDLEntity chip; IJTAG {{ ScanInterface {{ net.client; }} }}\n  }}\n}}\n"
+    )?)
 }
 
 /// The files of the flat write with another procedure.
@@ -76,7 +83,7 @@ fn texts_and_statuses_in_memory(rt: HostRuntime) -> Result<(), Fail> {
             b"iProcsForModule chip\niProc q {} {\n}\n",
             Status::Refused,
             None,
-            b"refused core FirstForm\n",
+            b"refused pdl NoProc 0:0 p\n",
         ),
     ] {
         let mut shelf = shelf_with(alloc, pdl)?;
@@ -157,7 +164,7 @@ fn other_names_and_a_long_file_are_refused(rt: HostRuntime) -> Result<(), Fail> 
             "p",
             b"refused elab NoModule chip2\n".as_slice(),
         ),
-        (ICL, "chip", "q", b"refused core FirstForm\n"),
+        (ICL, "chip", "q", b"refused pdl NoProc 0:0 q\n"),
         (long.as_slice(), "chip", "p", b"refused file Long a.icl\n"),
     ] {
         let mut shelf = shelf_with(alloc, PDL)?;
@@ -178,7 +185,7 @@ fn other_names_and_a_long_file_are_refused(rt: HostRuntime) -> Result<(), Fail> 
     Ok(())
 }
 
-// The device text comes behind the ICL text, and in front of the SVF text and the first form.
+// The device text comes behind the ICL text, and in front of the tables and the SVF text.
 #[test]
 fn refused_devices_tell_why(rt: HostRuntime) -> Result<(), Fail> {
     let alloc = rt.alloc();
@@ -211,7 +218,7 @@ fn refused_devices_tell_why(rt: HostRuntime) -> Result<(), Fail> {
     Ok(())
 }
 
-// The network comes behind the hierarchy, and in front of the first form: a link that isn't there, a port that nothing drives.
+// The network comes behind the hierarchy: a link that isn't there, a port that nothing drives.
 #[test]
 fn refused_networks_tell_why(rt: HostRuntime) -> Result<(), Fail> {
     let alloc = rt.alloc();
@@ -254,12 +261,12 @@ fn chip_with(alloc: Global, items: &[u8]) -> Result<Vec<u8>, AllocError> {
     Ok(text)
 }
 
-// The nested form comes behind the network, and in front of the first form: registers and multiplexers by their paths, bits by
+// The nested form comes behind the network: registers and multiplexers by their paths, bits by
 // their indices.
 #[test]
 fn refused_forms_tell_why(rt: HostRuntime) -> Result<(), Fail> {
     let alloc = rt.alloc();
-    let rows: [(&[u8], &[u8]); 9] = [
+    let rows: [(&[u8], &[u8]); 8] = [
         (
             b"ScanOutPort SO { Source R; } ScanRegister R { ScanInSource SI; } ScanRegister U { ScanInSource SI; }",
             b"refused nest Unreached net.U\n",
@@ -292,10 +299,6 @@ fn refused_forms_tell_why(rt: HostRuntime) -> Result<(), Fail> {
             b"ScanOutPort SO { Source S[0]; } ScanMux m SelectedBy S { 2'b01 : SI; 2'b10 : A; } ScanRegister A { ScanInSource SI; } ScanRegister S[1:0] { ScanInSource m; ResetValue 2'b0; }",
             b"refused nest ResetUnlisted net.m\n",
         ),
-        (
-            b"ScanOutPort SO { Source S; } ScanMux m SelectedBy S { 1'b0 : SI; 1'b1 : A; } ScanRegister A { ScanInSource SI; } ScanRegister S { ScanInSource m; ResetValue 1'b0; }",
-            b"refused core FirstForm\n",
-        ),
     ];
     for words in [compile_words(alloc)?, play_words(alloc)?] {
         for (items, said) in rows {
@@ -311,12 +314,12 @@ fn refused_forms_tell_why(rt: HostRuntime) -> Result<(), Fail> {
     Ok(())
 }
 
-// The procedures' text is read behind the network, and in front of the first form. A text that is read stops there, whatever it does.
+// The procedures' text is read behind the network, and then the procedure is followed to its end.
 #[test]
 fn refused_procedures_tell_why(rt: HostRuntime) -> Result<(), Fail> {
     let alloc = rt.alloc();
     let words = compile_words(alloc)?;
-    let rows: [(&[u8], &[u8]); 9] = [
+    let rows: [(&[u8], &[u8]); 19] = [
         (b"iProc p {} {", b"refused pdl PdlSyntax 1:1\n"),
         (b"iPDLLevel 1\n", b"refused pdl NotInLevel0 1:1\n"),
         (
@@ -344,8 +347,48 @@ fn refused_procedures_tell_why(rt: HostRuntime) -> Result<(), Fail> {
             b"refused pdl PdlSyntax 3:10\n",
         ),
         (
+            b"iProcsForModule chip\niProc q {} {\n}\niProc p {} {\n  iCall q 1\n}\n",
+            b"refused pdl ArgCount 5:3\n",
+        ),
+        (
+            b"iProcsForModule chip\niProc p {} {\n  iPrefix zz\n  iCall q\n}\n",
+            b"refused pdl NoName 4:3 zz\n",
+        ),
+        (
+            b"iProcsForModule chip\niProc p {} {\n  iCall q\n}\n",
+            b"refused pdl NoProc 3:3 q\n",
+        ),
+        (
+            b"iProcsForModule chip\niProc p {} {\n  iCall p\n}\n",
+            b"refused pdl CallDepth 3:3\n",
+        ),
+        (
+            b"iProcsForModule chip\niProc p {} {\n  iWrite net.Q 1\n}\n",
+            b"refused pdl NoTarget 3:3\n",
+        ),
+        (
+            b"iProcsForModule chip\niProc p {} {\n  iWrite net.R 16\n}\n",
+            b"refused pdl ValueWide 3:3\n",
+        ),
+        (
+            b"iProcsForModule chip\niProc p {} {\n  iWrite net.R word\n}\n",
+            b"refused pdl NoValue 3:3\n",
+        ),
+        (
+            b"iProcsForModule chip\niProc p {} {\n  iRunLoop 0b1\n}\n",
+            b"refused pdl BadCount 3:3\n",
+        ),
+        (
+            b"iProcsForModule chip\niProc p {} {\n  iRunLoop 1000001\n}\n",
+            b"refused pdl Limit 3:3 RunLoop 1000000\n",
+        ),
+        (
+            b"iProcsForModule chip\niProc p {} {\n  iRead net.R\n}\n",
+            b"refused pdl Unapplied 3:3\n",
+        ),
+        (
             b"iProcsForModule chip\niProc p {} {\n  iMerge -begin\n  iMerge -end\n}\n",
-            b"refused core FirstForm\n",
+            b"refused core Merge\n",
         ),
     ];
     for (pdl, said) in rows {
@@ -488,12 +531,12 @@ fn each_load_of_a_play_fails_once(rt: HostRuntime) -> Result<(), Fail> {
     Ok(())
 }
 
-// ICL comes before SVF, both before the network, and that before the first form.
+// ICL comes before the tables, these before SVF, all before the network, and that before what fits it.
 #[test]
 fn refused_plays_tell_why(rt: HostRuntime) -> Result<(), Fail> {
     let alloc = rt.alloc();
     let words = play_words(alloc)?;
-    let rows: [(&[u8], &[u8], &[u8], &[u8]); 8] = [
+    let rows: [(&[u8], &[u8], &[u8], &[u8]); 9] = [
         (
             b"Module chip { ScanRegister }",
             b"x",
@@ -531,7 +574,18 @@ fn refused_plays_tell_why(rt: HostRuntime) -> Result<(), Fail> {
             TABLES,
             b"refused connect NoLink tap IJTAG\n",
         ),
-        (ICL, SVF, b"tables 1", b"refused core FirstForm\n"),
+        (
+            ICL,
+            b"x",
+            b"tables 3\n",
+            b"refused tables TableSyntax 1:1\n",
+        ),
+        (
+            ICL,
+            SVF,
+            b"tables 1\ninstrument net\nend\n",
+            b"refused fit ExtraTable 2:1\n",
+        ),
     ];
     for (icl, svf, tables, said) in rows {
         let mut shelf = shelf_to_play(alloc, svf, tables)?;
@@ -549,13 +603,13 @@ fn refused_plays_tell_why(rt: HostRuntime) -> Result<(), Fail> {
 #[test]
 fn registers_of_all_widths_are_compiled_and_played(rt: HostRuntime) -> Result<(), Fail> {
     let alloc = rt.alloc();
-    for width in 0..66u32 {
+    for width in [0, 1, 2, 63, 64, 65, 127, 128, 4096, 4097u32] {
         let mut shelf = shelf_to_play(alloc, b"", TABLES)?;
         shelf.put_file("a.icl", icl_text(alloc, width)?.as_bytes())?;
         shelf.put_file("a.pdl", b"iProcsForModule chip\niProc p {} {\n}\n")?;
         let mut out = MemSink::new(alloc);
         let mut err = MemSink::new(alloc);
-        let wanted = if width == 0 || width == 65 {
+        let wanted = if width == 0 || width == 4097 {
             Status::Refused
         } else {
             Status::Good
@@ -632,6 +686,66 @@ fn a_written_file_is_played(rt: HostRuntime) -> Result<(), Fail> {
         assert_eq!(rt; played, status);
         assert_eq!(rt; out.bytes(), report);
         assert_eq!(rt; err.bytes(), b"".as_slice());
+    }
+    Ok(())
+}
+
+/// A chip with a register A behind a multiplexer that S selects, and a register B in front of it.
+fn behind_a_multiplexer(alloc: Global) -> Result<Vec<u8>, AllocError> {
+    chip_with(
+        alloc,
+        b"ScanOutPort SO { Source S; } ScanRegister B[3:0] { ScanInSource SI; CaptureSource B; ResetValue 4'b0; } ScanRegister A[1:0] { ScanInSource B; CaptureSource A; ResetValue 2'b0; } ScanMux m SelectedBy S { 1'b0 : B; 1'b1 : A; } ScanRegister S { ScanInSource m; CaptureSource S; ResetValue 1'b0; }",
+    )
+}
+
+// The multiplexer is opened only where its register is wanted, in a scan that leaves the data bits alone; each iApply is one comment.
+#[test]
+fn procedures_are_compiled_and_played_over_a_multiplexer(rt: HostRuntime) -> Result<(), Fail> {
+    let alloc = rt.alloc();
+    let rows: [(&[u8], &[u8], &[u8]); 4] = [
+        (
+            b"  iWrite net.B 5\n  iApply\n",
+            b"! apply 1\nSDR 5 TDI (0A);\n",
+            b"register net.B 0101\nregister net.A 00\nregister net.S s\nscans 2 clocks 30 differs 0\n",
+        ),
+        (
+            b"  iWrite net.A 3\n  iApply\n",
+            b"! apply 1\nSDR 5 TDI (01);\nSDR 7 TDI (07);\n",
+            b"register net.B 0000\nregister net.A 11\nregister net.S s\nscans 3 clocks 42 differs 0\n",
+        ),
+        (
+            b"  iWrite net.A 3\n  iApply\n  iRunLoop 10\n  iReset\n  iWrite net.B 5\n  iRead net.B 0\n  iApply\n",
+            b"! apply 1\nSDR 5 TDI (01);\nSDR 7 TDI (07);\nRUNTEST 10 TCK;\nSTATE RESET;\nSTATE IDLE;\nSIR 8 TDI (A0);\n! apply 2\nSDR 5 TDI (0A) TDO (00) MASK (1E);\n",
+            b"register net.B 0101\nregister net.A 00\nregister net.S s\nscans 5 clocks 82 differs 0\n",
+        ),
+        (
+            b"  iApply\n",
+            b"",
+            b"register net.B 0000\nregister net.A 00\nregister net.S s\nscans 1 clocks 20 differs 0\n",
+        ),
+    ];
+    for (commands, wanted, report) in rows {
+        let mut shelf = shelf_to_play(alloc, b"", TABLES)?;
+        shelf.put_file("a.icl", &behind_a_multiplexer(alloc)?)?;
+        let mut pdl = Vec::from_slice(alloc, b"iProcsForModule chip\niProc p {} {\n")?;
+        pdl.extend_from_slice(commands)?;
+        pdl.extend_from_slice(b"}\n")?;
+        shelf.put_file("a.pdl", &pdl)?;
+        let mut out = MemSink::new(alloc);
+        let mut err = MemSink::new(alloc);
+        let compiled = ijtag(
+            alloc,
+            &compile_words(alloc)?,
+            &mut shelf,
+            &mut out,
+            &mut err,
+        );
+        assert_eq!(rt; compiled, Status::Good);
+        let svf = shelf.file("a.svf").unwrap_or(b"");
+        assert_eq!(rt; svf.strip_prefix(PREFACE), Some(wanted));
+        let played = ijtag(alloc, &play_words(alloc)?, &mut shelf, &mut out, &mut err);
+        assert_eq!(rt; played, Status::Good);
+        assert_eq!(rt; out.bytes(), report);
     }
     Ok(())
 }

@@ -1,56 +1,170 @@
 // The command `compile`.
-ghost use Rattle.std.specs.Prelude.{◌≡◌, [], ◌∷◌, OnOk, OnErr, IfOk, IfErr};
+ghost use Rattle.std.specs.Prelude.{◌≡◌, ◌<◌, ◌≤◌, ◌^◌, [], ◌∷◌, None, length, OnOk, OnErr, IfOk, IfErr};
+ghost use Rattle.bit_steps.specs.BitSteps.{bit_steps};
+ghost use Rattle.icl_frames.specs.Written.{AreWritten};
+ghost use Rattle.icl_syntax.specs.Views.{seen_design};
 ghost use Rattle.ij_io.specs.Files.{file_at};
-ghost use Rattle.first_form.specs.SeenForms.{seen_form};
-ghost use Rattle.first_form.specs.Texts.{IsForm};
-ghost use Rattle.register_compiler.specs.Meaning.{DoesProcedure};
-ghost use Rattle.register_compiler.specs.Svf.{svf_text};
+ghost use Rattle.ij_text.specs.Numbering.{AreDistinct};
+ghost use Rattle.net_graph.specs.Devices.{IsDevice};
+ghost use Rattle.net_graph.specs.Nets.{IsNet};
+ghost use Rattle.pdl_parser.specs.Grammar.{full_names};
+ghost use Rattle.pdl_parser.specs.Views.{seen_procs};
+ghost use Rattle.ijtag_stages.specs.Follows.{Follows};
+ghost use Rattle.ijtag_stages.specs.Seen.{seen_network};
 ghost use Rattle.ijtag_core.specs.Command.{Compiles, compile_loads, names_of};
-ghost use Rattle.ijtag_core.specs.Follows.{Follows, AreTexts, seen_texts};
+ghost use Rattle.ijtag_core.specs.Follows.{AreTexts, seen_texts};
 ghost use Rattle.ijtag_core.specs.Headline.{IsRetargeted};
-ghost use Rattle.ijtag_core.specs.Order.{accepted, work};
+ghost use Rattle.ijtag_core.specs.Order.{accepted, compiled_procedure, followed, written_text, work};
 ghost use Rattle.ijtag_core.specs.Runs.{IsDone, IsPartDone, IsStop, OnlyTheseChange, OnlyTheseRise, counts, seen};
-ghost use Rattle.ijtag_core.specs.Seen.{seen_compile, seen_stop, differing};
+ghost use Rattle.ijtag_core.specs.Seen.{IsCompilable, seen_compilable, seen_compile, seen_stop, differing};
 ghost use Rattle.ijtag_core.specs.Stops.{IsEarly};
 
 use crate::load::load_all;
-use crate::refusal::StageFault;
-use crate::stages::designs::read_compiled_form;
-use crate::stages::device::read_device;
-use crate::stages::icl::read_icl;
 use crate::status::Verdict;
 use crate::stop::Stop;
 use crate::words::CompileWords;
 use crate::write::write_file;
-use first_form::Form;
+use bit_steps::{BitSteps, bit_steps_are_bound, bit_steps_are_few};
+use group_scans::procedures_are_plannable;
+use icl_syntax::Design;
 use ij_bits::OutOfMemory;
 use ij_io::{Shelf, Sink, StoreFault, SureSink};
-use register_compiler::put_svf;
+use ijtag_stages::{
+    Network, StageFault, check_procedure, check_unmerged, read_device, read_icl, read_network,
+    read_pdl,
+};
+use net_graph::Device;
+use pdl_parser::Procs;
+use retargeter::put_svf;
 use std::alloc::Global;
 
+/// What is compiled.
+#[derive(Drop)]
+pub(crate) struct Compilable {
+    /// The network with its nested form.
+    pub network: Network,
+    /// The chip's device.
+    pub device: Device,
+    /// The procedures of the PDL text.
+    pub procs: Procs,
+}
+
+/// Follows a procedure to its end, in a text without iMerge.
+#[tactic(auto, unfolding(crate::specs::Order::followed))]
+fn follow(alloc: Global, procs: &Procs, network: &Network, name: &str) -> Result<(), StageFault>
+    requires net { IsNet network.now.net }
+    requires distinct { AreDistinct (full_names (seen_procs procs.now)) }
+    requires few { length procs.now.procs.items < 2 ^ 32 }
+    ensures follows { Follows (followed (seen_procs procs.now) (seen_network network.now) name.now) (λ _. (bit_steps (seen_procs procs.now) network.now.net network.now.form name.now).steps) result }
+    ensures ends { OnOk result ((bit_steps (seen_procs procs.now) network.now.net network.now.form name.now).fault ≡ None) }
+{
+    check_procedure(alloc, procs, network, name)?;
+    check_unmerged(alloc, procs)?;
+    Ok(())
+}
+
+/// What is compiled, where the design and the device are known: the network, and procedures of which the one of the words comes to its end.
+#[tactic(auto, unfolding(crate::specs::Order::compiled_procedure, crate::specs::Seen::IsCompilable))]
+fn accept_procedure(
+    alloc: Global,
+    words: &CompileWords<'_>,
+    modules: &Design,
+    device: Device,
+    pdl: &[u8],
+) -> Result<Compilable, StageFault>
+    requires modules { AreWritten (seen_design modules.now) }
+    requires device { IsDevice device }
+    requires pdl { length pdl.now ≤ 134217728 }
+    ensures follows { Follows (compiled_procedure (seen_compile words.now) (seen_design modules.now) device pdl.now) (seen_compilable words.now.procedure.now) result }
+    ensures can { IfOk result (IsCompilable words.now.procedure.now) }
+{
+    let network = read_network(alloc, modules, words.top, &device)?;
+    let procs = read_pdl(alloc, pdl)?;
+    follow(alloc, &procs, &network, words.procedure)?;
+    Ok(Compilable {
+        network,
+        device,
+        procs,
+    })
+}
+
+/// What the three texts of ICL, PDL and device are accepted as.
+fn accept_three(
+    alloc: Global,
+    words: &CompileWords<'_>,
+    icl: &[u8],
+    pdl: &[u8],
+    device: &[u8],
+) -> Result<Compilable, StageFault>
+    requires icl { length icl.now ≤ 134217728 }
+    requires pdl { length pdl.now ≤ 134217728 }
+    requires device { length device.now ≤ 134217728 }
+    ensures follows { Follows (accepted (seen_compile words.now) (icl.now ∷ pdl.now ∷ device.now ∷ [])) (seen_compilable words.now.procedure.now) result }
+    ensures can { IfOk result (IsCompilable words.now.procedure.now) }
+{
+    let modules = read_icl(alloc, icl)?;
+    let of = read_device(alloc, device)?;
+    let it = accept_procedure(alloc, words, &modules, of, pdl)?;
+    Ok(it)
+}
+
 /// What the texts of ICL, PDL and device are accepted as.
-fn accept(alloc: Global, words: &CompileWords<'_>, texts: &[Vec<u8>]) -> Result<Form, StageFault>
+fn accept(
+    alloc: Global,
+    words: &CompileWords<'_>,
+    texts: &[Vec<u8>],
+) -> Result<Compilable, StageFault>
     requires { AreTexts 3 (seen_texts texts.now) }
-    ensures follows { Follows (accepted (seen_compile words.now) (seen_texts texts.now)) seen_form result }
-    ensures form { IfOk result (λ form. IsForm (seen_form form)) }
+    ensures follows { Follows (accepted (seen_compile words.now) (seen_texts texts.now)) (seen_compilable words.now.procedure.now) result }
+    ensures can { IfOk result (IsCompilable words.now.procedure.now) }
 {
     let [icl, pdl, device] = texts else {
         unreachable!()
     };
-    let modules = read_icl(alloc, icl)?;
-    let of = read_device(alloc, device)?;
-    let form = read_compiled_form(alloc, words, &modules, &of, icl, pdl, device)?;
-    Ok(form)
+    accept_three(alloc, words, icl, pdl, device)
+}
+
+/// The bit steps of the procedure once more, one at each call. They were followed to their end before.
+#[tactic(auto, unfolding(crate::specs::Seen::IsCompilable))]
+fn steps_again<'a>(
+    alloc: Global,
+    it: &'a Compilable,
+    procedure: &str,
+) -> Result<BitSteps<'a>, OutOfMemory>
+    requires { IsCompilable procedure.now it.now }
+    ensures { IfOk result (λ steps. steps ≡ bit_steps (seen_procs it.now.procs) it.now.network.net it.now.network.form procedure.now) }
+{
+    match BitSteps::new(
+        alloc,
+        it.procs.procs.as_slice(),
+        &it.network.net,
+        &it.network.form,
+        procedure.as_bytes(),
+    ) {
+        Ok(steps) => Ok(steps),
+        Err(_) => Err(OutOfMemory),
+    }
 }
 
 /// The SVF text of a procedure, whole.
-fn make_svf(alloc: Global, form: &Form) -> Result<SureSink, OutOfMemory>
-    requires { IsForm (seen_form form.now) }
-    ensures text { IfOk result (λ svf. svf ≡ svf_text (seen_form form.now)) }
-    ensures right { DoesProcedure (seen_form form.now) (svf_text (seen_form form.now)) }
+#[tactic(auto, unfolding(crate::specs::Order::written_text, crate::specs::Seen::IsCompilable))]
+fn make_svf(alloc: Global, it: &Compilable, procedure: &str) -> Result<SureSink, OutOfMemory>
+    requires { IsCompilable procedure.now it.now }
+    ensures { IfOk result (λ svf. (written_text (seen_compilable procedure.now it.now)).gives svf) }
 {
+    bit_steps_are_bound();
+    bit_steps_are_few();
+    procedures_are_plannable();
     let mut svf = SureSink::new(alloc);
-    match put_svf(alloc, form, &mut svf) {
+    let mut steps = steps_again(alloc, it, procedure)?;
+    match put_svf(
+        alloc,
+        &it.network.net,
+        &it.network.form,
+        &it.device,
+        &mut steps,
+        &mut svf,
+    ) {
         Ok(()) => Ok(svf),
         Err(_) => Err(OutOfMemory),
     }
@@ -77,8 +191,8 @@ pub(crate) fn compile<'a, S: Shelf, O: Sink>(
     ensures stores { OnlyTheseRise (words.now.svf.now ∷ []) (S.store_faults shelf.old) (S.store_faults shelf.new) }
 {
     let texts = load_all(alloc, &words.loads(), shelf)?;
-    let form = accept(alloc, words, &texts)?;
-    let svf = make_svf(alloc, &form)?;
+    let it = accept(alloc, words, &texts)?;
+    let svf = make_svf(alloc, &it, words.procedure)?;
     match write_file(words.svf, svf.bytes(), shelf) {
         Ok(()) => Ok(Verdict::Agrees),
         Err(StoreFault::Failed) => Err(Stop::WriteFault(words.svf)),

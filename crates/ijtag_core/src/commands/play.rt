@@ -1,42 +1,110 @@
 // The command `play`.
-ghost use Rattle.std.specs.Prelude.{◌≡◌, ◌≤◌, length, OnOk, OnErr, IfOk, IfErr};
-ghost use Rattle.ij_io.specs.Bytes.{Adds, AddsPart};
-ghost use Rattle.ij_io.specs.Causes.{HasCause, SameCounts};
-ghost use Rattle.tap_machine.specs.declared.Stable.TheVariants.{Reset as InReset};
-ghost use Rattle.tap_machine.specs.Play.{pins, scans_in};
-ghost use Rattle.ijtag_core.specs.Command.{Plays, play_loads, names_of};
-ghost use Rattle.ijtag_core.specs.Follows.{Follows, AreTexts, seen_texts};
+ghost use Rattle.std.specs.Prelude.{◌≡◌, ◌≤◌, [], ◌∷◌, All, length, OnOk, OnErr, IfOk, IfErr};
 ghost use Rattle.icl_frames.specs.Written.{AreWritten};
 ghost use Rattle.icl_syntax.specs.Views.{seen_design};
-ghost use Rattle.ijtag_core.specs.Order.{playable, played_texts, work, report_of, any_differs, differs_at};
+ghost use Rattle.ij_io.specs.Bytes.{Adds, AddsPart};
+ghost use Rattle.ij_io.specs.Causes.{HasCause, SameCounts};
+ghost use Rattle.instruments.specs.Models.{IsModel};
+ghost use Rattle.instruments.specs.Seen.{seen_model};
+ghost use Rattle.tap_machine.specs.declared.Stable.TheVariants.{Reset as InReset};
+ghost use Rattle.tap_machine.specs.Play.{pins, scans_in};
+ghost use Rattle.ijtag_stages.specs.Follows.{Follows};
+ghost use Rattle.ijtag_core.specs.Command.{Plays, play_loads, names_of};
+ghost use Rattle.ijtag_core.specs.Follows.{AreTexts, seen_texts};
+ghost use Rattle.ijtag_core.specs.Order.{playable, played_files, played_network, played_texts, work, report_of, any_differs, differs_at};
 ghost use Rattle.ijtag_core.specs.Runs.{IsDone, IsPartDone, IsStop, OnlyTheseRise, counts, seen};
-ghost use Rattle.ijtag_core.specs.Seen.{seen_play, seen_stop, seen_playable, differing};
+ghost use Rattle.ijtag_core.specs.Seen.{IsPlayable, seen_files, seen_play, seen_stop, seen_playable, differing};
 ghost use Rattle.ijtag_core.specs.Stops.{IsEarly};
 
 use crate::load::load_all;
-use crate::refusal::StageFault;
-use crate::stages::designs::read_played_design;
-use crate::stages::device::read_device;
-use crate::stages::icl::read_icl;
-use crate::stages::svf::read_svf;
 use crate::status::Verdict;
 use crate::stop::Stop;
 use crate::words::PlayWords;
-use first_form::Design;
-use icl_syntax::Design as Modules;
+use bench_file::{Fitted, Table};
+use bench_report::put_play;
+use icl_syntax::Design;
+use ij_bits::List;
 use ij_io::{Shelf, Sink, StoreFault};
-use play_report::{names_are_not_played, put_play};
-use register_compiler::make_device;
+use ijtag_stages::{
+    StageFault, fit_tables, read_device, read_icl, read_network, read_svf, read_tables,
+};
+use net_graph::{Device, Net};
 use std::alloc::Global;
 use svf_writer::Commands;
 
 /// What is played, and on what.
 #[derive(Drop)]
 pub(crate) struct Playable {
-    /// The chip with its one scan register.
-    pub design: Design,
+    /// The network.
+    pub net: Net,
+    /// The chip's device.
+    pub device: Device,
+    /// The models of the network's instruments, in its order.
+    pub models: Fitted,
     /// The commands of the SVF text.
     pub commands: Commands,
+}
+
+/// What the texts beside the design say.
+#[derive(Drop)]
+pub(crate) struct PlayedFiles {
+    /// The chip's device.
+    pub device: Device,
+    /// What the instruments do.
+    pub tables: List<Table>,
+    /// The commands of the SVF text.
+    pub commands: Commands,
+}
+
+/// What the texts beside the design say.
+#[tactic(auto, unfolding(crate::specs::Order::played_files))]
+fn read_files(
+    alloc: Global,
+    svf: &[u8],
+    device: &[u8],
+    tables: &[u8],
+) -> Result<PlayedFiles, StageFault>
+    requires svf { length svf.now ≤ 134217728 }
+    requires device { length device.now ≤ 134217728 }
+    requires tables { length tables.now ≤ 134217728 }
+    ensures follows { Follows (played_files svf.now device.now tables.now) seen_files result }
+    ensures models { IfOk result (λ read. All (λ t. IsModel (seen_model t.model)) read.tables.items) }
+    ensures clocks { IfOk result (λ read. length (pins InReset 0 read.commands) ≤ 1000000000) }
+    ensures scans { IfOk result (λ read. scans_in read.commands ≤ 1000000000) }
+{
+    let device = read_device(alloc, device)?;
+    let tables = read_tables(alloc, tables)?;
+    let commands = read_svf(alloc, svf)?;
+    Ok(PlayedFiles {
+        device,
+        tables,
+        commands,
+    })
+}
+
+/// What is played, and on what, where the design and the texts beside it are known.
+#[tactic(auto, unfolding(crate::specs::Order::played_network, crate::specs::Seen::IsPlayable))]
+fn accept_network(
+    alloc: Global,
+    words: &PlayWords<'_>,
+    modules: &Design,
+    read: PlayedFiles,
+) -> Result<Playable, StageFault>
+    requires modules { AreWritten (seen_design modules.now) }
+    requires models { All (λ t. IsModel (seen_model t.model)) read.tables.items }
+    requires clocks { length (pins InReset 0 read.commands) ≤ 1000000000 }
+    requires scans { scans_in read.commands ≤ 1000000000 }
+    ensures follows { Follows (played_network (seen_play words.now) (seen_design modules.now) (seen_files read)) seen_playable result }
+    ensures can { IfOk result IsPlayable }
+{
+    let network = read_network(alloc, modules, words.top, &read.device)?;
+    let models = fit_tables(alloc, &network.net, &read.tables)?;
+    Ok(Playable {
+        net: network.net,
+        device: read.device,
+        models,
+        commands: read.commands,
+    })
 }
 
 /// What is played, and on what, where the design is known.
@@ -44,53 +112,73 @@ pub(crate) struct Playable {
 fn accept_texts(
     alloc: Global,
     words: &PlayWords<'_>,
-    modules: &Modules,
+    modules: &Design,
+    svf: &[u8],
+    device: &[u8],
+    tables: &[u8],
+) -> Result<Playable, StageFault>
+    requires svf { length svf.now ≤ 134217728 }
+    requires device { length device.now ≤ 134217728 }
+    requires tables { length tables.now ≤ 134217728 }
+    requires modules { AreWritten (seen_design modules.now) }
+    ensures follows { Follows (played_texts (seen_play words.now) (seen_design modules.now) svf.now device.now tables.now) seen_playable result }
+    ensures can { IfOk result IsPlayable }
+{
+    let read = read_files(alloc, svf, device, tables)?;
+    let it = accept_network(alloc, words, modules, read)?;
+    Ok(it)
+}
+
+/// What the four texts of SVF, ICL, device and tables are accepted as.
+fn accept_four(
+    alloc: Global,
+    words: &PlayWords<'_>,
     svf: &[u8],
     icl: &[u8],
     device: &[u8],
     tables: &[u8],
 ) -> Result<Playable, StageFault>
     requires svf { length svf.now ≤ 134217728 }
+    requires icl { length icl.now ≤ 134217728 }
     requires device { length device.now ≤ 134217728 }
-    requires modules { AreWritten (seen_design modules.now) }
-    ensures follows { Follows (played_texts (seen_play words.now) (seen_design modules.now) svf.now icl.now device.now tables.now) seen_playable result }
-    ensures clocks { IfOk result (λ it. length (pins InReset 0 it.commands) ≤ 1000000000) }
-    ensures scans { IfOk result (λ it. scans_in it.commands ≤ 1000000000) }
+    requires tables { length tables.now ≤ 134217728 }
+    ensures follows { Follows (playable (seen_play words.now) (svf.now ∷ icl.now ∷ device.now ∷ tables.now ∷ [])) seen_playable result }
+    ensures can { IfOk result IsPlayable }
 {
-    let of = read_device(alloc, device)?;
-    let commands = read_svf(alloc, svf)?;
-    let design = read_played_design(alloc, words, modules, &of, icl, device, tables)?;
-    Ok(Playable { design, commands })
+    let modules = read_icl(alloc, icl)?;
+    let it = accept_texts(alloc, words, &modules, svf, device, tables)?;
+    Ok(it)
 }
 
 /// What the texts of SVF, ICL, device and tables are accepted as.
 fn accept(alloc: Global, words: &PlayWords<'_>, texts: &[Vec<u8>]) -> Result<Playable, StageFault>
     requires { AreTexts 4 (seen_texts texts.now) }
     ensures follows { Follows (playable (seen_play words.now) (seen_texts texts.now)) seen_playable result }
-    ensures clocks { IfOk result (λ it. length (pins InReset 0 it.commands) ≤ 1000000000) }
-    ensures scans { IfOk result (λ it. scans_in it.commands ≤ 1000000000) }
+    ensures can { IfOk result IsPlayable }
 {
     let [svf, icl, device, tables] = texts else {
         unreachable!()
     };
-    let modules = read_icl(alloc, icl)?;
-    let it = accept_texts(alloc, words, &modules, svf, icl, device, tables)?;
-    Ok(it)
+    accept_four(alloc, words, svf, icl, device, tables)
 }
 
-/// Plays commands on the bench of a design and writes the report. A refusal leaves a first part of the report.
-#[tactic(auto, unfolding(crate::specs::Order::report_of))]
+/// Plays commands on the bench of a network and writes the report. A refusal leaves a first part of the report.
+#[tactic(auto, unfolding(crate::specs::Order::report_of, crate::specs::Seen::IsPlayable))]
 fn put_lines<O: Sink>(alloc: Global, it: &Playable, out: &mut O) -> Result<Verdict, StoreFault>
-    requires clocks { length (pins InReset 0 it.now.commands) ≤ 1000000000 }
-    requires scans { scans_in it.now.commands ≤ 1000000000 }
+    requires { IsPlayable it.now }
     ensures printed { OnOk result (Adds (O.taken out.old) (O.taken out.new) (report_of (seen_playable it.now))) }
     ensures verdict { IfOk result (λ verdict. differing verdict ≡ any_differs (differs_at (seen_playable it.now))) }
     ensures part { OnErr result (AddsPart (O.taken out.old) (O.taken out.new) (report_of (seen_playable it.now))) }
     ensures cause { HasCause (O.faults out.old) (O.faults out.new) result StoreFault.Failed }
 {
-    names_are_not_played();
-    let device = make_device(alloc, it.design.opcode)?;
-    let differs = put_play(alloc, it.design.width, &device, &it.commands, out)?;
+    let differs = put_play(
+        alloc,
+        &it.net,
+        &it.device,
+        it.models.models(),
+        &it.commands,
+        out,
+    )?;
     if differs == 0 {
         Ok(Verdict::Agrees)
     } else {
@@ -101,8 +189,7 @@ fn put_lines<O: Sink>(alloc: Global, it: &Playable, out: &mut O) -> Result<Verdi
 /// Plays commands on the bench of a design and prints the report, so that none of it is kept back. A refusal leaves a first part of
 /// the report.
 fn put_report<O: Sink>(alloc: Global, it: &Playable, out: &mut O) -> Result<Verdict, StoreFault>
-    requires clocks { length (pins InReset 0 it.now.commands) ≤ 1000000000 }
-    requires scans { scans_in it.now.commands ≤ 1000000000 }
+    requires { IsPlayable it.now }
     ensures printed { OnOk result (Adds (O.taken out.old) (O.taken out.new) (report_of (seen_playable it.now))) }
     ensures verdict { IfOk result (λ verdict. differing verdict ≡ any_differs (differs_at (seen_playable it.now))) }
     ensures part { OnErr result (AddsPart (O.taken out.old) (O.taken out.new) (report_of (seen_playable it.now))) }

@@ -2,7 +2,4 @@ use Rattle.ijtag_core.proofs.Deciding.{work_decided}
 use Rattle.ijtag_core.proofs.decided.works_are_decided.Goals as goal
 
 pub returns : goal.returns
-returns c =
-    let forms = c.one_form_law.ensures in
-    work_decided forms.one_form forms.one_cause forms.lawful_has_none c.procedures_are_one.ensures c.refusals_are_one-2.ensures.none c.refusals_are_one-2.ensures.one c.cuttings_are_one.ensures
-    c.texts_are_cut_or_at_fault.ensures.not_both c.texts_are_cut_or_at_fault.ensures.one c.designs_are_one.ensures c.refusals_are_one.ensures.none c.refusals_are_one.ensures.one
+returns c = work_decided c.stages_are_decided.ensures c.planned_steps_law.ensures.texts

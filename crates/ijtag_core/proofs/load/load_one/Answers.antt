@@ -2,11 +2,11 @@ use Rattle.std.specs.Prelude.{IfSome, Some, codes, length}
 use Rattle.std.proofs.Common.{◌≡◌, ◌<◌, ◌≤◌, ◌∙◌, refl, rules, subst, ℕ, List, [], ◌∷◌, Option}
 use Rattle.ij_io.specs.Files.{Files, bytes_of}
 use Rattle.ijtag_core.specs.Command.{Load}
-use Rattle.ijtag_core.specs.Follows.{IsToldAs}
+use Rattle.ijtag_stages.specs.Follows.{IsToldAs}
 use Rattle.ijtag_core.specs.Order.{loaded_one}
-use Rattle.ijtag_core.specs.Refusals.{refused_name}
+use Rattle.ijtag_stages.specs.Refusals.{refused_name}
 use Rattle.ijtag_core.specs.Seen.{seen_load}
-use Rattle.ijtag_core.specs.declared.refusal.Stage.TheVariants.{File}
+use Rattle.ijtag_stages.specs.declared.refusal.Stage.TheVariants.{File}
 use Rattle.ijtag_core.proofs.Loading.{told_stop}
 use Rattle.ijtag_core.proofs.load.load_one.Goals as goal
 

@@ -1,15 +1,12 @@
-use Rattle.std.proofs.Common.{◌≡◌, ◌∙◌, rules, subst, ℕ, List, Option}
+use Rattle.std.proofs.Common.{◌≡◌, rules, sym, subst, ℕ, List, Option}
 use Rattle.ij_io.specs.Causes.{Rose}
 use Rattle.ij_io.specs.Files.{Files}
-use Rattle.first_form.specs.Texts.{SeenForm}
-use Rattle.first_form.specs.SeenForms.{seen_form}
-use Rattle.register_compiler.specs.Svf.{svf_text}
 use Rattle.ijtag_core.specs.Command.{Compile, Load, compile_loads}
 use Rattle.ijtag_core.specs.Follows.{seen_texts}
-use Rattle.ijtag_core.specs.Order.{loaded, accepted}
+use Rattle.ijtag_core.specs.Order.{SeenCompilable, loaded, accepted, written_text}
 use Rattle.ijtag_core.specs.Runs.{counts}
-use Rattle.ijtag_core.specs.Seen.{seen_compile}
-use Rattle.ijtag_core.proofs.Ends.{compile_done, compile_part, compile_fault, written_now, part_now}
+use Rattle.ijtag_core.specs.Seen.{seen_compile, seen_compilable}
+use Rattle.ijtag_core.proofs.Ends.{IsMade, compile_done, compile_part, compile_fault, retargeted, written_now, part_now}
 use Rattle.ijtag_core.proofs.commands.compile.compile.Goals as goal
 
 pub returns-in-Ok-clause-done : goal.returns-in-Ok-clause-done
@@ -19,12 +16,30 @@ returns-in-Ok-clause-done g c =
     let new : Option Files = g.S.Shelf.files c.write_file.new.shelf in
     let words : Compile = seen_compile c.args.words.now in
     let texts : List (List ℕ) = seen_texts c.in_ok-texts.texts.items in
-    let form : SeenForm = seen_form c.in_ok-form.form in
+    let it : SeenCompilable = seen_compilable words.procedure c.in_ok-it.it in
+    let bytes : List ℕ = c.bytes.result.now in
     let read : (loaded files (compile_loads words)).gives texts = subst (λ (ls : List Load). (loaded files ls).gives texts) c.loads.ensures c.in_ok-texts.ensures.follows in
-    let is : (accepted words texts).gives form = subst (λ ts. (accepted words (seen_texts ts)).gives form) c.deref.ensures.value c.in_ok-form.ensures.follows in
+    let is : (accepted words texts).gives it = subst (λ ts. (accepted words (seen_texts ts)).gives it) c.deref.ensures.value c.in_ok-it.ensures.follows in
+    let written : (written_text it).gives bytes = subst (λ (b : List ℕ). (written_text it).gives b) (sym c.bytes.ensures) c.in_ok-svf.ensures in
+    let m : IsMade files words bytes = record { texts = texts; it = it; read = read; accepted_so = is; written = written } in
     let same : mid ≡ files = c.in_ok-texts.ensures.files in
-    let bytes : c.bytes.result.now ≡ svf_text form = c.bytes.ensures ∙ c.in_ok-svf.ensures.text in
-    compile_done files new (g.O.Sink.taken c.args._out.now) words texts form read is (written_now files mid new words.svf c.bytes.result.now (svf_text form) same bytes c.in-Ok.ensures.whole)
+    compile_done files new (g.O.Sink.taken c.args._out.now) words bytes m (written_now files mid new words.svf bytes same c.in-Ok.ensures.whole)
+
+pub returns-in-Ok-clause-headline : goal.returns-in-Ok-clause-headline
+returns-in-Ok-clause-headline g c =
+    let files : Option Files = g.S.Shelf.files c.args.shelf.now in
+    let mid : Option Files = g.S.Shelf.files c.load_all.new.shelf in
+    let new : Option Files = g.S.Shelf.files c.write_file.new.shelf in
+    let words : Compile = seen_compile c.args.words.now in
+    let texts : List (List ℕ) = seen_texts c.in_ok-texts.texts.items in
+    let it : SeenCompilable = seen_compilable words.procedure c.in_ok-it.it in
+    let bytes : List ℕ = c.bytes.result.now in
+    let read : (loaded files (compile_loads words)).gives texts = subst (λ (ls : List Load). (loaded files ls).gives texts) c.loads.ensures c.in_ok-texts.ensures.follows in
+    let is : (accepted words texts).gives it = subst (λ ts. (accepted words (seen_texts ts)).gives it) c.deref.ensures.value c.in_ok-it.ensures.follows in
+    let written : (written_text it).gives bytes = subst (λ (b : List ℕ). (written_text it).gives b) (sym c.bytes.ensures) c.in_ok-svf.ensures in
+    let m : IsMade files words bytes = record { texts = texts; it = it; read = read; accepted_so = is; written = written } in
+    let same : mid ≡ files = c.in_ok-texts.ensures.files in
+    retargeted files words bytes _ m (written_now files mid new words.svf bytes same c.in-Ok.ensures.whole)
 
 pub returns-in-Err-Failed-clause-stop : goal.returns-in-Err-Failed-clause-stop
 returns-in-Err-Failed-clause-stop g c =
@@ -33,15 +48,17 @@ returns-in-Err-Failed-clause-stop g c =
     let new : Option Files = g.S.Shelf.files c.write_file.new.shelf in
     let words : Compile = seen_compile c.args.words.now in
     let texts : List (List ℕ) = seen_texts c.in_ok-texts.texts.items in
-    let form : SeenForm = seen_form c.in_ok-form.form in
+    let it : SeenCompilable = seen_compilable words.procedure c.in_ok-it.it in
+    let bytes : List ℕ = c.bytes.result.now in
     let read : (loaded files (compile_loads words)).gives texts = subst (λ (ls : List Load). (loaded files ls).gives texts) c.loads.ensures c.in_ok-texts.ensures.follows in
-    let is : (accepted words texts).gives form = subst (λ ts. (accepted words (seen_texts ts)).gives form) c.deref.ensures.value c.in_ok-form.ensures.follows in
+    let is : (accepted words texts).gives it = subst (λ ts. (accepted words (seen_texts ts)).gives it) c.deref.ensures.value c.in_ok-it.ensures.follows in
+    let written : (written_text it).gives bytes = subst (λ (b : List ℕ). (written_text it).gives b) (sym c.bytes.ensures) c.in_ok-svf.ensures in
+    let m : IsMade files words bytes = record { texts = texts; it = it; read = read; accepted_so = is; written = written } in
     let same : mid ≡ files = c.in_ok-texts.ensures.files in
-    let bytes : c.bytes.result.now ≡ svf_text form = c.bytes.ensures ∙ c.in_ok-svf.ensures.text in
     let name : List ℕ = words.svf in
     let now : ℕ = g.S.Shelf.store_faults c.write_file.new.shelf name in
     let rose : Rose (g.S.Shelf.store_faults c.load_all.new.shelf name) now = c.write_file.ensures.cause.failed (search rules) in
-    compile_fault files words (counts g.S.Shelf.load_faults g.S.Shelf.store_faults g.O.Sink.faults c.args.shelf.now c.write_file.new.shelf c.args._out.now c.args._out.now) texts form read is
+    compile_fault files words (counts g.S.Shelf.load_faults g.S.Shelf.store_faults g.O.Sink.faults c.args.shelf.now c.write_file.new.shelf c.args._out.now c.args._out.now) bytes m
     (subst (λ (before : ℕ). Rose before now) (c.in_ok-texts.ensures.stores name) rose)
 
 pub returns-in-Err-Failed-clause-part : goal.returns-in-Err-Failed-clause-part
@@ -51,12 +68,14 @@ returns-in-Err-Failed-clause-part g c =
     let new : Option Files = g.S.Shelf.files c.write_file.new.shelf in
     let words : Compile = seen_compile c.args.words.now in
     let texts : List (List ℕ) = seen_texts c.in_ok-texts.texts.items in
-    let form : SeenForm = seen_form c.in_ok-form.form in
+    let it : SeenCompilable = seen_compilable words.procedure c.in_ok-it.it in
+    let bytes : List ℕ = c.bytes.result.now in
     let read : (loaded files (compile_loads words)).gives texts = subst (λ (ls : List Load). (loaded files ls).gives texts) c.loads.ensures c.in_ok-texts.ensures.follows in
-    let is : (accepted words texts).gives form = subst (λ ts. (accepted words (seen_texts ts)).gives form) c.deref.ensures.value c.in_ok-form.ensures.follows in
+    let is : (accepted words texts).gives it = subst (λ ts. (accepted words (seen_texts ts)).gives it) c.deref.ensures.value c.in_ok-it.ensures.follows in
+    let written : (written_text it).gives bytes = subst (λ (b : List ℕ). (written_text it).gives b) (sym c.bytes.ensures) c.in_ok-svf.ensures in
+    let m : IsMade files words bytes = record { texts = texts; it = it; read = read; accepted_so = is; written = written } in
     let same : mid ≡ files = c.in_ok-texts.ensures.files in
-    let bytes : c.bytes.result.now ≡ svf_text form = c.bytes.ensures ∙ c.in_ok-svf.ensures.text in
-    compile_part files new (g.O.Sink.taken c.args._out.now) words texts form read is (part_now files mid new words.svf c.bytes.result.now (svf_text form) same bytes c.in-Err-Failed.ensures.part)
+    compile_part files new (g.O.Sink.taken c.args._out.now) words bytes m (part_now files mid new words.svf bytes same c.in-Err-Failed.ensures.part)
 
 pub returns-clause-part : goal.returns-clause-part
 returns-clause-part g c =
@@ -65,9 +84,11 @@ returns-clause-part g c =
     let new : Option Files = g.S.Shelf.files c.write_file.new.shelf in
     let words : Compile = seen_compile c.args.words.now in
     let texts : List (List ℕ) = seen_texts c.in_ok-texts.texts.items in
-    let form : SeenForm = seen_form c.in_ok-form.form in
+    let it : SeenCompilable = seen_compilable words.procedure c.in_ok-it.it in
+    let bytes : List ℕ = c.bytes.result.now in
     let read : (loaded files (compile_loads words)).gives texts = subst (λ (ls : List Load). (loaded files ls).gives texts) c.loads.ensures c.in_ok-texts.ensures.follows in
-    let is : (accepted words texts).gives form = subst (λ ts. (accepted words (seen_texts ts)).gives form) c.deref.ensures.value c.in_ok-form.ensures.follows in
+    let is : (accepted words texts).gives it = subst (λ ts. (accepted words (seen_texts ts)).gives it) c.deref.ensures.value c.in_ok-it.ensures.follows in
+    let written : (written_text it).gives bytes = subst (λ (b : List ℕ). (written_text it).gives b) (sym c.bytes.ensures) c.in_ok-svf.ensures in
+    let m : IsMade files words bytes = record { texts = texts; it = it; read = read; accepted_so = is; written = written } in
     let same : mid ≡ files = c.in_ok-texts.ensures.files in
-    let bytes : c.bytes.result.now ≡ svf_text form = c.bytes.ensures ∙ c.in_ok-svf.ensures.text in
-    compile_part files new (g.O.Sink.taken c.args._out.now) words texts form read is (part_now files mid new words.svf c.bytes.result.now (svf_text form) same bytes c.in-Err-OutOfMemory.ensures.part)
+    compile_part files new (g.O.Sink.taken c.args._out.now) words bytes m (part_now files mid new words.svf bytes same c.in-Err-OutOfMemory.ensures.part)

@@ -1,0 +1,30 @@
+-- The SVF text that is made of an accepted procedure.
+use Rattle.std.proofs.Common.{◌≡◌, sym, subst, ℕ, List, [], Option, Some}
+use Rattle.std.specs.Prelude.{All}
+use Rattle.ij_io.specs.Bytes.{Adds}
+use Rattle.net_graph.specs.declared.device.Device.{Device}
+use Rattle.net_graph.specs.declared.net.Net.{Net}
+use Rattle.net_graph.specs.Nets.{IsNet}
+use Rattle.net_graph.specs.SeenSteps.{SeenStep}
+use Rattle.net_tree.specs.Form.{Items, Describes}
+use Rattle.pdl_expand.specs.Expansion.{expansion}
+use Rattle.pdl_expand.specs.Values.{cells_of}
+use Rattle.pdl_parser.specs.Values.{AProc}
+use Rattle.group_scans.specs.Retargeting.{IsRetargeted}
+use Rattle.group_scans.specs.Rounds.{StepIsPlannable, ProceduresArePlannable}
+use Rattle.bit_steps.specs.BitSteps.{bit_steps}
+use Rattle.bit_steps.specs.Laws.{StepsAreBound}
+use Rattle.retargeter.specs.Scripts.{HasScript, WritesScript, ScriptIsRight}
+
+-- each bit step of a procedure can be planned
+pub plannable : StepsAreBound → ProceduresArePlannable → (procs : List AProc) (net : Net) (form : Items) (name : List ℕ) → IsNet net → Describes net form → All (StepIsPlannable net form) (bit_steps procs net form name).steps
+plannable bound plan procs net form name is d =
+    subst (λ (steps : List SeenStep). All (StepIsPlannable net form) steps) (sym (bound procs net form name)) (plan net form (expansion procs (cells_of net) name).steps is d)
+
+some_same : (a b : List ℕ) → Some a ≡ Some b → a ≡ b
+some_same a b e = cc
+
+-- a sink that was empty holds exactly the text, which is right
+pub made : (net : Net) (form : Items) (device : Device) (steps : List SeenStep) (svf : List ℕ) → HasScript net form device steps → WritesScript net form device steps (Some []) (Some svf) → ScriptIsRight net form device steps → IsRetargeted net form device steps svf
+made net form device steps svf (bytes, is) writes right =
+    subst (λ (b : List ℕ). IsRetargeted net form device steps b) (sym (some_same svf bytes (writes bytes is).added)) (right bytes is)

@@ -1,0 +1,16 @@
+use Rattle.std.proofs.Common.{List, sym, subst}
+use Rattle.std.specs.Prelude.{All}
+use Rattle.bit_steps.specs.BitSteps.{BitStepsOf}
+use Rattle.group_scans.specs.Rounds.{StepIsPlannable}
+use Rattle.pdl_parser.specs.Views.{seen_procs}
+use Rattle.ijtag_core.specs.Seen.{IsCompilable}
+use Rattle.ijtag_core.proofs.Made.{plannable}
+use Rattle.ijtag_core.proofs.commands.compile.make_svf.Goals as goal
+
+pub put_svf-requires-clause-plannable : goal.put_svf-requires-clause-plannable
+unfolding IsCompilable
+put_svf-requires-clause-plannable c =
+    let it = c.args.it.now in
+    let net = it.network.net in
+    subst (λ (b : BitStepsOf). All (StepIsPlannable net it.network.form) b.steps) (sym c.in_ok-steps.ensures)
+    (plannable c.bit_steps_are_bound.ensures c.procedures_are_plannable.ensures.steps (seen_procs it.procs) net it.network.form c.args.procedure.now c.requires.nested.well_formed c.requires.nested.describes)

@@ -1,0 +1,9 @@
+pub mod Printed
+pub mod Faults
+pub mod Few
+pub mod Parts
+pub mod Playable
+pub mod Turns
+pub mod Trimming
+pub mod Steps
+pub mod Deciding

@@ -1,0 +1,28 @@
+-- Work in turn comes to one end at most where each of its parts does.
+use Rattle.std.proofs.Common.{◌≡◌, ◌∙◌, sym, subst, inl, inr}
+use Rattle.ijtag_stages.specs.Work.{Work, give, never, ◌>>=◌, RefusesInTurn, IsDecided}
+
+pub give_decided : {R A : Type 0} (x : A) → IsDecided {R = R} {A = A} (give x)
+give_decided x = record { one = λ a b p q. p ∙ sym q; apart = λ a r p q. q; alike = λ r s p q. absurd p }
+
+pub never_decided : {R A : Type 0} → IsDecided {R = R} {A = A} never
+never_decided = record { one = λ a b p q. absurd p; apart = λ a r p q. q; alike = λ r s p q. absurd p }
+
+-- two refusals of work in turn: of the first part, or of the next one behind the one value
+alike_in_turn : {R A B : Type 0} (first : Work R A) (next : A → Work R B) → IsDecided first → ((a : A) → IsDecided (next a)) → (r s : R) → RefusesInTurn first next r → RefusesInTurn first next s → r ≡ s
+alike_in_turn first next f n r s p q =
+    elim p [
+      | inl own ↦ elim q [ inl other ↦ f.alike r s own other | inr later ↦ absurd (f.apart later.0 r later.1 own) ]
+      | inr later ↦ elim q [
+        | inl other ↦ absurd (f.apart later.0 s later.1 other)
+        | inr behind ↦ (n behind.0).alike r s (subst (λ a. (next a).refuses r) (f.one later.0 behind.0 later.1 behind.1) later.2) behind.2
+      ]
+    ]
+
+pub in_turn_decided : {R A B : Type 0} (first : Work R A) (next : A → Work R B) → IsDecided first → ((a : A) → IsDecided (next a)) → IsDecided (first >>= next)
+in_turn_decided {R} {A} {B} first next f n =
+    record {
+      one = λ x y p q. (n q.0).one x y (subst (λ a. (next a).gives x) (f.one p.0 q.0 p.1 q.1) p.2) q.2;
+      apart = λ x r p q. elim q [ inl own ↦ f.apart p.0 r p.1 own | inr later ↦ (n later.0).apart x r (subst (λ a. (next a).gives x) (f.one p.0 later.0 p.1 later.1) p.2) later.2 ];
+      alike = alike_in_turn first next f n;
+    }

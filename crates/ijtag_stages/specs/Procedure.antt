@@ -1,0 +1,56 @@
+-- The stage of the procedure: its steps one after the other, each bound to register bits, up to its end
+-- (IEEE 1687-2014, PDL level 0).
+use Rattle.std.specs.Prelude.{◌≡◌, ℕ, List, [], ◌∷◌, Option, Some, None, codes}
+use Rattle.std.specs.Option.{option_map}
+use Rattle.bit_steps.specs.declared.fault.StepFault.{StepFault}
+use Rattle.bit_steps.specs.declared.fault.StepFault.TheVariants.{OutOfMemory as StepMemory, Expand, Target}
+use Rattle.bit_steps.specs.Seen.{expand_fault}
+use Rattle.bit_steps.specs.BitSteps.{AFault, Expands, Targets, bit_steps}
+use Rattle.icl_signals.specs.PlainNets.{NetOf, seen_net}
+use Rattle.net_graph.specs.SeenSteps.{SeenStep}
+use Rattle.pdl_expand.specs.Expansion.{AFault as ExpandFault, IsNoProc, IsArgCount, IsTooManySteps, IsNoName, IsCallDepth}
+use Rattle.pdl_parser.specs.Values.{AProc}
+use Rattle.pdl_targets.specs.Seen.{fault_of as target_fault}
+use Rattle.pdl_targets.specs.Targets.{AFault as TargetFault, IsNoTarget, IsNoValue, IsValueWide, IsNotWritable, IsNotReadable, IsSelectTarget, IsBadCount, IsLimit, IsUnapplied}
+use Rattle.ijtag_stages.specs.Elaborated.{which_name}
+use Rattle.ijtag_stages.specs.NetNames.{bit_arg}
+use Rattle.ijtag_stages.specs.Networks.{NestedNet}
+use Rattle.ijtag_stages.specs.Refusals.{Part, Refusal, At, Num, Said, refused_at, refused_word}
+use Rattle.ijtag_stages.specs.declared.refusal.Stage.TheVariants.{Pdl}
+
+-- how a fault of calls and prefixes is told
+abbrev pub expand_refusal : ExpandFault → Refusal
+expand_refusal (IsNoProc at name) = refused_word Pdl (codes "NoProc") at name
+expand_refusal (IsArgCount at) = refused_at Pdl (codes "ArgCount") at
+expand_refusal (IsTooManySteps at) = refused_at Pdl (codes "TooManySteps") at
+expand_refusal (IsNoName at name) = refused_word Pdl (codes "NoName") at name
+expand_refusal (IsCallDepth at) = refused_at Pdl (codes "CallDepth") at
+
+-- how a fault of targets is told
+abbrev pub target_refusal : NetOf → TargetFault → Refusal
+target_refusal of (IsNoTarget at) = refused_at Pdl (codes "NoTarget") at
+target_refusal of (IsNoValue at) = refused_at Pdl (codes "NoValue") at
+target_refusal of (IsValueWide at) = refused_at Pdl (codes "ValueWide") at
+target_refusal of (IsNotWritable at) = refused_at Pdl (codes "NotWritable") at
+target_refusal of (IsNotReadable at) = refused_at Pdl (codes "NotReadable") at
+target_refusal of (IsSelectTarget at bit) = record { stage = Pdl; kind = codes "SelectTarget"; args = At at ∷ bit_arg of bit ∷ [] }
+target_refusal of (IsBadCount at) = refused_at Pdl (codes "BadCount") at
+target_refusal of (IsLimit at which number) = record { stage = Pdl; kind = codes "Limit"; args = At at ∷ Said (which_name which) ∷ Num number ∷ [] }
+target_refusal of (IsUnapplied at) = refused_at Pdl (codes "Unapplied") at
+
+abbrev pub step_refusal : NetOf → AFault → Refusal
+step_refusal of (Expands fault) = expand_refusal fault
+step_refusal of (Targets fault) = target_refusal of fault
+
+-- the fault that a refusal of the call says, unless memory ran out
+abbrev pub fault_of : StepFault → Option AFault
+fault_of StepMemory = None
+fault_of (Expand e) = option_map Expands (expand_fault e)
+fault_of (Target e) = option_map Targets (target_fault e)
+
+-- the bit steps of a procedure that comes to its end, or its first fault
+unfoldable pub procedure : List AProc → NestedNet → List ℕ → Part (List SeenStep)
+procedure procs network name = record {
+  gives = λ steps. bit_steps procs network.net network.form name ≡ record { steps = steps; fault = None };
+  refuses = λ r. (fault : AFault) × ((bit_steps procs network.net network.form name).fault ≡ Some fault) × (r ≡ step_refusal (seen_net network.net) fault);
+}

@@ -1,0 +1,31 @@
+//! The stages of the work on texts, each a call that follows the work of its name in `specs/`: it gives what the work gives, or
+//! refuses as the work does. A stage knows nothing of the commands that it serves.
+#![tactic(auto)]
+
+mod connect;
+mod device;
+mod elab;
+mod fit;
+mod icl;
+mod laws;
+mod nest;
+mod net_names;
+mod network;
+mod pdl;
+mod procedure;
+mod refusal;
+mod svf;
+mod tables;
+mod unmerged;
+
+pub use device::read_device;
+pub use fit::fit_tables;
+pub use icl::read_icl;
+pub use laws::stages_are_decided;
+pub use network::{Network, read_network};
+pub use pdl::read_pdl;
+pub use procedure::check_procedure;
+pub use refusal::{Arg, Refusal, Stage, StageFault, put_refusal, refused_name};
+pub use svf::read_svf;
+pub use tables::read_tables;
+pub use unmerged::check_unmerged;

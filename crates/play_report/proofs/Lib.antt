@@ -1,4 +1,0 @@
-pub mod Counting
-pub mod Whole
-pub mod Few
-pub mod Names

@@ -1,4 +1,0 @@
-pub mod Printed
-pub mod Report
-pub mod Few
-pub mod Names
