@@ -2,4 +2,8 @@
 #![tactic(auto)]
 
 #[cfg(test)]
+mod examples;
+#[cfg(test)]
 mod program_runs;
+#[cfg(test)]
+mod refusals;
