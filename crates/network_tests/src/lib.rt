@@ -6,4 +6,6 @@ mod nested_forms;
 #[cfg(test)]
 mod texts;
 #[cfg(test)]
+mod trimmed_nets;
+#[cfg(test)]
 mod update_stages;
