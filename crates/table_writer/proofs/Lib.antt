@@ -1,0 +1,13 @@
+pub mod Pieced
+pub mod Lexed
+pub mod Named
+pub mod Joined
+pub mod Binary
+pub mod Found
+pub mod Conds
+pub mod Sets
+pub mod Rowed
+pub mod Taken
+pub mod Blocks
+pub mod FromText
+pub mod Examples
