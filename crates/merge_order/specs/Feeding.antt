@@ -52,20 +52,37 @@ if_applied (Some fault) s = Fails (Targets fault)
 abbrev pub branch_ended : Merging → Merging
 branch_ended m = record { branches = m.branches ++ m.next ∷ []; next = [] }
 
--- A step. Neither a merge nor an iReset stands in a merge. A mark of a merge that isn't begun comes to nothing.
+-- ---- what each step comes to; a mark of a merge that isn't begun comes to nothing
+
+-- no merge stands in a merge
+abbrev pub begin_merge : Place → State → Fed
+begin_merge at s = elim s.merging [
+  | None ↦ if_applied (finish s.queue) (record s { merging = Some (record { branches = []; next = [] }) })
+  | Some m ↦ Fails (IsMergeInside at)
+]
+
+abbrev pub end_branch : State → Fed
+end_branch s = elim s.merging [ None ↦ Is s [] | Some m ↦ if_applied (finish s.queue) (record s { merging = Some (branch_ended m) }) ]
+
+abbrev pub end_merge : Places → State → Fed
+end_merge places s = elim s.merging [ None ↦ Is s [] | Some m ↦ Is (record s { merging = None }) (merged places m.branches) ]
+
+abbrev pub bind_step : Net → Places → State → AStep → Fed
+bind_step net places s step = answered s.merging (bind net places s.queue step)
+
+-- no iReset stands in a merge
+abbrev pub reset : Net → Places → State → AStep → Fed
+reset net places s step = elim s.merging [ None ↦ answered None (bind net places s.queue step) | Some m ↦ Fails (IsMergeReset step.at) ]
+
 abbrev pub feed : Net → Places → State → AStep → Fed
-feed net places s step = deed step.what s.merging
+feed net places s step = deed step.what
   where
-    deed : ADeed → Option Merging → Fed
-    deed BeginsMerge None = if_applied (finish s.queue) (record s { merging = Some (record { branches = []; next = [] }) })
-    deed BeginsMerge (Some m) = Fails (IsMergeInside step.at)
-    deed EndsBranch None = Is s []
-    deed EndsBranch (Some m) = if_applied (finish s.queue) (record s { merging = Some (branch_ended m) })
-    deed EndsMerge None = Is s []
-    deed EndsMerge (Some m) = Is (record s { merging = None }) (merged places m.branches)
-    deed Resets None = answered None (bind net places s.queue step)
-    deed Resets (Some m) = Fails (IsMergeReset step.at)
-    deed (Writes target value) merging = answered merging (bind net places s.queue step)
-    deed (Reads target value) merging = answered merging (bind net places s.queue step)
-    deed Applies merging = answered merging (bind net places s.queue step)
-    deed (Runs value) merging = answered merging (bind net places s.queue step)
+    deed : ADeed → Fed
+    deed BeginsMerge = begin_merge step.at s
+    deed EndsBranch = end_branch s
+    deed EndsMerge = end_merge places s
+    deed Resets = reset net places s step
+    deed (Writes target value) = bind_step net places s step
+    deed (Reads target value) = bind_step net places s step
+    deed Applies = bind_step net places s step
+    deed (Runs value) = bind_step net places s step

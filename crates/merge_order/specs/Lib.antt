@@ -1,3 +1,7 @@
 pub mod Merge
 pub mod Feeding
 pub mod Laws
+pub mod SeenJoins
+pub mod SeenTurns
+pub mod SeenFaults
+pub mod SeenFeeder

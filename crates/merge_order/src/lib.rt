@@ -2,6 +2,15 @@
 //! turn, and what their iApplys do in one turn is joined where it can be.
 #![tactic(auto)]
 
+mod fault;
+mod feeder;
+mod feeding;
+mod joining;
 mod laws;
+mod pairs;
+mod turns;
 
+pub use fault::FeedFault;
+pub use feeder::Feeder;
 pub use laws::merges_of_one_branch;
+pub use turns::merged;

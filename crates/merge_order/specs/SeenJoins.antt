@@ -1,0 +1,11 @@
+-- iApplys by their rounds, without where these lie in memory.
+use Rattle.std.specs.Prelude.{List, map}
+use Rattle.std.specs.Borrow.{Bor}
+use Rattle.net_graph.specs.SeenSteps.{SeenGroup, seen_group}
+use Rattle.net_graph.specs.declared.step.Group.{Group}
+
+abbrev pub seen_rounds : List Group → List SeenGroup
+seen_rounds rounds = map seen_group rounds
+
+abbrev pub seen_applies : List (Bor (List Group)) → List (List SeenGroup)
+seen_applies applies = map (λ a. seen_rounds a.now) applies

@@ -1,0 +1,161 @@
+// The bit steps of a merge, turn by turn.
+ghost use Rattle.std.specs.Prelude.{◌≡◌, ◌++◌, [], ◌∷◌, map, IfOk, OnOk};
+ghost use Rattle.net_graph.specs.SeenSteps.{Apply, seen_step};
+ghost use Rattle.pdl_targets.specs.Binding.{run_of};
+ghost use Rattle.pdl_targets.specs.SeenPlaces.{places_in};
+ghost use Rattle.merge_order.specs.Merge as merge;
+ghost use Rattle.merge_order.specs.SeenJoins.{seen_applies};
+ghost use Rattle.merge_order.specs.SeenTurns.{seen_heads, seen_lists, seen_slices, seen_steps};
+
+use crate::joining::first_join;
+use ij_bits::{List, OutOfMemory};
+use net_graph::{BitStep, Group};
+use net_tree::Tree;
+use std::alloc::Global;
+use std::cmp::max;
+
+/// The iApplys of a turn, each by its rounds.
+fn applies_in<'a>(alloc: Global, heads: &[&'a BitStep]) -> Result<Vec<&'a [Group]>, OutOfMemory>
+    ensures { IfOk result (λ v. seen_applies v.items ≡ merge.applies_in (seen_heads heads.now)) }
+{
+    let mut applies = Vec::new(alloc);
+    for step in heads {
+        if let BitStep::Apply(rounds) = step {
+            applies.push(rounds.as_slice())?;
+        }
+    }
+    Ok(applies)
+}
+
+/// The cycles that a bit step runs.
+fn cycles_of(step: &BitStep) -> u32
+    ensures { result ≡ merge.cycles_of (seen_step step.now) }
+{
+    match step {
+        BitStep::Run(cycles) => *cycles,
+        _ => 0,
+    }
+}
+
+/// The most cycles that a branch runs in a turn.
+fn longest_run(heads: &[&BitStep]) -> u32
+    ensures { result ≡ merge.longest_run (seen_heads heads.now) }
+{
+    let mut longest = 0;
+    for step in heads {
+        longest = max(longest, cycles_of(step));
+    }
+    longest
+}
+
+/// Puts the joins of a turn behind bit steps.
+fn with_joins(
+    alloc: Global,
+    tree: &Tree,
+    applies: Vec<&[Group]>,
+    steps: List<BitStep>,
+) -> Result<List<BitStep>, OutOfMemory>
+    ensures { IfOk result (λ l. seen_steps l.items ≡ seen_steps steps.items ++ map Apply (merge.all_joins (places_in tree.now) (seen_applies applies.entry.items))) }
+{
+    let mut steps = steps;
+    let mut left = applies;
+    while let [first, later @ ..] = left.as_slice() {
+        let join = first_join(alloc, tree, first, later)?;
+        steps.push(BitStep::Apply(join.rounds))?;
+        left = join.left;
+    }
+    Ok(steps)
+}
+
+/// Puts a run behind bit steps, unless it has no cycle.
+fn with_run(steps: List<BitStep>, cycles: u32) -> Result<List<BitStep>, OutOfMemory>
+    ensures { IfOk result (λ l. seen_steps l.items ≡ seen_steps steps.items ++ merge.if_any (run_of cycles)) }
+{
+    let mut steps = steps;
+    if cycles > 0 {
+        steps.push(BitStep::Run(cycles))?;
+    }
+    Ok(steps)
+}
+
+/// Puts a turn behind bit steps.
+fn with_turn(
+    alloc: Global,
+    tree: &Tree,
+    heads: &[&BitStep],
+    steps: List<BitStep>,
+) -> Result<List<BitStep>, OutOfMemory>
+    ensures { IfOk result (λ l. seen_steps l.items ≡ seen_steps steps.items ++ merge.turn (places_in tree.now) (seen_heads heads.now)) }
+{
+    let applies = applies_in(alloc, heads)?;
+    let steps = with_joins(alloc, tree, applies, steps)?;
+    with_run(steps, longest_run(heads))
+}
+
+/// The bit steps of a turn, and what is left of the branches behind it.
+#[derive(Drop)]
+struct Turn<'a> {
+    heads: Vec<&'a BitStep>,
+    left: Vec<&'a [BitStep]>,
+}
+
+impl<'a> Turn<'a> {
+    /// Takes the first bit step of a branch, if it has one.
+    fn take(&mut self, branch: &'a [BitStep]) -> Result<(), OutOfMemory>
+        ensures heads { OnOk result (seen_heads self.new.heads.items ≡ seen_heads self.old.heads.items ++ merge.firsts (seen_steps branch.now ∷ [])) }
+        ensures left { OnOk result (seen_slices self.new.left.items ≡ seen_slices self.old.left.items ++ merge.later (seen_steps branch.now ∷ [])) }
+    {
+        if let [first, left @ ..] = branch {
+            self.heads.push(first)?;
+            self.left.push(left)?;
+        }
+        Ok(())
+    }
+}
+
+/// The next turn of some branches.
+fn next_turn<'a>(alloc: Global, branches: &[&'a [BitStep]]) -> Result<Turn<'a>, OutOfMemory>
+    ensures heads { IfOk result (λ t. seen_heads t.heads.items ≡ merge.firsts (seen_slices branches.now)) }
+    ensures left { IfOk result (λ t. seen_slices t.left.items ≡ merge.later (seen_slices branches.now)) }
+{
+    let mut turn = Turn {
+        heads: Vec::new(alloc),
+        left: Vec::new(alloc),
+    };
+    for branch in branches {
+        turn.take(branch)?;
+    }
+    Ok(turn)
+}
+
+/// References to branches.
+fn references<'a>(
+    alloc: Global,
+    branches: &'a [List<BitStep>],
+) -> Result<Vec<&'a [BitStep]>, OutOfMemory>
+    ensures { IfOk result (λ v. seen_slices v.items ≡ seen_lists branches.now) }
+{
+    let mut all = Vec::new(alloc);
+    for branch in branches {
+        all.push(branch.as_slice())?;
+    }
+    Ok(all)
+}
+
+/// The bit steps of a merge of these branches.
+pub fn merged(
+    alloc: Global,
+    tree: &Tree,
+    branches: &[List<BitStep>],
+) -> Result<List<BitStep>, OutOfMemory>
+    ensures { IfOk result (λ l. seen_steps l.items ≡ merge.merged (places_in tree.now) (seen_lists branches.now)) }
+{
+    let mut steps = List::new(alloc);
+    let mut left = references(alloc, branches)?;
+    while !left.is_empty() {
+        let turn = next_turn(alloc, &left)?;
+        steps = with_turn(alloc, tree, &turn.heads, steps)?;
+        left = turn.left;
+    }
+    Ok(steps)
+}
