@@ -1,0 +1,11 @@
+pub mod Places
+pub mod Finding
+pub mod Setting
+pub mod Lining
+pub mod Ordering
+pub mod Counting
+pub mod Going
+pub mod Keeping
+pub mod Parts
+pub mod Examples
+pub mod Wholes

@@ -1,0 +1,4 @@
+pub mod Writing
+pub mod Cycles
+pub mod Shaping
+pub mod Rounds
