@@ -1,6 +1,5 @@
 -- The work of a command comes to one end at most: what is given is one value, and then nothing is refused; and a refusal is one.
-use Rattle.std.specs.Prelude.{Option, None}
-use Rattle.std.proofs.Common.{refl, ◌≡◌, ◌<◌, ◌≤◌, ◌∙◌, sym, ap, ℕ, Some, List, [], ◌∷◌, length, arith}
+use Rattle.std.proofs.Common.{◌≡◌, ◌<◌, ◌≤◌, ◌∙◌, sym, ap, ℕ, Some, List, [], ◌∷◌, length, arith}
 use Rattle.ij_io.specs.Files.{Files, bytes_of}
 use Rattle.icl_syntax.specs.Values.{SeenModule}
 use Rattle.net_graph.specs.declared.device.Device.{Device}
@@ -16,10 +15,11 @@ use Rattle.ijtag_stages.specs.Procedure.{procedure}
 use Rattle.ijtag_stages.specs.SvfText.{svf_text}
 use Rattle.ijtag_stages.specs.TablesText.{tables_text}
 use Rattle.ijtag_stages.specs.Unmerged.{unmerged}
+use Rattle.table_file.specs.Tables.{SeenTable}
 use Rattle.ijtag_stages.specs.Work.{IsDecided}
 use Rattle.ijtag_stages.proofs.Turns.{give_decided, never_decided, in_turn_decided}
-use Rattle.ijtag_core.specs.Command.{Command, Compile, Compiles, Play, Plays, Load, loads}
-use Rattle.ijtag_core.specs.Order.{SeenCompilable, loaded_one, loaded, followed, compiled_procedure, accepted, written_text, compiled, SeenFiles, played_files, played_network, played_texts, playable, work_on, work}
+use Rattle.ijtag_core.specs.Command.{Command, Compile, Compiles, Play, Plays, Directs, Migrates, Load, loads}
+use Rattle.ijtag_core.specs.Order.{SeenCompilable, loaded_one, loaded, followed, compiled_procedure, accepted, written_text, read_tables_of, fitted_network, followed_text, run_network, run_texts, runnable, SeenFiles, played_files, played_network, played_texts, playable, work_on, work}
 
 -- ---- loads
 
@@ -91,10 +91,46 @@ module _ (stages : StagesAreDecided) (texts_one : TextsAreOne) where
   playable_decided p (a ∷ b ∷ d ∷ []) = never_decided
   playable_decided p (a ∷ b ∷ d ∷ e ∷ f ∷ rest) = never_decided
 
+  fitted_decided : (top : List ℕ) (modules : List SeenModule) (of : Device) (tables : List SeenTable) → IsDecided (fitted_network top modules of tables)
+  unfolding fitted_network
+  fitted_decided top modules of tables =
+      in_turn_decided (network_below modules top of) _ (stages.network modules top of) (λ network. in_turn_decided (models_of network.net tables) _ (stages.fit network.net tables) (λ models. give_decided _))
+
+  followed_text_decided : (name pdl : List ℕ) (network : NestedNet) → IsDecided (followed_text name pdl network)
+  unfolding followed_text
+  followed_text_decided name pdl network =
+      in_turn_decided (pdl_text pdl) _ (stages.pdl pdl) (λ procs. in_turn_decided (followed procs network name) _ (followed_decided procs network name) (λ steps. give_decided steps))
+
+  run_decided : (top name : List ℕ) (modules : List SeenModule) (of : Device) (tables : List SeenTable) (pdl : List ℕ) → IsDecided (run_network top name modules of tables pdl)
+  unfolding run_network
+  run_decided top name modules of tables pdl =
+      in_turn_decided (fitted_network top modules of tables) _ (fitted_decided top modules of tables) (λ on. in_turn_decided (followed_text name pdl on.network) _ (followed_text_decided name pdl on.network) (λ steps. give_decided _))
+
+  run_texts_decided : (top name : List ℕ) (modules : List SeenModule) (pdl device tables : List ℕ) → IsDecided (run_texts top name modules pdl device tables)
+  unfolding run_texts
+  run_texts_decided top name modules pdl device tables =
+      in_turn_decided (device_text device) _ (stages.device device) (λ of. in_turn_decided (tables_text tables) _ (stages.tables tables) (λ ts. run_decided top name modules of ts pdl))
+
+  runnable_decided : (top name : List ℕ) (texts : List (List ℕ)) → IsDecided (runnable top name texts)
+  runnable_decided top name (icl ∷ pdl ∷ device ∷ tables ∷ []) =
+      in_turn_decided (icl_text icl) _ (stages.icl icl) (λ modules. run_texts_decided top name modules pdl device tables)
+  runnable_decided top name [] = never_decided
+  runnable_decided top name (a ∷ []) = never_decided
+  runnable_decided top name (a ∷ b ∷ []) = never_decided
+  runnable_decided top name (a ∷ b ∷ d ∷ []) = never_decided
+  runnable_decided top name (a ∷ b ∷ d ∷ e ∷ f ∷ rest) = never_decided
+
+  tables_decided : (texts : List (List ℕ)) → IsDecided (read_tables_of texts)
+  tables_decided (tables ∷ []) = stages.tables tables
+  tables_decided [] = never_decided
+  tables_decided (a ∷ b ∷ rest) = never_decided
+
   work_on_decided : (command : Command) (texts : List (List ℕ)) → IsDecided (work_on command texts)
   work_on_decided (Compiles c) texts =
       in_turn_decided (accepted c texts) _ (accepted_decided c texts) (λ it. in_turn_decided (written_text it) _ (written_decided texts_one it) (λ bytes. give_decided _))
   work_on_decided (Plays p) texts = in_turn_decided (playable p texts) _ (playable_decided p texts) (λ it. give_decided _)
+  work_on_decided (Directs d) texts = in_turn_decided (runnable d.top d.procedure texts) _ (runnable_decided d.top d.procedure texts) (λ it. give_decided _)
+  work_on_decided (Migrates m) texts = in_turn_decided (read_tables_of texts) _ (tables_decided texts) (λ tables. give_decided _)
 
   pub work_decided : (files : Files) (command : Command) → IsDecided (work (Some files) command)
   work_decided files command = in_turn_decided (loaded (Some files) (loads command)) _ (loads_decided files (loads command)) (work_on_decided command)

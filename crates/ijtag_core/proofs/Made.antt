@@ -1,7 +1,6 @@
 -- The SVF text that is made of an accepted procedure.
-use Rattle.std.proofs.Common.{◌≡◌, sym, subst, ℕ, List, [], Option, Some}
+use Rattle.std.proofs.Common.{◌≡◌, sym, subst, ℕ, List, [], Some}
 use Rattle.std.specs.Prelude.{All}
-use Rattle.ij_io.specs.Bytes.{Adds}
 use Rattle.net_graph.specs.declared.device.Device.{Device}
 use Rattle.net_graph.specs.declared.net.Net.{Net}
 use Rattle.net_graph.specs.Nets.{IsNet}

@@ -23,16 +23,37 @@ pub record Play : Type 0 where
   pub tables : List ℕ
   pub top : List ℕ
 
+-- `direct ICL PDL DEVICE TABLES TOP PROC`: four file names, the top module and the procedure
+pub record Direct : Type 0 where
+  pub icl : List ℕ
+  pub pdl : List ℕ
+  pub device : List ℕ
+  pub tables : List ℕ
+  pub top : List ℕ
+  pub procedure : List ℕ
+
+-- `migrate TABLES NEW`: the file of tables, and the file that is written
+pub record Migrate : Type 0 where
+  pub tables : List ℕ
+  pub written : List ℕ
+
 pub data Command : Type 0 where
   Compiles : (words : Compile) → Command
   Plays : (words : Play) → Command
+  Directs : (words : Direct) → Command
+  Migrates : (words : Migrate) → Command
 
--- exactly seven words, of which the first is `compile`, or exactly six, of which the first is `play`
+-- exactly seven words, of which the first is `compile` or `direct`; six, of which it is `play`; or three, of which it is `migrate`
 abbrev pub command_of : List (List ℕ) → Option Command
 command_of (word ∷ icl ∷ pdl ∷ device ∷ top ∷ procedure ∷ svf ∷ []) =
-    elim (bytes_eq word (codes "compile")) [ true ↦ Some (Compiles (record { icl = icl; pdl = pdl; device = device; top = top; procedure = procedure; svf = svf })) | false ↦ None ]
+    elim (bytes_eq word (codes "compile")) [
+      | true ↦ Some (Compiles (record { icl = icl; pdl = pdl; device = device; top = top; procedure = procedure; svf = svf }))
+      | false ↦ elim (bytes_eq word (codes "direct")) [ true ↦ Some (Directs (record { icl = icl; pdl = pdl; device = device; tables = top; top = procedure; procedure = svf })) | false ↦ None ]
+    ]
 command_of (word ∷ svf ∷ icl ∷ device ∷ tables ∷ top ∷ []) =
     elim (bytes_eq word (codes "play")) [ true ↦ Some (Plays (record { svf = svf; icl = icl; device = device; tables = tables; top = top })) | false ↦ None ]
+command_of (word ∷ tables ∷ written ∷ []) =
+    elim (bytes_eq word (codes "migrate")) [ true ↦ Some (Migrates (record { tables = tables; written = written })) | false ↦ None ]
 command_of _ = None
 
 -- the command that the words of the command line are, where they are one
@@ -59,10 +80,18 @@ compile_loads c = source c.icl ∷ source c.pdl ∷ source c.device ∷ []
 abbrev pub play_loads : Play → List Load
 play_loads p = svf_file p.svf ∷ source p.icl ∷ source p.device ∷ source p.tables ∷ []
 
+abbrev pub direct_loads : Direct → List Load
+direct_loads d = source d.icl ∷ source d.pdl ∷ source d.device ∷ source d.tables ∷ []
+
+abbrev pub migrate_loads : Migrate → List Load
+migrate_loads m = source m.tables ∷ []
+
 -- the files that are loaded, in this order
 abbrev pub loads : Command → List Load
 loads (Compiles c) = compile_loads c
 loads (Plays p) = play_loads p
+loads (Directs d) = direct_loads d
+loads (Migrates m) = migrate_loads m
 
 abbrev pub names_of : List Load → List (List ℕ)
 names_of [] = []
@@ -74,11 +103,15 @@ names_of (load ∷ loads) = load.name ∷ names_of loads
 abbrev pub writes : Command → List (List ℕ)
 writes (Compiles c) = c.svf ∷ []
 writes (Plays p) = []
+writes (Directs d) = []
+writes (Migrates m) = m.written ∷ []
 
 -- whether the command prints on the output
 abbrev pub prints : Command → Bool
 prints (Compiles c) = false
 prints (Plays p) = true
+prints (Directs d) = true
+prints (Migrates m) = false
 
 -- without a command nothing is loaded, written or printed
 abbrev pub loads_in : Option Command → List (List ℕ)

@@ -11,9 +11,11 @@ use Rattle.svf_writer.specs.SeenCommands.{SeenCommand}
 use Rattle.table_file.specs.Tables.{SeenTable}
 use Rattle.net_bench.specs.Playing.{Compare}
 use Rattle.bench_report.specs.Report.{differs_of, play_report}
+use Rattle.direct_report.specs.Report.{direct_report, direct_differs}
 use Rattle.group_scans.specs.Retargeting.{IsRetargeted as DoSteps}
 use Rattle.ijtag_stages.specs.Work.{give, never, ◌>>=◌}
-use Rattle.ijtag_core.specs.Command.{Command, Compile, Compiles, Play, Plays, Load, loads}
+use Rattle.bench_file.specs.Written.{tables_text as written_tables}
+use Rattle.ijtag_core.specs.Command.{Command, Compile, Compiles, Play, Plays, Direct, Directs, Migrate, Migrates, Load, loads}
 use Rattle.ijtag_stages.specs.Refusals.{Part, refused_name}
 use Rattle.ijtag_core.specs.Leaves.{Leaves}
 use Rattle.ijtag_stages.specs.DeviceText.{device_text}
@@ -75,15 +77,19 @@ accepted c _ = never
 unfoldable pub written_text : SeenCompilable → Part (List ℕ)
 written_text it = record { gives = λ bytes. DoSteps it.network.net it.network.form it.device it.steps bytes; refuses = λ r. ⊥ }
 
--- the SVF file has it
-abbrev pub compiled : Compile → List ℕ → Leaves
-compiled c bytes = record { files = record { name = c.svf; bytes = bytes } ∷ []; printed = []; differs = false }
+-- a text is printed, and no file is written
+abbrev pub told : List ℕ → Bool → Leaves
+told text differs = record { files = []; printed = text; differs = differs }
+
+-- a file has it, and nothing is printed
+abbrev pub filed : List ℕ → List ℕ → Leaves
+filed name bytes = record { files = record { name = name; bytes = bytes } ∷ []; printed = []; differs = false }
 
 abbrev pub compile : Compile → List (List ℕ) → Part Leaves
 compile c texts = do
   it ← accepted c texts
   bytes ← written_text it
-  give (compiled c bytes)
+  give (filed c.svf bytes)
 
 -- ---- play: the ICL text, the device, the tables, the SVF text, the network, then whether the tables fit it
 
@@ -125,9 +131,10 @@ playable p (svf ∷ icl ∷ device ∷ tables ∷ []) = do
   played_texts p modules svf device tables
 playable p _ = never
 
-abbrev pub any_differs : List Compare → Bool
+-- whether there is one
+abbrev pub any_differs : {A : Type 0} → List A → Bool
 any_differs [] = false
-any_differs (compare ∷ compares) = true
+any_differs (x ∷ xs) = true
 
 abbrev pub differs_at : SeenPlayable → List Compare
 differs_at it = differs_of it.net it.device it.models it.commands
@@ -137,18 +144,90 @@ unfoldable pub report_of : SeenPlayable → List ℕ
 report_of it = play_report it.net it.device it.models it.commands
 
 abbrev pub played : SeenPlayable → Leaves
-played it = record { files = []; printed = report_of it; differs = any_differs (differs_at it) }
+played it = told (report_of it) (any_differs (differs_at it))
 
 abbrev pub play : Play → List (List ℕ) → Part Leaves
 play p texts = do
   it ← playable p texts
   give (played it)
 
+-- ---- direct: the ICL text, the device, the tables, the network, whether the tables fit it, the PDL text, then the steps of the procedure up to its end
+
+-- a network with the models of its instruments
+pub record FittedNet : Type 0 where
+  pub network : NestedNet
+  pub models : List SeenModel
+
+-- what is run
+pub record SeenRunnable : Type 0 where
+  pub network : NestedNet
+  pub device : Device
+  pub models : List SeenModel
+  pub steps : List SeenStep
+
+unfoldable pub fitted_network : List ℕ → List SeenModule → Device → List SeenTable → Part FittedNet
+fitted_network top modules of tables = do
+  network ← network_below modules top of
+  models ← models_of network.net tables
+  give (record { network = network; models = models })
+
+unfoldable pub followed_text : List ℕ → List ℕ → NestedNet → Part (List SeenStep)
+followed_text name pdl network = do
+  procs ← pdl_text pdl
+  steps ← followed procs network name
+  give steps
+
+unfoldable pub run_network : List ℕ → List ℕ → List SeenModule → Device → List SeenTable → List ℕ → Part SeenRunnable
+run_network top name modules of tables pdl = do
+  on ← fitted_network top modules of tables
+  steps ← followed_text name pdl on.network
+  give (record { network = on.network; device = of; models = on.models; steps = steps })
+
+unfoldable pub run_texts : List ℕ → List ℕ → List SeenModule → List ℕ → List ℕ → List ℕ → Part SeenRunnable
+run_texts top name modules pdl device tables = do
+  of ← device_text device
+  ts ← tables_text tables
+  run_network top name modules of ts pdl
+
+abbrev pub runnable : List ℕ → List ℕ → List (List ℕ) → Part SeenRunnable
+runnable top name (icl ∷ pdl ∷ device ∷ tables ∷ []) = do
+  modules ← icl_text icl
+  run_texts top name modules pdl device tables
+runnable top name _ = never
+
+-- the report of what the procedure means, with no chain and no clock
+unfoldable pub meaning_of : SeenRunnable → List ℕ
+meaning_of it = direct_report it.network.net it.models it.steps
+
+abbrev pub reads_differ : SeenRunnable → Bool
+reads_differ it = any_differs (direct_differs it.network.net it.models it.steps)
+
+abbrev pub meant : SeenRunnable → Leaves
+meant it = told (meaning_of it) (reads_differ it)
+
+abbrev pub direct : Direct → List (List ℕ) → Part Leaves
+direct d texts = do
+  it ← runnable d.top d.procedure texts
+  give (meant it)
+
+-- ---- migrate: the tables, which are written once more
+
+abbrev pub read_tables_of : List (List ℕ) → Part (List SeenTable)
+read_tables_of (tables ∷ []) = tables_text tables
+read_tables_of _ = never
+
+abbrev pub migrate : Migrate → List (List ℕ) → Part Leaves
+migrate m texts = do
+  tables ← read_tables_of texts
+  give (filed m.written (written_tables tables))
+
 -- ---- any command: its loads, and then its own work on the texts
 
 abbrev pub work_on : Command → List (List ℕ) → Part Leaves
 work_on (Compiles c) texts = compile c texts
 work_on (Plays p) texts = play p texts
+work_on (Directs d) texts = direct d texts
+work_on (Migrates m) texts = migrate m texts
 
 abbrev pub work : Option Files → Command → Part Leaves
 work files command = do

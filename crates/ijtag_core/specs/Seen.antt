@@ -14,14 +14,16 @@ use Rattle.ijtag_stages.specs.Nested.{IsNested}
 use Rattle.ijtag_stages.specs.Seen.{seen_network, seen_refusal}
 use Rattle.ijtag_stages.specs.declared.refusal.StageFault.{StageFault}
 use Rattle.ijtag_stages.specs.declared.refusal.StageFault.TheVariants.{Refused as RefusedStage, OutOfMemory as MemoryStage}
-use Rattle.ijtag_core.specs.Command.{Command, Compile, Play, Compiles, Plays, Load, source, svf_file}
+use Rattle.ijtag_core.specs.Command.{Command, Compile, Play, Direct, Migrate, Compiles, Plays, Directs, Migrates, Load, source, svf_file}
 use Rattle.table_file.specs.Answers.{seen_tables}
-use Rattle.ijtag_core.specs.Order.{SeenCompilable, SeenFiles, SeenPlayable}
+use Rattle.ijtag_core.specs.Order.{SeenCompilable, SeenFiles, SeenPlayable, SeenRunnable, FittedNet}
 use Rattle.ijtag_core.specs.Stops.{Stop, Usage, Refuses, ReadFault, WriteFault, OutputFault, NoMemory}
 use Rattle.ijtag_core.specs.declared.words.CompileWords.{CompileWords}
 use Rattle.ijtag_core.specs.declared.words.PlayWords.{PlayWords}
+use Rattle.ijtag_core.specs.declared.words.DirectWords.{DirectWords}
+use Rattle.ijtag_core.specs.declared.words.MigrateWords.{MigrateWords}
 use Rattle.ijtag_core.specs.declared.words.CommandWords.{CommandWords}
-use Rattle.ijtag_core.specs.declared.words.CommandWords.TheVariants.{Compile as CompileCommand, Play as PlayCommand}
+use Rattle.ijtag_core.specs.declared.words.CommandWords.TheVariants.{Compile as CompileCommand, Play as PlayCommand, Direct as DirectCommand, Migrate as MigrateCommand}
 use Rattle.ijtag_core.specs.declared.load.Load.{Load as LoadWords}
 use Rattle.ijtag_core.specs.declared.load.Load.TheVariants.{Source as SourceLoad, Svf as SvfLoad}
 use Rattle.ijtag_core.specs.declared.status.Verdict.{Verdict}
@@ -29,6 +31,8 @@ use Rattle.ijtag_core.specs.declared.status.Verdict.TheVariants.{Agrees as Agree
 use Rattle.ijtag_core.specs.declared.stop.Stop.{Stop as RustStop}
 use Rattle.ijtag_core.specs.declared.stop.Stop.TheVariants.{Usage as UsageStop, Refused as RefusedStop, ReadFault as ReadStop, WriteFault as WriteStop, OutputFault as OutputStop, OutOfMemory as MemoryStop}
 use Rattle.ijtag_core.specs.declared.commands.compile.Compilable.{Compilable}
+use Rattle.ijtag_core.specs.declared.commands.direct.Instrumented.{Instrumented}
+use Rattle.ijtag_core.specs.declared.commands.direct.Runnable.{Runnable}
 use Rattle.ijtag_core.specs.declared.commands.play.PlayedFiles.{PlayedFiles}
 use Rattle.ijtag_core.specs.declared.commands.play.Playable.{Playable}
 
@@ -40,9 +44,18 @@ abbrev pub seen_play : PlayWords → Play
 seen_play words =
     record { svf = words.svf.now; icl = words.icl.now; device = words.device.now; tables = words.tables.now; top = words.top.now }
 
+abbrev pub seen_direct : DirectWords → Direct
+seen_direct words =
+    record { icl = words.icl.now; pdl = words.pdl.now; device = words.device.now; tables = words.tables.now; top = words.top.now; procedure = words.procedure.now }
+
+abbrev pub seen_migrate : MigrateWords → Migrate
+seen_migrate words = record { tables = words.tables.now; written = words.written.now }
+
 abbrev pub seen_command : CommandWords → Command
 seen_command (CompileCommand words) = Compiles (seen_compile words)
 seen_command (PlayCommand words) = Plays (seen_play words)
+seen_command (DirectCommand words) = Directs (seen_direct words)
+seen_command (MigrateCommand words) = Migrates (seen_migrate words)
 
 abbrev pub seen_load : LoadWords → Load
 seen_load (SourceLoad name) = source name.now
@@ -79,6 +92,17 @@ seen_files read = record { device = read.device; tables = seen_tables read.table
 abbrev pub seen_playable : Playable → SeenPlayable
 seen_playable it = record { net = it.net; device = it.device; models = map seen_model it.models; commands = it.commands }
 
+abbrev pub seen_instrumented : Instrumented → FittedNet
+seen_instrumented on = record { network = seen_network on.network; models = map seen_model on.models }
+
+abbrev pub seen_runnable : List ℕ → Runnable → SeenRunnable
+seen_runnable procedure it = record {
+  network = seen_network it.on.network;
+  device = it.device;
+  models = map seen_model it.on.models;
+  steps = (bit_steps (seen_procs it.procs) it.on.network.net it.on.network.form procedure).steps;
+}
+
 -- what is known of what is compiled: a lawful network, a device, and a procedure that comes to its end
 pub record CanCompile (procedure : List ℕ) (it : Compilable) : Type 0 where
   pub nested : IsNested it.network.net it.network.form
@@ -94,9 +118,28 @@ pub record CanPlay (it : Playable) : Type 0 where
   pub clocks : length (pins InReset 0 it.commands) ≤ 1000000000
   pub scans : scans_in it.commands ≤ 1000000000
 
+-- of a network with its instruments: lawful, with a model for each instrument
+pub record AreFitted (on : Instrumented) : Type 0 where
+  pub nested : IsNested on.network.net on.network.form
+  pub models : AreModels on.network.net on.models
+
+-- and of what is run: a procedure of it that comes to its end
+pub record CanRun (procedure : List ℕ) (it : Runnable) : Type 0 where
+  pub fitted : AreFitted it.on
+  pub device : IsDevice it.device
+  pub procs : AreDistinct (full_names (seen_procs it.procs))
+  pub few : length it.procs.procs.items < 2 ^ 32
+  pub ends : (bit_steps (seen_procs it.procs) it.on.network.net it.on.network.form procedure).fault ≡ None
+
 -- the same as one word each
 unfoldable pub IsCompilable : List ℕ → Compilable → Type 0
 IsCompilable procedure it = CanCompile procedure it
+
+unfoldable pub IsInstrumented : Instrumented → Type 0
+IsInstrumented on = AreFitted on
+
+unfoldable pub IsRunnable : List ℕ → Runnable → Type 0
+IsRunnable procedure it = CanRun procedure it
 
 unfoldable pub IsPlayable : Playable → Type 0
 IsPlayable it = CanPlay it

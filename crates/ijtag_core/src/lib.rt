@@ -1,4 +1,5 @@
-//! The program as a function of its words, over any files and streams: `compile` a procedure to SVF, `play` an SVF file.
+//! The program as a function of its words, over any files and streams: `compile` a procedure to SVF, `play` an SVF file, `direct` what a
+//! procedure means, `migrate` a file of tables.
 //!
 //! A command is a file of `commands`, a stage of its work a call of `ijtag_stages`. `specs/Order` has the order of work of each command,
 //! and every call below follows it.
@@ -6,6 +7,7 @@
 
 mod commands;
 mod decided;
+mod follow;
 mod load;
 mod memory;
 mod run;

@@ -37,7 +37,7 @@ pub fn ijtag_in_memory(
     ensures same_files { IsEarlyStatus result → Some (sure_files_in shelf.new) ≡ Some (sure_files_in shelf.old) }
     ensures same_output { IsEarlyStatus result → out.new ≡ out.old }
     ensures only_its_files_change { OnlyTheseChange (writes_in (command_in words.now.items)) (Some (sure_files_in shelf.old)) (Some (sure_files_in shelf.new)) }
-    ensures only_plays_print { OnFalse (prints_in (command_in words.now.items)) (out.new ≡ out.old) }
+    ensures only_reports_print { OnFalse (prints_in (command_in words.now.items)) (out.new ≡ out.old) }
 {
     ijtag(alloc, words, shelf, out, err)
 }

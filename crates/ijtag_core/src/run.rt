@@ -10,6 +10,8 @@ ghost use Rattle.ijtag_core.specs.Seen.{seen_stop, differing};
 ghost use Rattle.ijtag_core.specs.Stops.{IsEarly};
 
 use crate::commands::compile::compile;
+use crate::commands::direct::direct;
+use crate::commands::migrate::migrate;
 use crate::commands::play::play;
 use crate::status::Verdict;
 use crate::stop::Stop;
@@ -42,6 +44,8 @@ pub(crate) fn run<'a, S: Shelf, O: Sink>(
     match read_words(words) {
         Some(CommandWords::Compile(words)) => compile(alloc, &words, shelf, out),
         Some(CommandWords::Play(words)) => play(alloc, &words, shelf, out),
+        Some(CommandWords::Direct(words)) => direct(alloc, &words, shelf, out),
+        Some(CommandWords::Migrate(words)) => migrate(alloc, &words, shelf, out),
         None => Err(Stop::Usage),
     }
 }

@@ -25,6 +25,10 @@ use std::alloc::Global;
 /// - `play SVF ICL DEVICE TABLES TOP` loads the four files in this order, accepts what they hold, and only then plays the SVF file
 ///   clock by clock from power-up and prints the report on `out`: the compares that differ, the register, and the totals. It ends
 ///   as `Differs` where a compare does.
+/// - `direct ICL PDL DEVICE TABLES TOP PROC` loads the four files in this order, accepts what they hold, and only then does what the
+///   procedure means, with no chain and no clock, and prints the report on `out`. It ends as `Differs` where a read does.
+/// - `migrate TABLES NEW` loads the first file, accepts it, and only then writes its tables to the second, as a file of version 2. It
+///   prints nothing.
 ///
 /// A run that ends otherwise than as `Good` or `Differs` prints one line on `err`, or a first part of it where `err` fails, which
 /// changes no status. Memory is taken from `alloc`; want of it anywhere ends the run as `OutOfMemory`.
@@ -88,7 +92,7 @@ pub fn ijtag<S: Shelf, O: Sink, E: Sink>(
         × AddsPart (E.taken err.old) (E.taken err.new) (stop_text stop) }
     ensures only_its_files_change { OnlyTheseChange (writes_in (command_in words.now.items))
         (S.files shelf.old) (S.files shelf.new) }
-    ensures only_plays_print { OnFalse (prints_in (command_in words.now.items))
+    ensures only_reports_print { OnFalse (prints_in (command_in words.now.items))
         (out.new ≡ out.old) }
     ensures only_its_loads_fail { OnlyTheseRise (loads_in (command_in words.now.items))
         (S.load_faults shelf.old) (S.load_faults shelf.new) }

@@ -1,7 +1,7 @@
 // The words that the program is called with.
 ghost use Rattle.std.specs.Prelude.{◌≡◌, map, option_map};
-ghost use Rattle.ijtag_core.specs.Command.{command_in, compile_loads, play_loads};
-ghost use Rattle.ijtag_core.specs.Seen.{seen_command, seen_compile, seen_play, seen_load};
+ghost use Rattle.ijtag_core.specs.Command.{command_in, compile_loads, play_loads, direct_loads, migrate_loads};
+ghost use Rattle.ijtag_core.specs.Seen.{seen_command, seen_compile, seen_play, seen_direct, seen_migrate, seen_load};
 
 use crate::load::Load;
 
@@ -64,11 +64,62 @@ impl<'a> PlayWords<'a> {
     }
 }
 
+/// The words of `direct ICL PDL DEVICE TABLES TOP PROC`.
+#[derive(Clone, Copy)]
+pub(crate) struct DirectWords<'a> {
+    /// The file of the network (IEEE 1687-2014, ICL).
+    pub icl: &'a str,
+    /// The file of the procedures (IEEE 1687-2014, PDL level 0).
+    pub pdl: &'a str,
+    /// The file of the device's TAP.
+    pub device: &'a str,
+    /// The file of the instruments' tables.
+    pub tables: &'a str,
+    /// The top module's name.
+    pub top: &'a str,
+    /// The procedure's name.
+    pub procedure: &'a str,
+}
+
+impl<'a> DirectWords<'a> {
+    /// The files that are loaded, in this order.
+    pub(crate) fn loads(&self) -> [Load<'a>; 4]
+        ensures { map seen_load result ≡ direct_loads (seen_direct self.now) }
+    {
+        [
+            Load::Source(self.icl),
+            Load::Source(self.pdl),
+            Load::Source(self.device),
+            Load::Source(self.tables),
+        ]
+    }
+}
+
+/// The words of `migrate TABLES NEW`.
+#[derive(Clone, Copy)]
+pub(crate) struct MigrateWords<'a> {
+    /// The file of the instruments' tables.
+    pub tables: &'a str,
+    /// The file that is written.
+    pub written: &'a str,
+}
+
+impl<'a> MigrateWords<'a> {
+    /// The file that is loaded.
+    pub(crate) fn loads(&self) -> [Load<'a>; 1]
+        ensures { map seen_load result ≡ migrate_loads (seen_migrate self.now) }
+    {
+        [Load::Source(self.tables)]
+    }
+}
+
 /// The words of a command.
 #[derive(Clone, Copy)]
 pub(crate) enum CommandWords<'a> {
     Compile(CompileWords<'a>),
     Play(PlayWords<'a>),
+    Direct(DirectWords<'a>),
+    Migrate(MigrateWords<'a>),
 }
 
 /// The command of the words, `None` where they are no command. It takes no memory.
@@ -86,6 +137,16 @@ pub(crate) fn read_words(words: &Vec<String>) -> Option<CommandWords<'_>>
                 svf: svf.as_str(),
             }))
         }
+        [command, icl, pdl, device, tables, top, procedure] if command.as_str() == "direct" => {
+            Some(CommandWords::Direct(DirectWords {
+                icl: icl.as_str(),
+                pdl: pdl.as_str(),
+                device: device.as_str(),
+                tables: tables.as_str(),
+                top: top.as_str(),
+                procedure: procedure.as_str(),
+            }))
+        }
         [command, svf, icl, device, tables, top] if command.as_str() == "play" => {
             Some(CommandWords::Play(PlayWords {
                 svf: svf.as_str(),
@@ -93,6 +154,12 @@ pub(crate) fn read_words(words: &Vec<String>) -> Option<CommandWords<'_>>
                 device: device.as_str(),
                 tables: tables.as_str(),
                 top: top.as_str(),
+            }))
+        }
+        [command, tables, written] if command.as_str() == "migrate" => {
+            Some(CommandWords::Migrate(MigrateWords {
+                tables: tables.as_str(),
+                written: written.as_str(),
             }))
         }
         _ => None,

@@ -91,3 +91,42 @@ pub fn behind_a_multiplexer(alloc: Global) -> Result<Vec<u8>, AllocError> {
         b"ScanOutPort SO { Source S; } ScanRegister B[3:0] { ScanInSource SI; CaptureSource B; ResetValue 4'b0; } ScanRegister A[1:0] { ScanInSource B; CaptureSource A; ResetValue 2'b0; } ScanMux m SelectedBy S { 1'b0 : B; 1'b1 : A; } ScanRegister S { ScanInSource m; CaptureSource S; ResetValue 1'b0; }",
     )
 }
+
+/// A chip with an instrument that counts clocks from the moment its input rises, and is done at 100.
+pub const COUNTER_ICL: &[u8] =
+    b"Module Counter { DataInPort start; DataOutPort done; }\nModule Cell {\n  ScanInPort SI; ScanOutPort SO { Source R[0]; }\n  ScanInterface client { Port SI; Port SO; }\n  DataInPort d; DataOutPort s { Source R[0]; }\n  ScanRegister R[1:0] { ScanInSource SI; CaptureSource d, R[0]; ResetValue 2'b00; }\n}\nModule chip {\n  Instance net Of Cell { InputPort d = cnt.done; }\n  Instance cnt Of Counter { InputPort start = net.s; }\n  AccessLink tap Of STD_1149_1_2001 {\n    BSDLEntity chip; IJTAG { ScanInterface { net.client; } }\n  }\n}\n";
+
+/// The procedure that waits for the counter.
+pub const COUNTER_PDL: &[u8] =
+    b"iProcsForModule chip\niProc p {} {\n  iWrite cnt.start 1\n  iApply\n  iRunLoop 100\n  iRead cnt.done 1\n  iApply\n}\n";
+
+/// What the counter does.
+pub const COUNTER_TABLES: &[u8] =
+    b"tables 1\ninstrument cnt\nin start 1\nword n 8 init 0 reset 0\nword go 1 init 0 reset 0\nword fin 1 init 0 reset 0\nout done = fin\nchange when old start = 0, start = 1 do go = 1, n = 0, fin = 0\nrun when go = 1, n = 99 do go = 0, fin = 1, n = 100\nrun when go = 1 do n = n + 1\nend\n";
+
+/// The files of the counter.
+pub fn shelf_of_counter(alloc: Global) -> Result<MemShelf, AllocError> {
+    let mut shelf = MemShelf::new(alloc);
+    for (name, text) in [
+        ("a.icl", COUNTER_ICL),
+        ("a.pdl", COUNTER_PDL),
+        ("a.dev", DEVICE),
+        ("a.tab", COUNTER_TABLES),
+    ] {
+        if shelf.put_file(name, text).is_err() {
+            return Err(AllocError);
+        }
+    }
+    Ok(shelf)
+}
+
+pub fn direct_words(alloc: Global) -> Result<Vec<String>, AllocError> {
+    words(
+        alloc,
+        &["direct", "a.icl", "a.pdl", "a.dev", "a.tab", "chip", "p"],
+    )
+}
+
+pub fn migrate_words(alloc: Global) -> Result<Vec<String>, AllocError> {
+    words(alloc, &["migrate", "a.tab", "b.tab"])
+}

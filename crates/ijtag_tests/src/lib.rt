@@ -4,6 +4,10 @@
 #[cfg(test)]
 mod examples;
 #[cfg(test)]
+mod meanings;
+#[cfg(test)]
+mod migrations;
+#[cfg(test)]
 mod program_runs;
 #[cfg(test)]
 mod refusals;

@@ -91,7 +91,10 @@ fn no_words_and_a_missing_file(rt: HostRuntime) -> Result<(), Fail> {
     let mut err = MemSink::new(alloc);
     let status = ijtag(alloc, &Vec::new(alloc), &mut shelf, &mut out, &mut err);
     assert_eq!(rt; status.code(), 2);
-    assert_eq!(rt; err.bytes(), b"usage: ijtag compile|play\n".as_slice());
+    assert_eq!(rt;
+        err.bytes(),
+        b"usage: ijtag compile|play|direct|migrate\n".as_slice()
+    );
     let status = ijtag(
         alloc,
         &compile_words(alloc)?,
@@ -102,7 +105,7 @@ fn no_words_and_a_missing_file(rt: HostRuntime) -> Result<(), Fail> {
     assert_eq!(rt; status.code(), 4);
     assert_eq!(rt;
         err.bytes(),
-        b"usage: ijtag compile|play\nread fault a.icl\n".as_slice()
+        b"usage: ijtag compile|play|direct|migrate\nread fault a.icl\n".as_slice()
     );
     Ok(())
 }

@@ -1,38 +1,30 @@
 // The command `compile`.
-ghost use Rattle.std.specs.Prelude.{◌≡◌, ◌<◌, ◌≤◌, ◌^◌, [], ◌∷◌, None, length, OnOk, OnErr, IfOk, IfErr};
-ghost use Rattle.bit_steps.specs.BitSteps.{bit_steps};
+ghost use Rattle.std.specs.Prelude.{◌≡◌, ◌≤◌, [], ◌∷◌, length, OnOk, OnErr, IfOk, IfErr};
 ghost use Rattle.icl_frames.specs.Written.{AreWritten};
 ghost use Rattle.icl_syntax.specs.Views.{seen_design};
 ghost use Rattle.ij_io.specs.Files.{file_at};
-ghost use Rattle.ij_text.specs.Numbering.{AreDistinct};
 ghost use Rattle.net_graph.specs.Devices.{IsDevice};
-ghost use Rattle.net_graph.specs.Nets.{IsNet};
-ghost use Rattle.pdl_parser.specs.Grammar.{full_names};
-ghost use Rattle.pdl_parser.specs.Views.{seen_procs};
 ghost use Rattle.ijtag_stages.specs.Follows.{Follows};
-ghost use Rattle.ijtag_stages.specs.Seen.{seen_network};
 ghost use Rattle.ijtag_core.specs.Command.{Compiles, compile_loads, names_of};
 ghost use Rattle.ijtag_core.specs.Follows.{AreTexts, seen_texts};
 ghost use Rattle.ijtag_core.specs.Headline.{IsRetargeted};
-ghost use Rattle.ijtag_core.specs.Order.{accepted, compiled_procedure, followed, written_text, work};
+ghost use Rattle.ijtag_core.specs.Order.{accepted, compiled_procedure, written_text, work};
 ghost use Rattle.ijtag_core.specs.Runs.{IsDone, IsPartDone, IsStop, OnlyTheseChange, OnlyTheseRise, counts, seen};
 ghost use Rattle.ijtag_core.specs.Seen.{IsCompilable, seen_compilable, seen_compile, seen_stop, differing};
 ghost use Rattle.ijtag_core.specs.Stops.{IsEarly};
 
+use crate::follow::{follow, steps_again};
 use crate::load::load_all;
 use crate::status::Verdict;
 use crate::stop::Stop;
 use crate::words::CompileWords;
 use crate::write::write_file;
-use bit_steps::{BitSteps, bit_steps_are_bound, bit_steps_are_few};
+use bit_steps::{bit_steps_are_bound, bit_steps_are_few};
 use group_scans::procedures_are_plannable;
 use icl_syntax::Design;
 use ij_bits::OutOfMemory;
 use ij_io::{Shelf, Sink, StoreFault, SureSink};
-use ijtag_stages::{
-    Network, StageFault, check_procedure, check_unmerged, read_device, read_icl, read_network,
-    read_pdl,
-};
+use ijtag_stages::{Network, StageFault, read_device, read_icl, read_network, read_pdl};
 use net_graph::Device;
 use pdl_parser::Procs;
 use retargeter::put_svf;
@@ -47,20 +39,6 @@ pub(crate) struct Compilable {
     pub device: Device,
     /// The procedures of the PDL text.
     pub procs: Procs,
-}
-
-/// Follows a procedure to its end, in a text without iMerge.
-#[tactic(auto, unfolding(crate::specs::Order::followed))]
-fn follow(alloc: Global, procs: &Procs, network: &Network, name: &str) -> Result<(), StageFault>
-    requires net { IsNet network.now.net }
-    requires distinct { AreDistinct (full_names (seen_procs procs.now)) }
-    requires few { length procs.now.procs.items < 2 ^ 32 }
-    ensures follows { Follows (followed (seen_procs procs.now) (seen_network network.now) name.now) (λ _. (bit_steps (seen_procs procs.now) network.now.net network.now.form name.now).steps) result }
-    ensures ends { OnOk result ((bit_steps (seen_procs procs.now) network.now.net network.now.form name.now).fault ≡ None) }
-{
-    check_procedure(alloc, procs, network, name)?;
-    check_unmerged(alloc, procs)?;
-    Ok(())
 }
 
 /// What is compiled, where the design and the device are known: the network, and procedures of which the one of the words comes to its end.
@@ -124,28 +102,6 @@ fn accept(
     accept_three(alloc, words, icl, pdl, device)
 }
 
-/// The bit steps of the procedure once more, one at each call. They were followed to their end before.
-#[tactic(auto, unfolding(crate::specs::Seen::IsCompilable))]
-fn steps_again<'a>(
-    alloc: Global,
-    it: &'a Compilable,
-    procedure: &str,
-) -> Result<BitSteps<'a>, OutOfMemory>
-    requires { IsCompilable procedure.now it.now }
-    ensures { IfOk result (λ steps. steps ≡ bit_steps (seen_procs it.now.procs) it.now.network.net it.now.network.form procedure.now) }
-{
-    match BitSteps::new(
-        alloc,
-        it.procs.procs.as_slice(),
-        &it.network.net,
-        &it.network.form,
-        procedure.as_bytes(),
-    ) {
-        Ok(steps) => Ok(steps),
-        Err(_) => Err(OutOfMemory),
-    }
-}
-
 /// The SVF text of a procedure, whole.
 #[tactic(auto, unfolding(crate::specs::Order::written_text, crate::specs::Seen::IsCompilable))]
 fn make_svf(alloc: Global, it: &Compilable, procedure: &str) -> Result<SureSink, OutOfMemory>
@@ -156,7 +112,7 @@ fn make_svf(alloc: Global, it: &Compilable, procedure: &str) -> Result<SureSink,
     bit_steps_are_few();
     procedures_are_plannable();
     let mut svf = SureSink::new(alloc);
-    let mut steps = steps_again(alloc, it, procedure)?;
+    let mut steps = steps_again(alloc, &it.procs, &it.network, procedure)?;
     match put_svf(
         alloc,
         &it.network.net,

@@ -1,12 +1,12 @@
-use Rattle.std.proofs.Common.{◌≡◌, rules, sym, subst, ℕ, List, Option}
+use Rattle.std.proofs.Common.{◌≡◌, inl, refl, rules, sym, subst, ℕ, List, Option}
 use Rattle.ij_io.specs.Causes.{Rose}
 use Rattle.ij_io.specs.Files.{Files}
-use Rattle.ijtag_core.specs.Command.{Compile, Load, compile_loads}
+use Rattle.ijtag_core.specs.Command.{Compile, Compiles, Load, compile_loads}
 use Rattle.ijtag_core.specs.Follows.{seen_texts}
 use Rattle.ijtag_core.specs.Order.{SeenCompilable, loaded, accepted, written_text}
 use Rattle.ijtag_core.specs.Runs.{counts}
 use Rattle.ijtag_core.specs.Seen.{seen_compile, seen_compilable}
-use Rattle.ijtag_core.proofs.Ends.{IsMade, compile_done, compile_part, compile_fault, retargeted, written_now, part_now}
+use Rattle.ijtag_core.proofs.Ends.{IsMade, compile_given, file_done, file_part, file_fault, retargeted, written_now, part_now}
 use Rattle.ijtag_core.proofs.commands.compile.compile.Goals as goal
 
 pub returns-in-Ok-clause-done : goal.returns-in-Ok-clause-done
@@ -23,7 +23,7 @@ returns-in-Ok-clause-done g c =
     let written : (written_text it).gives bytes = subst (λ (b : List ℕ). (written_text it).gives b) (sym c.bytes.ensures) c.in_ok-svf.ensures in
     let m : IsMade files words bytes = record { texts = texts; it = it; read = read; accepted_so = is; written = written } in
     let same : mid ≡ files = c.in_ok-texts.ensures.files in
-    compile_done files new (g.O.Sink.taken c.args._out.now) words bytes m (written_now files mid new words.svf bytes same c.in-Ok.ensures.whole)
+    file_done files new (g.O.Sink.taken c.args._out.now) (Compiles words) words.svf bytes (compile_given files words bytes m) (written_now files mid new words.svf bytes same c.in-Ok.ensures.whole)
 
 pub returns-in-Ok-clause-headline : goal.returns-in-Ok-clause-headline
 returns-in-Ok-clause-headline g c =
@@ -58,7 +58,7 @@ returns-in-Err-Failed-clause-stop g c =
     let name : List ℕ = words.svf in
     let now : ℕ = g.S.Shelf.store_faults c.write_file.new.shelf name in
     let rose : Rose (g.S.Shelf.store_faults c.load_all.new.shelf name) now = c.write_file.ensures.cause.failed (search rules) in
-    compile_fault files words (counts g.S.Shelf.load_faults g.S.Shelf.store_faults g.O.Sink.faults c.args.shelf.now c.write_file.new.shelf c.args._out.now c.args._out.now) bytes m
+    file_fault files (Compiles words) (counts g.S.Shelf.load_faults g.S.Shelf.store_faults g.O.Sink.faults c.args.shelf.now c.write_file.new.shelf c.args._out.now c.args._out.now) words.svf bytes (compile_given files words bytes m) (inl refl)
     (subst (λ (before : ℕ). Rose before now) (c.in_ok-texts.ensures.stores name) rose)
 
 pub returns-in-Err-Failed-clause-part : goal.returns-in-Err-Failed-clause-part
@@ -75,7 +75,7 @@ returns-in-Err-Failed-clause-part g c =
     let written : (written_text it).gives bytes = subst (λ (b : List ℕ). (written_text it).gives b) (sym c.bytes.ensures) c.in_ok-svf.ensures in
     let m : IsMade files words bytes = record { texts = texts; it = it; read = read; accepted_so = is; written = written } in
     let same : mid ≡ files = c.in_ok-texts.ensures.files in
-    compile_part files new (g.O.Sink.taken c.args._out.now) words bytes m (part_now files mid new words.svf bytes same c.in-Err-Failed.ensures.part)
+    file_part files new (g.O.Sink.taken c.args._out.now) (Compiles words) words.svf bytes (compile_given files words bytes m) (part_now files mid new words.svf bytes same c.in-Err-Failed.ensures.part)
 
 pub returns-clause-part : goal.returns-clause-part
 returns-clause-part g c =
@@ -91,4 +91,4 @@ returns-clause-part g c =
     let written : (written_text it).gives bytes = subst (λ (b : List ℕ). (written_text it).gives b) (sym c.bytes.ensures) c.in_ok-svf.ensures in
     let m : IsMade files words bytes = record { texts = texts; it = it; read = read; accepted_so = is; written = written } in
     let same : mid ≡ files = c.in_ok-texts.ensures.files in
-    compile_part files new (g.O.Sink.taken c.args._out.now) words bytes m (part_now files mid new words.svf bytes same c.in-Err-OutOfMemory.ensures.part)
+    file_part files new (g.O.Sink.taken c.args._out.now) (Compiles words) words.svf bytes (compile_given files words bytes m) (part_now files mid new words.svf bytes same c.in-Err-OutOfMemory.ensures.part)

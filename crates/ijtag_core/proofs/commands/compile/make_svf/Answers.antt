@@ -1,4 +1,4 @@
-use Rattle.std.proofs.Common.{List, sym, subst}
+use Rattle.std.proofs.Common.{sym, subst}
 use Rattle.std.specs.Prelude.{All}
 use Rattle.bit_steps.specs.BitSteps.{BitStepsOf}
 use Rattle.group_scans.specs.Rounds.{StepIsPlannable}

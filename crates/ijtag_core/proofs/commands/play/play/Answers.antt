@@ -1,12 +1,12 @@
-use Rattle.std.proofs.Common.{rules, sym, subst, ℕ, List, Option}
+use Rattle.std.proofs.Common.{refl, rules, sym, subst, ℕ, List, Option}
 use Rattle.ij_io.specs.Causes.{Rose}
 use Rattle.ij_io.specs.Files.{Files}
 use Rattle.ijtag_core.specs.Command.{Play, Plays, Load, play_loads}
 use Rattle.ijtag_core.specs.Follows.{seen_texts}
-use Rattle.ijtag_core.specs.Order.{SeenPlayable, loaded, playable, work}
+use Rattle.ijtag_core.specs.Order.{SeenPlayable, loaded, playable, report_of, any_differs, differs_at, work}
 use Rattle.ijtag_core.specs.Runs.{IsDone, IsPartDone, counts}
 use Rattle.ijtag_core.specs.Seen.{seen_play, seen_playable, differing}
-use Rattle.ijtag_core.proofs.Ends.{play_done, play_part, play_fault}
+use Rattle.ijtag_core.proofs.Ends.{play_given, told_done, told_part, told_fault}
 use Rattle.ijtag_core.proofs.commands.play.play.Goals as goal
 
 pub returns-in-Ok-clause-done : goal.returns-in-Ok-clause-done
@@ -20,7 +20,7 @@ returns-in-Ok-clause-done g c =
     let old : Option (List ℕ) = g.O.Sink.taken c.args.out.now in
     let new : Option (List ℕ) = g.O.Sink.taken c.put_report.new.out in
     subst (λ (fs : Option Files). IsDone (work files (Plays words)) (record { files = files; printed = old }) (record { files = fs; printed = new }) (differing c.in-Ok.verdict)) (sym c.in_ok-texts.ensures.files)
-    (play_done files old new words texts it (differing c.in-Ok.verdict) read is c.in-Ok.ensures.printed c.in-Ok.ensures.verdict)
+    (told_done files old new (Plays words) (report_of it) (any_differs (differs_at it)) (differing c.in-Ok.verdict) (play_given files words texts it read is) c.in-Ok.ensures.printed c.in-Ok.ensures.verdict)
 
 pub returns-in-Err-Failed-clause-stop : goal.returns-in-Err-Failed-clause-stop
 returns-in-Err-Failed-clause-stop g c =
@@ -33,7 +33,7 @@ returns-in-Err-Failed-clause-stop g c =
     let old : Option (List ℕ) = g.O.Sink.taken c.args.out.now in
     let new : Option (List ℕ) = g.O.Sink.taken c.put_report.new.out in
     let rose : Rose (g.O.Sink.faults c.args.out.now) (g.O.Sink.faults c.put_report.new.out) = c.put_report.ensures.cause.failed (search rules) in
-    play_fault files words (counts g.S.Shelf.load_faults g.S.Shelf.store_faults g.O.Sink.faults c.args.shelf.now c.load_all.new.shelf c.args.out.now c.put_report.new.out) texts it read is rose
+    told_fault files (Plays words) (counts g.S.Shelf.load_faults g.S.Shelf.store_faults g.O.Sink.faults c.args.shelf.now c.load_all.new.shelf c.args.out.now c.put_report.new.out) (report_of it) (any_differs (differs_at it)) (play_given files words texts it read is) refl rose
 
 pub returns-in-Err-Failed-clause-part : goal.returns-in-Err-Failed-clause-part
 returns-in-Err-Failed-clause-part g c =
@@ -46,7 +46,7 @@ returns-in-Err-Failed-clause-part g c =
     let old : Option (List ℕ) = g.O.Sink.taken c.args.out.now in
     let new : Option (List ℕ) = g.O.Sink.taken c.put_report.new.out in
     subst (λ (fs : Option Files). IsPartDone (work files (Plays words)) (record { files = files; printed = old }) (record { files = fs; printed = new })) (sym c.in_ok-texts.ensures.files)
-    (play_part files old new words texts it read is c.in-Err-Failed.ensures.part)
+    (told_part files old new (Plays words) (report_of it) (any_differs (differs_at it)) (play_given files words texts it read is) c.in-Err-Failed.ensures.part)
 
 pub returns-clause-part : goal.returns-clause-part
 returns-clause-part g c =
@@ -59,4 +59,4 @@ returns-clause-part g c =
     let old : Option (List ℕ) = g.O.Sink.taken c.args.out.now in
     let new : Option (List ℕ) = g.O.Sink.taken c.put_report.new.out in
     subst (λ (fs : Option Files). IsPartDone (work files (Plays words)) (record { files = files; printed = old }) (record { files = fs; printed = new })) (sym c.in_ok-texts.ensures.files)
-    (play_part files old new words texts it read is c.in-Err-OutOfMemory.ensures.part)
+    (told_part files old new (Plays words) (report_of it) (any_differs (differs_at it)) (play_given files words texts it read is) c.in-Err-OutOfMemory.ensures.part)

@@ -1,4 +1,4 @@
-use Rattle.std.proofs.Common.{ℕ, List, Option, map, subst}
+use Rattle.std.proofs.Common.{List, map, subst}
 use Rattle.ij_io.specs.Bytes.{Adds}
 use Rattle.bench_report.specs.Report.{play_report}
 use Rattle.instruments.specs.Seen.{seen_model}
