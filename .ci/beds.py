@@ -3,7 +3,7 @@
 
 Of both beds, all runs of the built commands are compared in their last form, byte for byte. A run that compiles or does a text with iMerge may be
 refused as `core Merge`, as long as that isn't built, and one play of 1,000,000,000 clocks is left out for its time. Cases of words that are no
-command stand for the built commands alone."""
+command are told the usage line of the built commands."""
 import concurrent.futures
 import gzip
 import importlib.util
@@ -12,6 +12,7 @@ import os
 import sys
 
 BUILT = ('compile', 'play', 'direct', 'migrate')
+USAGE = f'usage: ijtag {"|".join(BUILT)}\n'
 program, shared = os.path.abspath(sys.argv[1]), sys.argv[2]
 
 
@@ -33,6 +34,8 @@ def rows():
         texts = ''.join(open(os.path.join(bed.HERE, 'cases', name, it)).read() for it in case['words'] if it.endswith('.pdl') and os.path.exists(os.path.join(bed.HERE, 'cases', name, it)))
         if not bed.holds(case, 'headline' if is_built(case['words']) and case['status'] != 2 else 'nest') or 'iMerge' in texts:
             continue
+        if case['status'] == 2:
+            case['err'] = USAGE
         wrong = bed.run(name, case, [program], 120)
         failed += [f'{name}: {it}' for it in wrong]
         passed += not wrong
