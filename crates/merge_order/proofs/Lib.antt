@@ -3,3 +3,11 @@ pub mod Alone
 pub mod Joins
 pub mod Turning
 pub mod Refusing
+pub mod Kept
+pub mod OfNetwork
+pub mod OnePath
+pub mod Fewer
+pub mod FedKept
+pub mod FedFewer
+pub mod Unmerged
+pub mod Whole

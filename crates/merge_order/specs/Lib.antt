@@ -1,5 +1,6 @@
 pub mod Merge
 pub mod Feeding
+pub mod AllSteps
 pub mod Laws
 pub mod SeenJoins
 pub mod SeenTurns

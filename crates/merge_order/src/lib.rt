@@ -12,5 +12,8 @@ mod turns;
 
 pub use fault::FeedFault;
 pub use feeder::Feeder;
-pub use laws::merges_of_one_branch;
+pub use laws::{
+    fed_steps_are_few, fed_steps_are_of_the_network, merges_are_few, merges_are_of_the_network,
+    merges_do_their_branches, merges_of_one_branch, steps_without_merges_are_bound,
+};
 pub use turns::merged;
