@@ -1,0 +1,5 @@
+//! Tests of what procedures mean to instruments, by the program's commands on files in memory.
+#![tactic(auto)]
+
+#[cfg(test)]
+mod memories;
