@@ -21,3 +21,4 @@ pub mod Needing
 pub mod PlanSteps
 pub mod Depth
 pub mod RowOpening
+pub mod Again

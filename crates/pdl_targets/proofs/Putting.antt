@@ -32,7 +32,7 @@ put_none p (v ∷ vs) x f =
     ap (λ b. cond b (x ∷ vs) (v ∷ put p vs x)) (f 0 (omega arith))
     ∙ ap (λ l. v ∷ l) (put_none p vs x (λ k l. f (suc k) (omega (arith, l))))
 
-no_position : {A : Type 0} (p : A → Bool) (xs : List A) → None ≡ position p xs → length xs ≤ position_or_len p xs
+pub no_position : {A : Type 0} (p : A → Bool) (xs : List A) → None ≡ position p xs → length xs ≤ position_or_len p xs
 no_position p xs e = by_test (nat_lt (position_or_len p xs) (length xs)) refl e
   where
     by_test : (t : Bool) → nat_lt (position_or_len p xs) (length xs) ≡ t → None ≡ cond t (Some (position_or_len p xs)) None → length xs ≤ position_or_len p xs

@@ -1,11 +1,11 @@
 -- A binder, as contracts see it.
-use Rattle.std.specs.Prelude.{Option}
-use Rattle.std.specs.Option.{IfSome}
+use Rattle.std.specs.Prelude.{Option, None, Some}
 use Rattle.net_graph.specs.declared.net.Net.{Net}
 use Rattle.net_tree.specs.Form.{Items}
-use Rattle.pdl_targets.specs.declared.index.Index.{Index}
-use Rattle.pdl_targets.specs.Binding.{Queue}
+use Rattle.pdl_targets.specs.declared.binder.Made.{Made}
+use Rattle.pdl_targets.specs.Binding.{Queue, empty}
 use Rattle.pdl_targets.specs.Index.{IsIndex}
+use Rattle.pdl_targets.specs.SeenGathered.{IsKept, seen_gathered}
 
 -- the network, its nested form, and what came since the last iApply
 pub record ABinder : Type 0 where
@@ -13,6 +13,12 @@ pub record ABinder : Type 0 where
   pub form : Items
   pub queue : Queue
 
--- an index that is made is one of the network
-abbrev pub IsMade : Net → Option Index → Type 0
-IsMade net index = IfSome index (IsIndex net)
+-- what is made at the first step is an index of the network, and marks of the queue
+pub record IsMade (net : Net) (made : Made) : Type 0 where
+  pub index : IsIndex net made.index
+  pub kept : IsKept net made.gathered
+
+-- the queue, which is empty before the first step
+abbrev pub queue_in : Option Made → Queue
+queue_in None = empty
+queue_in (Some made) = seen_gathered made.gathered

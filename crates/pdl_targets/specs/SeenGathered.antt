@@ -1,11 +1,13 @@
 -- What was gathered, as the definitions see it.
 use Rattle.std.specs.Prelude.{◌≡◌, ◌≤◌, ◌+◌, ℕ, [], Option, None, Result, Ok, Err}
 use Rattle.std.specs.Option.{option_map}
+use Rattle.net_graph.specs.declared.net.Net.{Net}
 use Rattle.net_graph.specs.declared.step.BitStep.{BitStep}
 use Rattle.net_graph.specs.SeenSteps.{seen_step}
 use Rattle.pdl_targets.specs.declared.fault.TargetFault.{TargetFault}
 use Rattle.pdl_targets.specs.declared.gather.Gathered.{Gathered}
 use Rattle.pdl_targets.specs.Binding.{Answer, Queue}
+use Rattle.pdl_targets.specs.Marked.{AreNumbered, bits_compared, bits_written, first_bits}
 use Rattle.pdl_targets.specs.Seen.{Refuses}
 use Rattle.pdl_targets.specs.Targets.{Found, Is}
 
@@ -16,6 +18,13 @@ seen_gathered g = record { writes = g.writes.items; reads = g.reads.items; regis
 pub record IsLimited (g : Gathered) : Type 0 where
   pub rounds : g.rounds ≤ 4096
   pub cycles : g.cycles ≤ 4000000
+
+-- the marks say where the bits and the registers of the queue stand, and the limits are kept
+pub record IsKept (net : Net) (g : Gathered) : Type 0 where
+  pub limited : IsLimited g
+  pub writes : AreNumbered net g.write_marks (bits_written g.writes.items)
+  pub reads : AreNumbered net g.read_marks (bits_compared g.reads.items)
+  pub registers : AreNumbered net g.register_marks (first_bits g.registers.items)
 
 -- a queue behind an iApply of so many rounds
 abbrev pub applied_queue : Queue → ℕ → Queue

@@ -8,14 +8,17 @@ ghost use Rattle.pdl_parser.specs.Views.{seen_target, seen_value};
 ghost use Rattle.pdl_targets.specs.Binding.{empty, feed, finish, with_reads, with_writes, nothing_done};
 ghost use Rattle.pdl_targets.specs.Index.{IsIndex};
 ghost use Rattle.pdl_targets.specs.Seen.{Finishes, Refuses};
-ghost use Rattle.pdl_targets.specs.SeenGathered.{Binds, IsLimited, seen_gathered};
+ghost use Rattle.pdl_targets.specs.SeenBinder.{IsMade};
+ghost use Rattle.pdl_targets.specs.SeenGathered.{Binds, IsKept, seen_gathered};
 ghost use Rattle.pdl_targets.specs.SeenPlaces.{places_in};
 ghost use Rattle.pdl_targets.specs.Targets.{Is, found_then, read_bits, write_bits};
 
 use crate::fault::TargetFault;
 use crate::gather::Gathered;
 use crate::index::{Index, index_of};
+use crate::laws::bits_are_of_the_network;
 use crate::naming::{read_bits, write_bits};
+use ij_bits::OutOfMemory;
 use ij_text::Place;
 use net_graph::{BitStep, Net};
 use net_tree::Tree;
@@ -37,13 +40,14 @@ fn write(
 ) -> Result<Option<BitStep>, TargetFault>
     requires net { IsNet net.now }
     requires index { IsIndex net.now index.now }
-    requires limited { IsLimited gathered.old }
+    requires kept { IsKept net.now gathered.old }
     ensures answer { Binds (found_then (write_bits net.now at node (seen_target target.now) (seen_value value.now)) (λ ws. nothing_done (with_writes (seen_gathered gathered.old) at ws))) (seen_gathered gathered.new) result }
     ensures stays { OnErr result (seen_gathered gathered.new ≡ seen_gathered gathered.old) }
-    ensures limited { IsLimited gathered.new }
+    ensures kept { IsKept net.now gathered.new }
 {
+    bits_are_of_the_network();
     let writes = write_bits(alloc, net, index, at, node, target, value)?;
-    gathered.write(at, writes.as_slice())?;
+    gathered.write(net, at, writes.as_slice())?;
     Ok(None)
 }
 
@@ -61,14 +65,15 @@ fn read(
     requires net { IsNet net.now }
     requires index { IsIndex net.now index.now }
     requires few { gathered.old.asked + 1 < 2 ^ 32 }
-    requires limited { IsLimited gathered.old }
+    requires kept { IsKept net.now gathered.old }
     ensures answer { Binds (found_then (read_bits net.now at node (gathered.old.asked + 1) (seen_target target.now) (option_map seen_value value.now)) (λ rs. nothing_done (with_reads (seen_gathered gathered.old) at rs))) (seen_gathered gathered.new) result }
     ensures stays { OnErr result (seen_gathered gathered.new ≡ seen_gathered gathered.old) }
-    ensures limited { IsLimited gathered.new }
+    ensures kept { IsKept net.now gathered.new }
 {
+    bits_are_of_the_network();
     let number = gathered.asked + 1;
     let reads = read_bits(alloc, net, index, at, node, number, target, value)?;
-    gathered.read(at, reads.as_slice())?;
+    gathered.read(net, at, reads.as_slice())?;
     Ok(None)
 }
 
@@ -84,10 +89,10 @@ fn bind(
     requires net { IsNet net.now }
     requires index { IsIndex net.now index.now }
     requires few { gathered.old.asked + 1 < 2 ^ 32 }
-    requires limited { IsLimited gathered.old }
+    requires kept { IsKept net.now gathered.old }
     ensures answer { Binds (feed net.now (places_in tree.now) (seen_gathered gathered.old) (seen_step step.now)) (seen_gathered gathered.new) result }
     ensures stays { OnErr result (seen_gathered gathered.new ≡ seen_gathered gathered.old) }
-    ensures limited { IsLimited gathered.new }
+    ensures kept { IsKept net.now gathered.new }
 {
     let at = step.at;
     let node = step.node;
@@ -103,6 +108,25 @@ fn bind(
     }
 }
 
+/// What a binder has from its first step on.
+#[derive(Drop)]
+pub(crate) struct Made {
+    pub index: Index,
+    pub gathered: Gathered,
+}
+
+/// The index of a network, and nothing gathered yet.
+fn made_for(alloc: Global, net: &Net) -> Result<Made, OutOfMemory>
+    requires { IsNet net.now }
+    ensures made { IfOk result (IsMade net.now) }
+    ensures empty { IfOk result (λ m. seen_gathered m.gathered ≡ empty) }
+{
+    Ok(Made {
+        index: index_of(alloc, net)?,
+        gathered: Gathered::new(alloc, net)?,
+    })
+}
+
 /// Binds the steps of a procedure to single register bits (IEEE 1687-2014, PDL level 0: iWrite, iRead, iApply, iRunLoop,
 /// iReset).
 ///
@@ -113,24 +137,23 @@ pub struct Binder<'a> {
     net: &'a Net,
     tree: &'a Tree,
     /// Made at the first step.
-    index: Option<Index>,
-    gathered: Gathered,
+    made: Option<Made>,
 }
 
 impl<'a> Model for Binder<'a> {
+    ghost use Rattle.std.specs.Option.{IfSome};
     ghost use Rattle.std.specs.Coded.{codes};
     ghost use Rattle.net_graph.specs.Nets.{IsNet};
     ghost use Rattle.net_tree.specs.FormCode.{form_code};
-    ghost use Rattle.pdl_targets.specs.SeenBinder.{ABinder, IsMade};
-    ghost use Rattle.pdl_targets.specs.SeenGathered.{seen_gathered, IsLimited};
+    ghost use Rattle.pdl_targets.specs.SeenBinder.{ABinder, IsMade, queue_in};
 
     ghost Value = { ABinder };
 
     ghost coded = { Prim.hlevel (codes, form_code) };
 
-    ghost view = { λ b. record { net = b.net.now; form = b.tree.now; queue = seen_gathered b.gathered } };
+    ghost view = { λ b. record { net = b.net.now; form = b.tree.now; queue = queue_in b.made } };
 
-    ghost invariant = { λ b. IsNet b.net.now × IsMade b.net.now b.index × IsLimited b.gathered };
+    ghost invariant = { λ b. IsNet b.net.now × IfSome b.made (IsMade b.net.now) };
 }
 
 impl<'a> Binder<'a> {
@@ -144,8 +167,7 @@ impl<'a> Binder<'a> {
             alloc,
             net,
             tree,
-            index: None,
-            gathered: Gathered::new(alloc),
+            made: None,
         }
     }
 
@@ -168,19 +190,19 @@ impl<'a> Binder<'a> {
         ensures net { self.new.net ≡ self.old.net }
         ensures form { self.new.form ≡ self.old.form }
     {
-        let index = match self.index.take() {
-            Some(index) => index,
-            None => index_of(self.alloc, self.net)?,
+        let mut made = match self.made.take() {
+            Some(made) => made,
+            None => made_for(self.alloc, self.net)?,
         };
         let answer = bind(
             self.alloc,
             self.net,
             self.tree,
-            &index,
-            &mut self.gathered,
+            &made.index,
+            &mut made.gathered,
             step,
         );
-        self.index = Some(index);
+        self.made = Some(made);
         answer
     }
 
@@ -192,6 +214,9 @@ impl<'a> Binder<'a> {
     pub fn finish(&self) -> Result<(), TargetFault>
         ensures { Finishes (finish self.now.queue) result }
     {
-        self.gathered.finish()
+        match &self.made {
+            Some(made) => made.gathered.finish(),
+            None => Ok(()),
+        }
     }
 }

@@ -1,20 +1,23 @@
 // What was gathered since the last iApply, and what a step makes of it.
-ghost use Rattle.std.specs.Prelude.{◌≡◌, ◌<◌, ◌≤◌, ◌+◌, ◌^◌, length, map, OnOk, OnErr};
+ghost use Rattle.std.specs.Prelude.{◌≡◌, ◌<◌, ◌≤◌, ◌+◌, ◌^◌, length, map, All, IfOk, OnOk, OnErr};
 ghost use Rattle.std.specs.Option.{option_map};
+ghost use Rattle.net_graph.specs.declared.net.Net.{Net as ANet};
+ghost use Rattle.net_graph.specs.Named.{IsBitOf};
 ghost use Rattle.net_graph.specs.SeenSteps.{seen_group, seen_step};
 ghost use Rattle.pdl_parser.specs.Views.{seen_value};
 ghost use Rattle.pdl_targets.specs.Binding.{applied, apply, empty, finish, first_of, run, run_of, run_value, with_reads, with_writes};
 ghost use Rattle.pdl_targets.specs.Rounds.{groups};
 ghost use Rattle.pdl_targets.specs.Seen.{Finishes};
-ghost use Rattle.pdl_targets.specs.SeenGathered.{Binds, IsLimited, applied_queue, seen_gathered};
+ghost use Rattle.pdl_targets.specs.SeenGathered.{Binds, IsKept, IsLimited, applied_queue, seen_gathered};
 ghost use Rattle.pdl_targets.specs.SeenPlaces.{places_in};
 
 use crate::fault::TargetFault;
 use crate::queue::{mention_read, mention_written, put_reads, put_writes};
 use crate::rounds::groups;
+use bit_marks::{BitMarks, marks_law};
 use ij_bits::{List, OutOfMemory};
 use ij_text::{Number, Place, Which};
-use net_graph::{BitStep, Group, ReadBit, WriteBit};
+use net_graph::{BitStep, Group, Net, ReadBit, WriteBit};
 use net_tree::Tree;
 use pdl_parser::Value;
 use std::alloc::Global;
@@ -28,6 +31,12 @@ pub(crate) struct Gathered {
     pub reads: List<ReadBit>,
     /// The registers of both, in the order of their first mention.
     pub registers: List<u32>,
+    /// Where the write of a bit stands.
+    pub write_marks: BitMarks,
+    /// Where the read of a bit stands.
+    pub read_marks: BitMarks,
+    /// Where a register stands.
+    pub register_marks: BitMarks,
     /// The place of the first iWrite or iRead.
     pub pending: Option<Place>,
     /// How many iReads there were.
@@ -70,45 +79,68 @@ fn first_of(first: Option<Place>, at: Place) -> Option<Place>
     }
 }
 
+/// Makes room for so many more, of fewer than 2^32 in all.
+fn room_for<T: Drop>(list: &mut List<T>, more: usize) -> Result<(), OutOfMemory>
+    ensures items { list.new.items ≡ list.old.items }
+    ensures room { OnOk result (more ≤ list.new.spare) }
+    ensures few { OnOk result (length list.old.items + more < 2 ^ 32) }
+{
+    if list.len() >= 0x7fff_ffff || more >= 0x7fff_ffff {
+        return Err(OutOfMemory);
+    }
+    list.reserve(more)
+}
+
 impl Gathered {
-    /// Nothing yet. Takes no memory.
-    pub fn new(alloc: Global) -> Self
-        ensures { seen_gathered result ≡ empty }
+    /// Nothing yet.
+    pub fn new(alloc: Global, net: &Net) -> Result<Self, OutOfMemory>
+        ensures empty { IfOk result (λ g. seen_gathered g ≡ empty) }
+        ensures kept { IfOk result (IsKept net.now) }
     {
-        Gathered {
+        marks_law();
+        Ok(Gathered {
             writes: List::new(alloc),
             reads: List::new(alloc),
             registers: List::new(alloc),
+            write_marks: BitMarks::zeros(alloc, net)?,
+            read_marks: BitMarks::zeros(alloc, net)?,
+            register_marks: BitMarks::zeros(alloc, net)?,
             pending: None,
             asked: 0,
             rounds: 0,
             cycles: 0,
-        }
+        })
     }
 
     /// Takes in the writes of a step. After want of memory all is as before.
-    pub fn write(&mut self, at: Place, writes: &[WriteBit]) -> Result<(), OutOfMemory>
+    pub fn write(&mut self, net: &Net, at: Place, writes: &[WriteBit]) -> Result<(), OutOfMemory>
+        requires kept { IsKept net.now self.old }
+        requires bits { All (λ w. IsBitOf net.now w.bit) writes.now }
         ensures ok { OnOk result (seen_gathered self.new ≡ with_writes (seen_gathered self.old) at writes.now) }
         ensures err { OnErr result (seen_gathered self.new ≡ seen_gathered self.old) }
+        ensures kept { IsKept net.now self.new }
     {
-        self.writes.reserve(writes.len())?;
-        self.registers.reserve(writes.len())?;
-        put_writes(&mut self.writes, writes);
-        mention_written(&mut self.registers, writes);
+        room_for(&mut self.writes, writes.len())?;
+        room_for(&mut self.registers, writes.len())?;
+        put_writes(net, &mut self.write_marks, &mut self.writes, writes);
+        mention_written(net, &mut self.register_marks, &mut self.registers, writes);
         self.pending = first_of(self.pending, at);
         Ok(())
     }
 
     /// Takes in the reads of a step. After want of memory all is as before.
-    pub fn read(&mut self, at: Place, reads: &[ReadBit]) -> Result<(), OutOfMemory>
-        requires { self.old.asked + 1 < 2 ^ 32 }
+    pub fn read(&mut self, net: &Net, at: Place, reads: &[ReadBit]) -> Result<(), OutOfMemory>
+        requires few { self.old.asked + 1 < 2 ^ 32 }
+        requires kept { IsKept net.now self.old }
+        requires bits { All (λ r. IsBitOf net.now r.bit) reads.now }
         ensures ok { OnOk result (seen_gathered self.new ≡ with_reads (seen_gathered self.old) at reads.now) }
         ensures err { OnErr result (seen_gathered self.new ≡ seen_gathered self.old) }
+        ensures kept { IsKept net.now self.new }
     {
-        self.reads.reserve(reads.len())?;
-        self.registers.reserve(reads.len())?;
-        put_reads(&mut self.reads, reads);
-        mention_read(&mut self.registers, reads);
+        room_for(&mut self.reads, reads.len())?;
+        room_for(&mut self.registers, reads.len())?;
+        put_reads(net, &mut self.read_marks, &mut self.reads, reads);
+        mention_read(net, &mut self.register_marks, &mut self.registers, reads);
         self.pending = first_of(self.pending, at);
         self.asked += 1;
         Ok(())
@@ -117,7 +149,8 @@ impl Gathered {
     /// Empties the queue, whose groups are so many.
     fn applied(&mut self, count: u32)
         requires { self.old.rounds + count < 2 ^ 32 }
-        ensures { seen_gathered self.new ≡ applied_queue (seen_gathered self.old) count }
+        ensures queue { seen_gathered self.new ≡ applied_queue (seen_gathered self.old) count }
+        ensures kept { (net : ANet) → IsKept net self.old → self.old.rounds + count ≤ 4096 → IsKept net self.new }
     {
         self.writes.clear();
         self.reads.clear();
@@ -136,7 +169,7 @@ impl Gathered {
         requires { IsLimited self.old }
         ensures answer { Binds (apply at (seen_gathered self.old) (groups (places_in tree.now) self.old.writes.items self.old.reads.items self.old.registers.items)) (seen_gathered self.new) result }
         ensures stays { OnErr result (seen_gathered self.new ≡ seen_gathered self.old) }
-        ensures limited { IsLimited self.new }
+        ensures kept { (net : ANet) → IsKept net self.old → IsKept net self.new }
     {
         let groups = groups(
             alloc,
@@ -162,7 +195,7 @@ impl Gathered {
         requires { IsLimited self.old }
         ensures answer { Binds (run at (seen_gathered self.old) cycles) (seen_gathered self.new) result }
         ensures stays { OnErr result (seen_gathered self.new ≡ seen_gathered self.old) }
-        ensures limited { IsLimited self.new }
+        ensures kept { (net : ANet) → IsKept net self.old → IsKept net self.new }
     {
         if cycles > 1_000_000 {
             return Err(TargetFault::Limit {
@@ -188,7 +221,7 @@ impl Gathered {
         requires { IsLimited self.old }
         ensures answer { Binds (run_value at (seen_gathered self.old) (seen_value value.now)) (seen_gathered self.new) result }
         ensures stays { OnErr result (seen_gathered self.new ≡ seen_gathered self.old) }
-        ensures limited { IsLimited self.new }
+        ensures kept { (net : ANet) → IsKept net self.old → IsKept net self.new }
     {
         match value {
             Value::Number(Number::Decimal(cycles)) => self.run(at, *cycles),

@@ -1,104 +1,199 @@
 // The queue of writes and reads up to the next iApply.
-ghost use Rattle.std.specs.Prelude.{◌≡◌, ◌<◌, ◌≤◌, ◌+◌, [], ◌∷◌, length, map, position};
+ghost use Rattle.std.specs.Prelude.{◌≡◌, ◌<◌, ◌≤◌, ◌+◌, ◌^◌, [], ◌∷◌, length, map, position, All};
+ghost use Rattle.net_graph.specs.Named.{IsBitOf};
 ghost use Rattle.net_graph.specs.Path.{same_place};
+ghost use Rattle.pdl_targets.specs.Marked.{AreNumbered, bits_compared, bits_written, first_bits};
 ghost use Rattle.pdl_targets.specs.Rounds.{is_in, mention, put_read, put_reads, put_write, put_writes};
 
+use crate::numbered::{mark_next, place_of};
 use crate::picks::same_place;
+use bit_marks::BitMarks;
 use ij_bits::List;
-use net_graph::{BitId, ReadBit, WriteBit};
+use net_graph::{BitId, Net, ReadBit, WriteBit};
 
 /// Where the write of a bit stands.
-fn written_at(writes: &[WriteBit], bit: BitId) -> Option<usize>
+fn written_at(_net: &Net, marks: &BitMarks, writes: &[WriteBit], bit: BitId) -> Option<usize>
+    requires { AreNumbered _net.now marks.now (bits_written writes.now) }
     ensures { result ≡ position (λ w. same_place w.bit bit) writes.now }
 {
-    writes.iter().position(|write| same_place(write.bit, bit))
+    match place_of(marks, bit, writes.len()) {
+        Some(i) => {
+            if same_place(writes[i].bit, bit) {
+                Some(i)
+            } else {
+                None
+            }
+        }
+        None => None,
+    }
 }
 
 /// Puts a write into a queue with room for it: in place of one of the same bit, or at the end.
-fn put_write(writes: &mut List<WriteBit>, write: WriteBit)
-    requires { 1 ≤ writes.old.spare }
+fn put_write(net: &Net, marks: &mut BitMarks, writes: &mut List<WriteBit>, write: WriteBit)
+    requires room { 1 ≤ writes.old.spare }
+    requires few { length writes.old.items + 1 < 2 ^ 32 }
+    requires numbered { AreNumbered net.now marks.old (bits_written writes.old.items) }
+    requires bit { IsBitOf net.now write.bit }
     ensures items { writes.new.items ≡ put_write writes.old.items write }
     ensures room { writes.old.spare ≤ writes.new.spare + 1 }
+    ensures few { length writes.new.items ≤ length writes.old.items + 1 }
+    ensures numbered { AreNumbered net.now marks.new (bits_written writes.new.items) }
 {
-    match written_at(writes.as_slice(), write.bit) {
+    match written_at(net, marks, writes.as_slice(), write.bit) {
         Some(i) => writes.set(i, write),
-        None => writes.push_reserved(write),
+        None => {
+            mark_next(net, marks, write.bit, writes.len());
+            writes.push_reserved(write);
+        }
     }
 }
 
 /// Puts writes into a queue with room for them, one after the other.
-pub(crate) fn put_writes(writes: &mut List<WriteBit>, more: &[WriteBit])
-    requires { length more.now ≤ writes.old.spare }
-    ensures { writes.new.items ≡ put_writes writes.old.items more.now }
+pub(crate) fn put_writes(
+    net: &Net,
+    marks: &mut BitMarks,
+    writes: &mut List<WriteBit>,
+    more: &[WriteBit],
+)
+    requires room { length more.now ≤ writes.old.spare }
+    requires few { length writes.old.items + length more.now < 2 ^ 32 }
+    requires numbered { AreNumbered net.now marks.old (bits_written writes.old.items) }
+    requires bits { All (λ w. IsBitOf net.now w.bit) more.now }
+    ensures items { writes.new.items ≡ put_writes writes.old.items more.now }
+    ensures numbered { AreNumbered net.now marks.new (bits_written writes.new.items) }
 {
     for write in more {
-        put_write(writes, *write);
+        put_write(net, marks, writes, *write);
     }
 }
 
 /// Where the read of a bit stands.
-fn read_at(reads: &[ReadBit], bit: BitId) -> Option<usize>
+fn read_at(_net: &Net, marks: &BitMarks, reads: &[ReadBit], bit: BitId) -> Option<usize>
+    requires { AreNumbered _net.now marks.now (bits_compared reads.now) }
     ensures { result ≡ position (λ r. same_place r.bit bit) reads.now }
 {
-    reads.iter().position(|read| same_place(read.bit, bit))
+    match place_of(marks, bit, reads.len()) {
+        Some(i) => {
+            if same_place(reads[i].bit, bit) {
+                Some(i)
+            } else {
+                None
+            }
+        }
+        None => None,
+    }
 }
 
 /// Puts a read into a queue with room for it: in place of one of the same bit, or at the end.
-fn put_read(reads: &mut List<ReadBit>, read: ReadBit)
-    requires { 1 ≤ reads.old.spare }
+fn put_read(net: &Net, marks: &mut BitMarks, reads: &mut List<ReadBit>, read: ReadBit)
+    requires room { 1 ≤ reads.old.spare }
+    requires few { length reads.old.items + 1 < 2 ^ 32 }
+    requires numbered { AreNumbered net.now marks.old (bits_compared reads.old.items) }
+    requires bit { IsBitOf net.now read.bit }
     ensures items { reads.new.items ≡ put_read reads.old.items read }
     ensures room { reads.old.spare ≤ reads.new.spare + 1 }
+    ensures few { length reads.new.items ≤ length reads.old.items + 1 }
+    ensures numbered { AreNumbered net.now marks.new (bits_compared reads.new.items) }
 {
-    match read_at(reads.as_slice(), read.bit) {
+    match read_at(net, marks, reads.as_slice(), read.bit) {
         Some(i) => reads.set(i, read),
-        None => reads.push_reserved(read),
+        None => {
+            mark_next(net, marks, read.bit, reads.len());
+            reads.push_reserved(read);
+        }
     }
 }
 
 /// Puts reads into a queue with room for them, one after the other.
-pub(crate) fn put_reads(reads: &mut List<ReadBit>, more: &[ReadBit])
-    requires { length more.now ≤ reads.old.spare }
-    ensures { reads.new.items ≡ put_reads reads.old.items more.now }
+pub(crate) fn put_reads(
+    net: &Net,
+    marks: &mut BitMarks,
+    reads: &mut List<ReadBit>,
+    more: &[ReadBit],
+)
+    requires room { length more.now ≤ reads.old.spare }
+    requires few { length reads.old.items + length more.now < 2 ^ 32 }
+    requires numbered { AreNumbered net.now marks.old (bits_compared reads.old.items) }
+    requires bits { All (λ r. IsBitOf net.now r.bit) more.now }
+    ensures items { reads.new.items ≡ put_reads reads.old.items more.now }
+    ensures numbered { AreNumbered net.now marks.new (bits_compared reads.new.items) }
 {
     for read in more {
-        put_read(reads, *read);
+        put_read(net, marks, reads, *read);
     }
 }
 
 /// Whether a register is among others.
-fn is_in(registers: &[u32], register: u32) -> bool
+fn is_in(_net: &Net, marks: &BitMarks, registers: &[u32], register: u32) -> bool
+    requires { AreNumbered _net.now marks.now (first_bits registers.now) }
     ensures { result ≡ is_in registers.now register }
 {
-    registers.iter().any(|other| *other == register)
-}
-
-/// Mentions a register; there is room for it.
-fn mention_one(registers: &mut List<u32>, register: u32)
-    requires { 1 ≤ registers.old.spare }
-    ensures items { registers.new.items ≡ mention registers.old.items (register ∷ []) }
-    ensures room { registers.old.spare ≤ registers.new.spare + 1 }
-{
-    if !is_in(registers.as_slice(), register) {
-        registers.push_reserved(register);
+    let first = BitId {
+        reg: register,
+        pos: 0,
+    };
+    match place_of(marks, first, registers.len()) {
+        Some(i) => registers[i] == register,
+        None => false,
     }
 }
 
+/// Mentions the register of a bit; there is room for it.
+fn mention_one(net: &Net, marks: &mut BitMarks, registers: &mut List<u32>, bit: BitId)
+    requires room { 1 ≤ registers.old.spare }
+    requires few { length registers.old.items + 1 < 2 ^ 32 }
+    requires numbered { AreNumbered net.now marks.old (first_bits registers.old.items) }
+    requires bit { IsBitOf net.now bit }
+    ensures items { registers.new.items ≡ mention registers.old.items (bit.reg ∷ []) }
+    ensures room { registers.old.spare ≤ registers.new.spare + 1 }
+    ensures few { length registers.new.items ≤ length registers.old.items + 1 }
+    ensures numbered { AreNumbered net.now marks.new (first_bits registers.new.items) }
+{
+    if is_in(net, marks, registers.as_slice(), bit.reg) {
+        return;
+    }
+    let first = BitId {
+        reg: bit.reg,
+        pos: 0,
+    };
+    mark_next(net, marks, first, registers.len());
+    registers.push_reserved(bit.reg);
+}
+
 /// Mentions the registers of writes; there is room for them.
-pub(crate) fn mention_written(registers: &mut List<u32>, writes: &[WriteBit])
-    requires { length writes.now ≤ registers.old.spare }
-    ensures { registers.new.items ≡ mention registers.old.items (map (λ w. w.bit.reg) writes.now) }
+pub(crate) fn mention_written(
+    net: &Net,
+    marks: &mut BitMarks,
+    registers: &mut List<u32>,
+    writes: &[WriteBit],
+)
+    requires room { length writes.now ≤ registers.old.spare }
+    requires few { length registers.old.items + length writes.now < 2 ^ 32 }
+    requires numbered { AreNumbered net.now marks.old (first_bits registers.old.items) }
+    requires bits { All (λ w. IsBitOf net.now w.bit) writes.now }
+    ensures items { registers.new.items ≡ mention registers.old.items (map (λ w. w.bit.reg) writes.now) }
+    ensures numbered { AreNumbered net.now marks.new (first_bits registers.new.items) }
 {
     for write in writes {
-        mention_one(registers, write.bit.reg);
+        mention_one(net, marks, registers, write.bit);
     }
 }
 
 /// Mentions the registers of reads; there is room for them.
-pub(crate) fn mention_read(registers: &mut List<u32>, reads: &[ReadBit])
-    requires { length reads.now ≤ registers.old.spare }
-    ensures { registers.new.items ≡ mention registers.old.items (map (λ r. r.bit.reg) reads.now) }
+pub(crate) fn mention_read(
+    net: &Net,
+    marks: &mut BitMarks,
+    registers: &mut List<u32>,
+    reads: &[ReadBit],
+)
+    requires room { length reads.now ≤ registers.old.spare }
+    requires few { length registers.old.items + length reads.now < 2 ^ 32 }
+    requires numbered { AreNumbered net.now marks.old (first_bits registers.old.items) }
+    requires bits { All (λ r. IsBitOf net.now r.bit) reads.now }
+    ensures items { registers.new.items ≡ mention registers.old.items (map (λ r. r.bit.reg) reads.now) }
+    ensures numbered { AreNumbered net.now marks.new (first_bits registers.new.items) }
 {
     for read in reads {
-        mention_one(registers, read.bit.reg);
+        mention_one(net, marks, registers, read.bit);
     }
 }
