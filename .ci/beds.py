@@ -1,9 +1,8 @@
 #!/usr/bin/env python3
 """Runs the worked examples and the corpus beside the repository, as far as the commands are built: beds.py PROGRAM SHARED.
 
-Of both beds, all runs of the built commands are compared in their last form, byte for byte. A run that compiles or does a text with iMerge may be
-refused as `core Merge`, as long as that isn't built, and one play of 1,000,000,000 clocks is left out for its time. Cases of words that are no
-command are told the usage line of the built commands."""
+Of both beds, all runs of the built commands are compared in their last form, byte for byte. One play of 1,000,000,000 clocks is left out for its
+time. Cases of words that are no command are told the usage line of the built commands."""
 import concurrent.futures
 import gzip
 import importlib.util
@@ -31,8 +30,7 @@ def rows():
     bed = module('run_rows', f'{shared}/rows/run_rows.py')
     passed, failed = 0, []
     for name, case in bed.cases(None):
-        texts = ''.join(open(os.path.join(bed.HERE, 'cases', name, it)).read() for it in case['words'] if it.endswith('.pdl') and os.path.exists(os.path.join(bed.HERE, 'cases', name, it)))
-        if not bed.holds(case, 'headline' if is_built(case['words']) and case['status'] != 2 else 'nest') or 'iMerge' in texts:
+        if not bed.holds(case, 'headline' if is_built(case['words']) and case['status'] != 2 else 'nest'):
             continue
         if case['status'] == 2:
             case['err'] = USAGE
@@ -49,11 +47,8 @@ def corpus():
         with gzip.open(f'{shared}/corpus/{part}.jsonl.gz', 'rt') as lines:
             for line in lines:
                 case = json.loads(line)
-                merges = {name for name, text in case['files'].items() if 'iMerge' in text}
                 for run in case['runs']:
                     if 'clocks 1000000000 ' in run['out']:
-                        run['words'] = ['left out']
-                    if run['words'][:1] in (['compile'], ['direct']) and set(run['words']) & merges and (run['status'] in (0, 1, 5) or 'Merge' in run['err'] or 'Unapplied' in run['err']):
                         run['words'] = ['left out']
                 tasks.append((case, [program], 'audit', None, ''))
     bed.want_of = lambda run, upto: 'exact' if is_built(run['words']) and len(run['words']) == bed.FORMS[run['words'][0]] else 'skip'

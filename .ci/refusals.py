@@ -6,7 +6,7 @@ import sys
 
 # what isn't a reader's refusal: want of memory, causes that the crates of files and numbers hand to callers, and variants that hold
 # another crate's refusal
-PASSED_OVER = {'OutOfMemory', 'Failed', 'Wide', 'Expand', 'Target', 'Refused'}
+PASSED_OVER = {'OutOfMemory', 'Failed', 'Wide', 'Expand', 'Feed', 'Target', 'Refused'}
 
 page = pathlib.Path('docs/REFUSALS.md').read_text()
 missing = []

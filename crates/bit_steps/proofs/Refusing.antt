@@ -1,22 +1,24 @@
 -- What is left where the expansion is refused, and where it ends.
-use Rattle.std.proofs.Common.{◌≡◌, [], Some, ap}
+use Rattle.std.proofs.Common.{◌≡◌, [], ◌++◌, List, Some, ap, ◌∙◌}
+use Rattle.net_graph.specs.SeenSteps.{SeenStep}
 use Rattle.pdl_expand.specs.Code.{Left}
 use Rattle.pdl_expand.specs.Expansion.{AFault, IsNoProc, IsArgCount, IsTooManySteps, IsNoName, IsCallDepth}
 use Rattle.pdl_expand.specs.SeenSteps.{RefusesLeft, only_fault}
 use Rattle.pdl_expand.specs.declared.fault.ExpandFault.{ExpandFault}
 use Rattle.pdl_expand.specs.declared.fault.ExpandFault.TheVariants as expand
-use Rattle.pdl_targets.specs.SeenBinder.{ABinder}
+use Rattle.merge_order.specs.SeenFeeder.{AFeeder}
 use Rattle.bit_steps.specs.BitSteps.{BitStepsOf, Expands}
 use Rattle.bit_steps.specs.Seen.{EndsIn, Refuses, of_expand}
 use Rattle.bit_steps.specs.SeenProgress.{bits_behind}
 use Rattle.bit_steps.specs.declared.fault.StepFault.{StepFault}
 use Rattle.bit_steps.specs.declared.fault.StepFault.TheVariants as fault
 
-module _ (b : ABinder) where
-  only : (left : Left) (f : AFault) → left ≡ only_fault f → ((bits_behind b left).steps ≡ []) × ((bits_behind b left).fault ≡ Some (Expands f))
-  only left f h = (ap (λ l. (bits_behind b l).steps) h, ap (λ l. (bits_behind b l).fault) h)
+-- where no bit step is ready
+module _ (f : AFeeder) (none : f.ready ≡ []) where
+  only : (left : Left) (e : AFault) → left ≡ only_fault e → ((bits_behind f left).steps ≡ []) × ((bits_behind f left).fault ≡ Some (Expands e))
+  only left e h = (ap (λ (l : Left). (bits_behind f l).steps) h ∙ ap (λ (l : List SeenStep). l ++ []) none, ap (λ (l : Left). (bits_behind f l).fault) h)
 
-  pub refused_left : (left : Left) (e : ExpandFault) → RefusesLeft left e → Refuses (bits_behind b left) (of_expand e)
+  pub refused_left : (left : Left) (e : ExpandFault) → RefusesLeft left e → Refuses (bits_behind f left) (of_expand e)
   refused_left left expand.OutOfMemory h = tt
   refused_left left (expand.NoProc at name) h = only left (IsNoProc at name.items) h
   refused_left left (expand.ArgCount at) h = only left (IsArgCount at) h
@@ -28,4 +30,4 @@ module _ (b : ABinder) where
 pub refused_ends : (left : BitStepsOf) (e : StepFault) → Refuses left e → EndsIn left.fault e
 refused_ends left fault.OutOfMemory h = tt
 refused_ends left (fault.Expand e) h = h.1
-refused_ends left (fault.Target e) h = h.1
+refused_ends left (fault.Feed e) h = h.1

@@ -10,11 +10,19 @@ use Rattle.pdl_expand.specs.Values.{cells_of}
 use Rattle.pdl_targets.specs.Binding.{bound}
 use Rattle.pdl_targets.specs.Laws.{HasPaths, rounds_in, cycles_in, cycles_of}
 use Rattle.pdl_targets.specs.SeenPlaces.{places_in}
+use Rattle.merge_order.specs.AllSteps.{fed}
+use Rattle.merge_order.specs.Feeding.{begin}
+use Rattle.merge_order.specs.Laws.{HaveNoMerge}
 use Rattle.bit_steps.specs.BitSteps.{bit_steps}
 
--- the bit steps of a procedure are what binding makes of the steps of its expansion
+-- the bit steps of a procedure are what becomes ready of the steps of its expansion
+abbrev pub StepsAreFed : Type 0
+StepsAreFed = (procs : List AProc) (net : Net) (form : Items) (name : List ℕ)
+    → (bit_steps procs net form name).steps ≡ fed net (places_in form) begin (expansion procs (cells_of net) name).steps
+
+-- without merges, what binding makes of them
 abbrev pub StepsAreBound : Type 0
-StepsAreBound = (procs : List AProc) (net : Net) (form : Items) (name : List ℕ)
+StepsAreBound = (procs : List AProc) (net : Net) (form : Items) (name : List ℕ) → HaveNoMerge (expansion procs (cells_of net) name).steps
     → (bit_steps procs net form name).steps ≡ (bound net (places_in form) (expansion procs (cells_of net) name).steps).steps
 
 -- so each is one of the network, where this is well formed

@@ -5,9 +5,10 @@ use Rattle.pdl_expand.specs.Expansion.{AFault as AnExpandFault, IsNoProc, IsArgC
 use Rattle.pdl_expand.specs.declared.fault.ExpandFault.{ExpandFault}
 use Rattle.pdl_expand.specs.declared.fault.ExpandFault.TheVariants as expand
 use Rattle.pdl_targets.specs.Seen.{fault_of as target_fault}
-use Rattle.pdl_targets.specs.declared.fault.TargetFault.{TargetFault}
-use Rattle.pdl_targets.specs.declared.fault.TargetFault.TheVariants as target
-use Rattle.bit_steps.specs.BitSteps.{AFault, Expands, Targets, BitStepsOf}
+use Rattle.merge_order.specs.Feeding.{AFault as AFeedFault, IsMergeInside, IsMergeReset, Targets}
+use Rattle.merge_order.specs.declared.fault.FeedFault.{FeedFault}
+use Rattle.merge_order.specs.declared.fault.FeedFault.TheVariants as feed
+use Rattle.bit_steps.specs.BitSteps.{AFault, Expands, Feeds, BitStepsOf}
 use Rattle.bit_steps.specs.declared.fault.StepFault.{StepFault}
 use Rattle.bit_steps.specs.declared.fault.StepFault.TheVariants as fault
 
@@ -20,6 +21,13 @@ expand_fault (expand.TooManySteps at) = Some (IsTooManySteps at)
 expand_fault (expand.NoName at name) = Some (IsNoName at name.items)
 expand_fault (expand.CallDepth at) = Some (IsCallDepth at)
 
+-- the fault that a refusal of a step says, unless memory ran out
+abbrev pub feed_fault : FeedFault → Option AFeedFault
+feed_fault feed.OutOfMemory = None
+feed_fault (feed.MergeInside at) = Some (IsMergeInside at)
+feed_fault (feed.MergeReset at) = Some (IsMergeReset at)
+feed_fault (feed.Target e) = option_map Targets (target_fault e)
+
 -- a procedure ends in this fault, if it is one
 abbrev pub Ends : Option AFault → Option AFault → Type 0
 Ends end None = ⊥
@@ -30,13 +38,13 @@ Ends end (Some fault) = end ≡ Some fault
 abbrev pub EndsIn : Option AFault → StepFault → Type 0
 EndsIn end fault.OutOfMemory = Unit {0}
 EndsIn end (fault.Expand e) = Ends end (option_map Expands (expand_fault e))
-EndsIn end (fault.Target e) = Ends end (option_map Targets (target_fault e))
+EndsIn end (fault.Feed e) = Ends end (option_map Feeds (feed_fault e))
 
 -- no bit step is left, and a refusal says the fault that is, unless memory ran out
 abbrev pub Refuses : BitStepsOf → StepFault → Type 0
 Refuses left fault.OutOfMemory = Unit {0}
 Refuses left (fault.Expand e) = (left.steps ≡ []) × EndsIn left.fault (fault.Expand e)
-Refuses left (fault.Target e) = (left.steps ≡ []) × EndsIn left.fault (fault.Target e)
+Refuses left (fault.Feed e) = (left.steps ≡ []) × EndsIn left.fault (fault.Feed e)
 
 -- ---- want of memory has one name
 
@@ -48,14 +56,8 @@ of_expand (expand.TooManySteps at) = fault.Expand (expand.TooManySteps at)
 of_expand (expand.NoName at name) = fault.Expand (expand.NoName at name)
 of_expand (expand.CallDepth at) = fault.Expand (expand.CallDepth at)
 
-abbrev pub of_target : TargetFault → StepFault
-of_target target.OutOfMemory = fault.OutOfMemory
-of_target (target.NoTarget at) = fault.Target (target.NoTarget at)
-of_target (target.NoValue at) = fault.Target (target.NoValue at)
-of_target (target.ValueWide at) = fault.Target (target.ValueWide at)
-of_target (target.NotWritable at) = fault.Target (target.NotWritable at)
-of_target (target.NotReadable at) = fault.Target (target.NotReadable at)
-of_target (target.SelectTarget at bit) = fault.Target (target.SelectTarget at bit)
-of_target (target.BadCount at) = fault.Target (target.BadCount at)
-of_target (target.Limit at which number) = fault.Target (target.Limit at which number)
-of_target (target.Unapplied at) = fault.Target (target.Unapplied at)
+abbrev pub of_feed : FeedFault → StepFault
+of_feed feed.OutOfMemory = fault.OutOfMemory
+of_feed (feed.MergeInside at) = fault.Feed (feed.MergeInside at)
+of_feed (feed.MergeReset at) = fault.Feed (feed.MergeReset at)
+of_feed (feed.Target e) = fault.Feed (feed.Target e)

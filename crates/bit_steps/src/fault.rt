@@ -1,20 +1,22 @@
 // Why a procedure has no further bit step.
 ghost use Rattle.std.specs.Prelude.{◌≡◌};
-ghost use Rattle.bit_steps.specs.Seen.{of_expand, of_target};
+ghost use Rattle.bit_steps.specs.Seen.{of_expand, of_feed};
+ghost use Rattle.merge_order.specs.SeenFaults.{of_target};
 
+use merge_order::FeedFault;
 use pdl_expand::ExpandFault;
 use pdl_targets::TargetFault;
 
 /// Why a procedure has no further bit step (IEEE 1687-2014, PDL level 0).
 #[derive(Drop)]
 pub enum StepFault {
-    /// There is no memory. No other variant stands for it: [`ExpandFault::OutOfMemory`] and [`TargetFault::OutOfMemory`] are
+    /// There is no memory. No other variant stands for it: [`ExpandFault::OutOfMemory`] and [`FeedFault::OutOfMemory`] are
     /// never handed on.
     OutOfMemory,
     /// The procedure can't go on.
     Expand(ExpandFault),
-    /// A step can't be bound to register bits, or an `iApply` is missing.
-    Target(TargetFault),
+    /// A step can't be bound to register bits, can't stand in an iMerge, or an `iApply` is missing.
+    Feed(FeedFault),
 }
 
 impl From<ExpandFault> for StepFault {
@@ -28,13 +30,21 @@ impl From<ExpandFault> for StepFault {
     }
 }
 
+impl From<FeedFault> for StepFault {
+    ghost from_gives = { λ fault e. e ≡ of_feed fault };
+
+    fn from(fault: FeedFault) -> StepFault {
+        match fault {
+            FeedFault::OutOfMemory => StepFault::OutOfMemory,
+            other => StepFault::Feed(other),
+        }
+    }
+}
+
 impl From<TargetFault> for StepFault {
-    ghost from_gives = { λ fault e. e ≡ of_target fault };
+    ghost from_gives = { λ fault e. e ≡ of_feed (of_target fault) };
 
     fn from(fault: TargetFault) -> StepFault {
-        match fault {
-            TargetFault::OutOfMemory => StepFault::OutOfMemory,
-            other => StepFault::Target(other),
-        }
+        StepFault::from(FeedFault::from(fault))
     }
 }

@@ -1,10 +1,13 @@
 // What follows for the bit steps of a procedure.
-ghost use Rattle.bit_steps.specs.Laws.{StepsAreBound, BitStepsAreOfTheNetwork, BitStepsHavePaths, BitStepsAreFew, BitRoundsAreFew, BitCyclesAreFew, BitRunsAreShort};
+ghost use Rattle.bit_steps.specs.Laws.{StepsAreFed, StepsAreBound, BitStepsAreOfTheNetwork, BitStepsHavePaths, BitStepsAreFew, BitRoundsAreFew, BitCyclesAreFew, BitRunsAreShort};
 
-/// The bit steps of a procedure are what binding makes of the steps of its expansion, so what holds of these holds of them
-/// (IEEE 1687-2014, PDL level 0).
+/// The bit steps of a procedure (IEEE 1687-2014, PDL level 0):
+///
+/// - `fed`: they are what becomes ready of the steps of its expansion, those of an iMerge in the order of its turns.
+/// - `alone`: without an iMerge they are what binding makes of these steps.
 pub fn bit_steps_are_bound()
-    ensures { StepsAreBound }
+    ensures fed { StepsAreFed }
+    ensures alone { StepsAreBound }
 {}
 
 /// Bit steps in their network:

@@ -1,5 +1,5 @@
 //! The bit steps of a procedure of a network, one after the other (IEEE 1687-2014, PDL level 0): its calls are replaced by
-//! what they do, and targets are bound to register bits.
+//! what they do, targets are bound to register bits, and the branches of an iMerge advance turn by turn.
 #![tactic(auto)]
 
 mod checking;

@@ -1,6 +1,5 @@
 // How far a procedure has come.
-ghost use Rattle.std.specs.Prelude.{◌≡◌, ◌<◌, ◌≤◌, ◌+◌, ◌^◌, Some, None, MatchOption, IsNone, IfOk, IfErr, OnOk, OnErr, length, map};
-ghost use Rattle.std.specs.Option.{option_map};
+ghost use Rattle.std.specs.Prelude.{◌≡◌, ◌<◌, ◌≤◌, ◌+◌, ◌^◌, [], Some, None, MatchOption, IsNone, IfOk, IfErr, OnOk, OnErr, length, map};
 ghost use Rattle.ij_text.specs.Numbering.{AreDistinct};
 ghost use Rattle.net_graph.specs.Nets.{IsNet};
 ghost use Rattle.net_graph.specs.SeenSteps as bits;
@@ -8,35 +7,33 @@ ghost use Rattle.pdl_expand.specs.SeenSteps.{RefusesLeft, given_first, nothing_l
 ghost use Rattle.pdl_expand.specs.Values.{seen_step};
 ghost use Rattle.pdl_parser.specs.Grammar.{full_names};
 ghost use Rattle.pdl_parser.specs.Views.{seen_proc};
-ghost use Rattle.bit_steps.specs.BitSteps.{bit_steps, given_first_bit, nothing_left, with_step};
-ghost use Rattle.bit_steps.specs.Seen.{Refuses, of_target};
+ghost use Rattle.bit_steps.specs.BitSteps.{bit_steps, given_first_bit, nothing_left};
+ghost use Rattle.bit_steps.specs.Seen.{Refuses, of_feed};
 ghost use Rattle.bit_steps.specs.SeenProgress.{StepsLeft, IsUnderWay, Moves, bits_behind, left_of, with_pending};
 
 use crate::fault::StepFault;
+use merge_order::{FeedFault, Feeder};
 use net_graph::{BitStep, Net};
 use net_tree::Tree;
 use pdl_expand::{ExpandFault, Step, Steps};
 use pdl_parser::Proc;
-use pdl_targets::{Binder, TargetFault};
 use std::alloc::Global;
 
 /// What one move of a procedure comes to.
 #[derive(Drop)]
 pub(crate) enum Move {
-    /// To a bit step.
-    Gave(BitStep),
-    /// To nothing yet.
+    /// A step was taken in.
     Went,
     /// To the end.
     Ended,
 }
 
-/// How far a procedure has come: the steps that are left, and what came since the last iApply.
+/// How far a procedure has come: the steps that are left, and what came of those that were taken in.
 #[derive(Drop)]
 pub(crate) struct Progress<'a> {
     pub steps: Steps<'a>,
-    pub binder: Binder<'a>,
-    /// A step that was given and isn't bound yet: it was refused, or memory ran out.
+    pub feeder: Feeder<'a>,
+    /// A step that was given and isn't taken in yet: it was refused, or memory ran out.
     pub pending: Option<Step>,
 }
 
@@ -58,12 +55,12 @@ pub(crate) fn begun<'a>(
     let steps = Steps::new(alloc, procs, net, name)?;
     Ok(Progress {
         steps,
-        binder: Binder::new(alloc, net, tree),
+        feeder: Feeder::new(alloc, net, tree),
         pending: None,
     })
 }
 
-/// Takes out the next step that isn't bound, or `None` at the end.
+/// Takes out the next step that isn't taken in, or `None` at the end.
 fn take<'a>(steps: &mut Steps<'a>, pending: &mut Option<Step>) -> Result<Option<Step>, ExpandFault>
     ensures taken { IfOk result (λ o. MatchOption o (with_pending pending.old steps.old ≡ no_step) (λ s. with_pending pending.old steps.old ≡ given_first (seen_step s) steps.new)) }
     ensures end { IfOk result (λ o. IsNone o → steps.new ≡ no_step) }
@@ -77,22 +74,23 @@ fn take<'a>(steps: &mut Steps<'a>, pending: &mut Option<Step>) -> Result<Option<
     }
 }
 
-/// Binds a step that was taken out. Where it can't be bound it is pending again.
-fn bind<'a>(
-    binder: &mut Binder<'a>,
+/// Hands a step that was taken out to the feeder, where no bit step is ready. Where the step is refused it is pending again.
+fn feed<'a>(
+    feeder: &mut Feeder<'a>,
     pending: &mut Option<Step>,
     step: Step,
-) -> Result<Option<BitStep>, TargetFault>
-    requires { binder.old.queue.asked + 1 < 2 ^ 32 }
-    ensures given { IfOk result (λ o. (more : StepsLeft) → bits_behind binder.old (given_first (seen_step step) more) ≡ with_step (option_map bits.seen_step o) (bits_behind binder.new more)) }
-    ensures asked { OnOk result (binder.new.queue.asked ≤ binder.old.queue.asked + 1) }
+) -> Result<(), FeedFault>
+    requires few { feeder.old.state.queue.asked + 1 < 2 ^ 32 }
+    requires none_ready { feeder.old.ready ≡ [] }
+    ensures given { OnOk result ((more : StepsLeft) → bits_behind feeder.old (given_first (seen_step step) more) ≡ bits_behind feeder.new more) }
+    ensures asked { OnOk result (feeder.new.state.queue.asked ≤ feeder.old.state.queue.asked + 1) }
     ensures none { OnOk result (pending.new ≡ pending.old) }
-    ensures refused { IfErr result (λ e. (more : StepsLeft) → Refuses (bits_behind binder.old (given_first (seen_step step) more)) (of_target e)) }
+    ensures refused { IfErr result (λ e. (more : StepsLeft) → Refuses (bits_behind feeder.old (given_first (seen_step step) more)) (of_feed e)) }
     ensures kept { OnErr result (pending.new ≡ Some step) }
-    ensures stays { OnErr result (binder.new ≡ binder.old) }
+    ensures stays { OnErr result (feeder.new ≡ feeder.old) }
 {
-    match binder.feed(&step) {
-        Ok(given) => Ok(given),
+    match feeder.feed(&step) {
+        Ok(()) => Ok(()),
         Err(fault) => {
             *pending = Some(step);
             Err(fault)
@@ -101,21 +99,22 @@ fn bind<'a>(
 }
 
 impl<'a> Progress<'a> {
-    /// Takes out a step and binds it.
+    /// Takes in a step, where no bit step is ready.
     fn advance(&mut self) -> Result<Move, StepFault>
-        requires { IsUnderWay self.old }
+        requires under_way { IsUnderWay self.old }
+        requires none_ready { self.old.feeder.ready ≡ [] }
         ensures under_way { IsUnderWay self.new }
         ensures moves { IfOk result (Moves self.old self.new) }
         ensures refused { IfErr result (Refuses (left_of self.old)) }
         ensures stays { OnErr result (left_of self.new ≡ left_of self.old) }
     {
         match take(&mut self.steps, &mut self.pending)? {
-            Some(step) => match bind(&mut self.binder, &mut self.pending, step)? {
-                Some(given) => Ok(Move::Gave(given)),
-                None => Ok(Move::Went),
-            },
+            Some(step) => {
+                feed(&mut self.feeder, &mut self.pending, step)?;
+                Ok(Move::Went)
+            }
             None => {
-                self.binder.finish()?;
+                self.feeder.finish()?;
                 Ok(Move::Ended)
             }
         }
@@ -131,10 +130,12 @@ impl<'a> Progress<'a> {
         ensures stays { OnErr result (left_of self.new ≡ left_of self.old) }
     {
         loop {
+            if let Some(step) = self.feeder.take() {
+                return Ok(Some(step));
+            }
             match self.advance()? {
-                Move::Gave(step) => return Ok(Some(step)),
-                Move::Ended => return Ok(None),
                 Move::Went => {}
+                Move::Ended => return Ok(None),
             }
         }
     }

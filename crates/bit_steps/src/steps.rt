@@ -68,8 +68,9 @@ impl<'a> BitSteps<'a> {
     /// # Errors
     ///
     /// At each command, in the order in which they are executed: [`StepFault::Expand`] where the procedure can't go on (see
-    /// `Steps::next`), else [`StepFault::Target`] where the step can't be bound (see `Binder::feed`). At the end
-    /// [`StepFault::Target`] with the `Unapplied` of an iWrite or an iRead without an iApply behind it.
+    /// `Steps::next`), else [`StepFault::Feed`] where the step can't be taken in (see `Feeder::feed`). At the end
+    /// [`StepFault::Feed`] with the `Unapplied` of an iWrite or an iRead without an iApply behind it. The bit steps of an
+    /// iMerge come at its end, in the order of its turns, so before a fault inside of it none of them is given.
     pub fn next(&mut self) -> Result<Option<BitStep>, StepFault>
         ensures given { IfOk result (λ o. MatchOption o (self.old ≡ nothing_left) (λ s. self.old ≡ given_first_bit (seen_step s) self.new)) }
         ensures end { IfOk result (λ o. IsNone o → self.new ≡ nothing_left) }

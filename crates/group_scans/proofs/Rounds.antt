@@ -16,7 +16,6 @@ use Rattle.path_planner.proofs.Among.{Among, contains_among}
 use Rattle.path_planner.proofs.Inside.{IsAround, around}
 use Rattle.pdl_targets.specs.Rounds.{groups}
 use Rattle.pdl_targets.specs.Laws.{HaveOneRow, HasPaths}
-use Rattle.pdl_targets.proofs.Procedures.{applies_have_paths, steps_are_of_the_network}
 use Rattle.pdl_targets.proofs.Together.{need_one_row}
 use Rattle.group_scans.specs.Rounds.{RegistersNeedOneRow, places_in, GroupsNeedOneRowEach, StepIsPlannable, ProceduresArePlannable}
 
@@ -65,5 +64,4 @@ plannable net form (Run n) d h k = k
 plannable net form Reset d h k = tt
 
 pub procedures_are_plannable : ProceduresArePlannable
-procedures_are_plannable net form steps n d k e l =
-    plannable net form _ d (applies_have_paths net (places_in form) steps k e l) (steps_are_of_the_network net (places_in form) steps n k e l)
+procedures_are_plannable net form steps valid paths d k e l = plannable net form _ d (paths k e l) (valid k e l)

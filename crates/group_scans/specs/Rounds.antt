@@ -6,15 +6,13 @@ use Rattle.net_graph.specs.declared.net.Point.TheVariants.{Reg}
 use Rattle.net_graph.specs.declared.step.WriteBit.{WriteBit}
 use Rattle.net_graph.specs.declared.step.ReadBit.{ReadBit}
 use Rattle.net_graph.specs.Groups.{IsEmpty}
-use Rattle.net_graph.specs.Nets.{IsNet}
 use Rattle.net_graph.specs.SeenSteps.{SeenGroup, SeenStep, Apply, Run, Reset}
-use Rattle.net_graph.specs.Steps.{IsGroup}
+use Rattle.net_graph.specs.Steps.{IsGroup, IsStep}
 use Rattle.net_tree.specs.Form.{Items, Describes}
 use Rattle.net_tree.specs.Needs.{needs, IsExclusive}
 use Rattle.net_tree.specs.Places.{place_of}
-use Rattle.pdl_expand.specs.Values.{AStep}
 use Rattle.pdl_targets.specs.Rounds.{Places, groups}
-use Rattle.pdl_targets.specs.Binding.{bound}
+use Rattle.pdl_targets.specs.Laws.{HasPaths}
 
 -- no register stands in two rows of one mux
 abbrev pub RegistersNeedOneRow : Type 0
@@ -41,6 +39,6 @@ StepIsPlannable net form (Apply rounds) = (1 ≤ length rounds) × All (IsPlanna
 StepIsPlannable net form (Run n) = n ≤ 999999999
 StepIsPlannable net form Reset = Unit {0}
 
--- so is each bit step of a procedure
+-- so are bit steps of the network, where the registers of each round can be on one path
 abbrev pub ProceduresArePlannable : Type 0
-ProceduresArePlannable = (net : Net) (form : Items) (steps : List AStep) → IsNet net → Describes net form → All (StepIsPlannable net form) (bound net (places_in form) steps).steps
+ProceduresArePlannable = (net : Net) (form : Items) (steps : List SeenStep) → All (IsStep net) steps → All (HasPaths (places_in form)) steps → Describes net form → All (StepIsPlannable net form) steps

@@ -8,18 +8,16 @@ use Rattle.ijtag_stages.specs.DeviceText.{device_text}
 use Rattle.ijtag_stages.specs.Fitted.{models_of}
 use Rattle.ijtag_stages.specs.IclText.{icl_text}
 use Rattle.ijtag_stages.specs.Laws.{StagesAreDecided}
-use Rattle.pdl_parser.specs.Values.{AProc}
 use Rattle.ijtag_stages.specs.Networks.{NestedNet, network_below}
 use Rattle.ijtag_stages.specs.PdlText.{pdl_text}
 use Rattle.ijtag_stages.specs.Procedure.{procedure}
 use Rattle.ijtag_stages.specs.SvfText.{svf_text}
 use Rattle.ijtag_stages.specs.TablesText.{tables_text}
-use Rattle.ijtag_stages.specs.Unmerged.{unmerged}
 use Rattle.table_file.specs.Tables.{SeenTable}
 use Rattle.ijtag_stages.specs.Work.{IsDecided}
 use Rattle.ijtag_stages.proofs.Turns.{give_decided, never_decided, in_turn_decided}
 use Rattle.ijtag_core.specs.Command.{Command, Compile, Compiles, Play, Plays, Directs, Migrates, Load, loads}
-use Rattle.ijtag_core.specs.Order.{SeenCompilable, loaded_one, loaded, followed, compiled_procedure, accepted, written_text, read_tables_of, fitted_network, followed_text, run_network, run_texts, runnable, SeenFiles, played_files, played_network, played_texts, playable, work_on, work}
+use Rattle.ijtag_core.specs.Order.{SeenCompilable, loaded_one, loaded, compiled_procedure, accepted, written_text, read_tables_of, fitted_network, followed_text, run_network, run_texts, runnable, SeenFiles, played_files, played_network, played_texts, playable, work_on, work}
 
 -- ---- loads
 
@@ -46,16 +44,11 @@ written_decided texts it =
 -- ---- the commands
 
 module _ (stages : StagesAreDecided) (texts_one : TextsAreOne) where
-  followed_decided : (procs : List AProc) (network : NestedNet) (name : List ℕ) → IsDecided (followed procs network name)
-  unfolding followed
-  followed_decided procs network name =
-      in_turn_decided (procedure procs network name) _ (stages.procedure procs network name) (λ steps. in_turn_decided (unmerged procs) _ (stages.unmerged procs) (λ none. give_decided steps))
-
   compiled_decided : (c : Compile) (modules : List SeenModule) (of : Device) (pdl : List ℕ) → IsDecided (compiled_procedure c modules of pdl)
   unfolding compiled_procedure
   compiled_decided c modules of pdl =
       in_turn_decided (network_below modules c.top of) _ (stages.network modules c.top of) (λ network. in_turn_decided (pdl_text pdl) _ (stages.pdl pdl)
-      (λ procs. in_turn_decided (followed procs network c.procedure) _ (followed_decided procs network c.procedure) (λ steps. give_decided _)))
+      (λ procs. in_turn_decided (procedure procs network c.procedure) _ (stages.procedure procs network c.procedure) (λ steps. give_decided _)))
 
   accepted_decided : (c : Compile) (texts : List (List ℕ)) → IsDecided (accepted c texts)
   accepted_decided c (icl ∷ pdl ∷ device ∷ []) =
@@ -99,7 +92,7 @@ module _ (stages : StagesAreDecided) (texts_one : TextsAreOne) where
   followed_text_decided : (name pdl : List ℕ) (network : NestedNet) → IsDecided (followed_text name pdl network)
   unfolding followed_text
   followed_text_decided name pdl network =
-      in_turn_decided (pdl_text pdl) _ (stages.pdl pdl) (λ procs. in_turn_decided (followed procs network name) _ (followed_decided procs network name) (λ steps. give_decided steps))
+      in_turn_decided (pdl_text pdl) _ (stages.pdl pdl) (λ procs. in_turn_decided (procedure procs network name) _ (stages.procedure procs network name) (λ steps. give_decided steps))
 
   run_decided : (top name : List ℕ) (modules : List SeenModule) (of : Device) (tables : List SeenTable) (pdl : List ℕ) → IsDecided (run_network top name modules of tables pdl)
   unfolding run_network

@@ -6,19 +6,16 @@ use Rattle.net_graph.specs.declared.net.Net.{Net}
 use Rattle.net_graph.specs.Nets.{IsNet}
 use Rattle.net_graph.specs.SeenSteps.{SeenStep}
 use Rattle.net_tree.specs.Form.{Items, Describes}
-use Rattle.pdl_expand.specs.Expansion.{expansion}
-use Rattle.pdl_expand.specs.Values.{cells_of}
 use Rattle.pdl_parser.specs.Values.{AProc}
 use Rattle.group_scans.specs.Retargeting.{IsRetargeted}
 use Rattle.group_scans.specs.Rounds.{StepIsPlannable, ProceduresArePlannable}
 use Rattle.bit_steps.specs.BitSteps.{bit_steps}
-use Rattle.bit_steps.specs.Laws.{StepsAreBound}
+use Rattle.bit_steps.specs.Laws.{BitStepsAreOfTheNetwork, BitStepsHavePaths}
 use Rattle.retargeter.specs.Scripts.{HasScript, WritesScript, ScriptIsRight}
 
 -- each bit step of a procedure can be planned
-pub plannable : StepsAreBound → ProceduresArePlannable → (procs : List AProc) (net : Net) (form : Items) (name : List ℕ) → IsNet net → Describes net form → All (StepIsPlannable net form) (bit_steps procs net form name).steps
-plannable bound plan procs net form name is d =
-    subst (λ (steps : List SeenStep). All (StepIsPlannable net form) steps) (sym (bound procs net form name)) (plan net form (expansion procs (cells_of net) name).steps is d)
+pub plannable : BitStepsAreOfTheNetwork → BitStepsHavePaths → ProceduresArePlannable → (procs : List AProc) (net : Net) (form : Items) (name : List ℕ) → IsNet net → Describes net form → All (StepIsPlannable net form) (bit_steps procs net form name).steps
+plannable valid paths plan procs net form name is d = plan net form (bit_steps procs net form name).steps (valid procs net form name is) (paths procs net form name) d
 
 some_same : (a b : List ℕ) → Some a ≡ Some b → a ≡ b
 some_same a b e = cc

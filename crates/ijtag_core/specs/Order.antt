@@ -6,7 +6,6 @@ use Rattle.instruments.specs.Seen.{SeenModel}
 use Rattle.net_graph.specs.declared.device.Device.{Device}
 use Rattle.net_graph.specs.declared.net.Net.{Net}
 use Rattle.net_graph.specs.SeenSteps.{SeenStep}
-use Rattle.pdl_parser.specs.Values.{AProc}
 use Rattle.svf_writer.specs.SeenCommands.{SeenCommand}
 use Rattle.table_file.specs.Tables.{SeenTable}
 use Rattle.net_bench.specs.Playing.{Compare}
@@ -26,7 +25,6 @@ use Rattle.ijtag_stages.specs.PdlText.{pdl_text}
 use Rattle.ijtag_stages.specs.Procedure.{procedure}
 use Rattle.ijtag_stages.specs.SvfText.{svf_text}
 use Rattle.ijtag_stages.specs.TablesText.{tables_text}
-use Rattle.ijtag_stages.specs.Unmerged.{unmerged}
 use Rattle.ijtag_stages.specs.declared.refusal.Stage.TheVariants.{File}
 
 -- ---- loads: where the files aren't told, a load may give any text that is short enough, or find any file too long
@@ -52,18 +50,11 @@ pub record SeenCompilable : Type 0 where
   pub device : Device
   pub steps : List SeenStep
 
--- the bit steps of a procedure that comes to its end, where no procedure has an iMerge
-unfoldable pub followed : List AProc → NestedNet → List ℕ → Part (List SeenStep)
-followed procs network name = do
-  steps ← procedure procs network name
-  none ← unmerged procs
-  give steps
-
 unfoldable pub compiled_procedure : Compile → List SeenModule → Device → List ℕ → Part SeenCompilable
 compiled_procedure c modules of pdl = do
   network ← network_below modules c.top of
   procs ← pdl_text pdl
-  steps ← followed procs network c.procedure
+  steps ← procedure procs network c.procedure
   give (record { network = network; device = of; steps = steps })
 
 abbrev pub accepted : Compile → List (List ℕ) → Part SeenCompilable
@@ -174,7 +165,7 @@ fitted_network top modules of tables = do
 unfoldable pub followed_text : List ℕ → List ℕ → NestedNet → Part (List SeenStep)
 followed_text name pdl network = do
   procs ← pdl_text pdl
-  steps ← followed procs network name
+  steps ← procedure procs network name
   give steps
 
 unfoldable pub run_network : List ℕ → List ℕ → List SeenModule → Device → List SeenTable → List ℕ → Part SeenRunnable

@@ -1,38 +1,16 @@
-// A procedure that is followed to its end, and then once more.
-ghost use Rattle.std.specs.Prelude.{◌≡◌, ◌<◌, ◌^◌, None, length, OnOk, IfOk};
+// A procedure that was followed to its end, once more.
+ghost use Rattle.std.specs.Prelude.{◌≡◌, ◌<◌, ◌^◌, length, IfOk};
 ghost use Rattle.bit_steps.specs.BitSteps.{bit_steps};
 ghost use Rattle.ij_text.specs.Numbering.{AreDistinct};
 ghost use Rattle.net_graph.specs.Nets.{IsNet};
 ghost use Rattle.pdl_parser.specs.Grammar.{full_names};
 ghost use Rattle.pdl_parser.specs.Views.{seen_procs};
-ghost use Rattle.ijtag_stages.specs.Follows.{Follows};
-ghost use Rattle.ijtag_stages.specs.Seen.{seen_network};
-ghost use Rattle.ijtag_core.specs.Order.{followed};
 
 use bit_steps::BitSteps;
 use ij_bits::OutOfMemory;
-use ijtag_stages::{Network, StageFault, check_procedure, check_unmerged};
+use ijtag_stages::Network;
 use pdl_parser::Procs;
 use std::alloc::Global;
-
-/// Follows a procedure to its end, in a text without iMerge.
-#[tactic(auto, unfolding(crate::specs::Order::followed))]
-pub(crate) fn follow(
-    alloc: Global,
-    procs: &Procs,
-    network: &Network,
-    name: &str,
-) -> Result<(), StageFault>
-    requires net { IsNet network.now.net }
-    requires distinct { AreDistinct (full_names (seen_procs procs.now)) }
-    requires few { length procs.now.procs.items < 2 ^ 32 }
-    ensures follows { Follows (followed (seen_procs procs.now) (seen_network network.now) name.now) (λ _. (bit_steps (seen_procs procs.now) network.now.net network.now.form name.now).steps) result }
-    ensures ends { OnOk result ((bit_steps (seen_procs procs.now) network.now.net network.now.form name.now).fault ≡ None) }
-{
-    check_procedure(alloc, procs, network, name)?;
-    check_unmerged(alloc, procs)?;
-    Ok(())
-}
 
 /// The bit steps of a procedure once more, one at each call. They were followed to their end before.
 pub(crate) fn steps_again<'a>(

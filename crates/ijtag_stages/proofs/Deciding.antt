@@ -55,7 +55,6 @@ use Rattle.ijtag_stages.specs.Procedure.{procedure, step_refusal}
 use Rattle.ijtag_stages.specs.Refusals.{Refusal, refused_at, refused_word}
 use Rattle.ijtag_stages.specs.SvfText.{svf_text, svf_fault}
 use Rattle.ijtag_stages.specs.TablesText.{tables_fault, tables_text}
-use Rattle.ijtag_stages.specs.Unmerged.{unmerged}
 use Rattle.ijtag_stages.specs.Work.{IsDecided}
 use Rattle.ijtag_stages.specs.declared.refusal.Stage.TheVariants.{Icl, Svf}
 use Rattle.ijtag_stages.proofs.Turns.{give_decided, in_turn_decided}
@@ -228,10 +227,6 @@ procedure_decided procs network name =
       alike = λ r s p q. steps_alike all (seen_net network.net) p.0 q.0 r s p.1 q.1 p.2 q.2;
     }
 
-unmerged_decided : (procs : List AProc) → IsDecided (unmerged procs)
-unfolding unmerged
-unmerged_decided procs = record { one = λ a b p q. refl; apart = λ u r p q. let yes = q.0 in cc; alike = λ r s p q. p.1 ∙ sym q.1 }
-
 -- ---- the network, and all stages
 
 module _ (one_form : OneForm) (one_cause : OneCause) (lawful_none : LawfulHasNone)
@@ -281,6 +276,5 @@ module _ (one_form : OneForm) (one_cause : OneCause) (lawful_none : LawfulHasNon
     network = network_decided;
     fit = fit_decided;
     pdl = pdl_decided;
-    unmerged = unmerged_decided;
     procedure = procedure_decided;
   }

@@ -3,11 +3,10 @@ use Rattle.std.specs.Prelude.{Option, None}
 use Rattle.std.specs.Option.{option_map}
 use Rattle.std.proofs.Common.{◌≡◌, sym, Some}
 use Rattle.icl_signals.specs.PlainNets.{NetOf}
-use Rattle.bit_steps.specs.BitSteps.{AFault, Expands, Targets}
-use Rattle.bit_steps.specs.Seen.{Ends, EndsIn, expand_fault}
+use Rattle.bit_steps.specs.BitSteps.{AFault, Expands, Feeds}
+use Rattle.bit_steps.specs.Seen.{Ends, EndsIn, expand_fault, feed_fault}
 use Rattle.bit_steps.specs.declared.fault.StepFault.{StepFault}
-use Rattle.bit_steps.specs.declared.fault.StepFault.TheVariants.{OutOfMemory, Expand, Target}
-use Rattle.pdl_targets.specs.Seen.{fault_of as target_fault}
+use Rattle.bit_steps.specs.declared.fault.StepFault.TheVariants.{OutOfMemory, Expand, Feed}
 use Rattle.ijtag_stages.specs.Procedure.{fault_of, step_refusal}
 use Rattle.ijtag_stages.specs.Refusals.{Refusal}
 
@@ -25,4 +24,4 @@ said end (Some fault) of r ends told = (fault, ends, sym (some_is (step_refusal 
 pub ends_told : (end : Option AFault) (of : NetOf) (e : StepFault) (r : Refusal) → EndsIn end e → option_map (step_refusal of) (fault_of e) ≡ Some r → (fault : AFault) × (end ≡ Some fault) × (r ≡ step_refusal of fault)
 ends_told end of OutOfMemory r ends told = absurd (no_refusal r told)
 ends_told end of (Expand x) r ends told = said end (option_map Expands (expand_fault x)) of r ends told
-ends_told end of (Target x) r ends told = said end (option_map Targets (target_fault x)) of r ends told
+ends_told end of (Feed x) r ends told = said end (option_map Feeds (feed_fault x)) of r ends told

@@ -17,7 +17,6 @@ use Rattle.ijtag_stages.specs.PdlText.{pdl_text}
 use Rattle.ijtag_stages.specs.Procedure.{procedure}
 use Rattle.ijtag_stages.specs.SvfText.{svf_text}
 use Rattle.ijtag_stages.specs.TablesText.{tables_text}
-use Rattle.ijtag_stages.specs.Unmerged.{unmerged}
 use Rattle.ijtag_stages.specs.Work.{IsDecided}
 
 pub record StagesAreDecided : Type 0 where
@@ -28,7 +27,6 @@ pub record StagesAreDecided : Type 0 where
   pub network : (modules : List SeenModule) (top : List ℕ) (of : Device) → IsDecided (network_below modules top of)
   pub fit : (net : Net) (tables : List SeenTable) → IsDecided (models_of net tables)
   pub pdl : (text : List ℕ) → IsDecided (pdl_text text)
-  pub unmerged : (procs : List AProc) → IsDecided (unmerged procs)
   pub procedure : (procs : List AProc) (network : NestedNet) (name : List ℕ) → IsDecided (procedure procs network name)
 
 -- what is read of an SVF text can be played in a number of clocks that is counted

@@ -13,7 +13,6 @@ pub mod Networks
 pub mod Fitted
 pub mod PdlText
 pub mod Procedure
-pub mod Unmerged
 pub mod Laws
 -- how the code goes
 pub mod Seen

@@ -3,14 +3,14 @@
 use Rattle.std.specs.Prelude.{◌≡◌, ℕ, List, [], ◌∷◌, Option, Some, None, codes}
 use Rattle.std.specs.Option.{option_map}
 use Rattle.bit_steps.specs.declared.fault.StepFault.{StepFault}
-use Rattle.bit_steps.specs.declared.fault.StepFault.TheVariants.{OutOfMemory as StepMemory, Expand, Target}
-use Rattle.bit_steps.specs.Seen.{expand_fault}
-use Rattle.bit_steps.specs.BitSteps.{AFault, Expands, Targets, bit_steps}
+use Rattle.bit_steps.specs.declared.fault.StepFault.TheVariants.{OutOfMemory as StepMemory, Expand, Feed}
+use Rattle.bit_steps.specs.Seen.{expand_fault, feed_fault}
+use Rattle.bit_steps.specs.BitSteps.{AFault, Expands, Feeds, bit_steps}
 use Rattle.icl_signals.specs.PlainNets.{NetOf, seen_net}
+use Rattle.merge_order.specs.Feeding.{AFault as FeedFault, IsMergeInside, IsMergeReset, Targets}
 use Rattle.net_graph.specs.SeenSteps.{SeenStep}
 use Rattle.pdl_expand.specs.Expansion.{AFault as ExpandFault, IsNoProc, IsArgCount, IsTooManySteps, IsNoName, IsCallDepth}
 use Rattle.pdl_parser.specs.Values.{AProc}
-use Rattle.pdl_targets.specs.Seen.{fault_of as target_fault}
 use Rattle.pdl_targets.specs.Targets.{AFault as TargetFault, IsNoTarget, IsNoValue, IsValueWide, IsNotWritable, IsNotReadable, IsSelectTarget, IsBadCount, IsLimit, IsUnapplied}
 use Rattle.ijtag_stages.specs.Elaborated.{which_name}
 use Rattle.ijtag_stages.specs.NetNames.{bit_arg}
@@ -38,15 +38,21 @@ target_refusal of (IsBadCount at) = refused_at Pdl (codes "BadCount") at
 target_refusal of (IsLimit at which number) = record { stage = Pdl; kind = codes "Limit"; args = At at ∷ Said (which_name which) ∷ Num number ∷ [] }
 target_refusal of (IsUnapplied at) = refused_at Pdl (codes "Unapplied") at
 
+-- how a fault of a step is told
+abbrev pub feed_refusal : NetOf → FeedFault → Refusal
+feed_refusal of (IsMergeInside at) = refused_at Pdl (codes "MergeInside") at
+feed_refusal of (IsMergeReset at) = refused_at Pdl (codes "MergeReset") at
+feed_refusal of (Targets fault) = target_refusal of fault
+
 abbrev pub step_refusal : NetOf → AFault → Refusal
 step_refusal of (Expands fault) = expand_refusal fault
-step_refusal of (Targets fault) = target_refusal of fault
+step_refusal of (Feeds fault) = feed_refusal of fault
 
 -- the fault that a refusal of the call says, unless memory ran out
 abbrev pub fault_of : StepFault → Option AFault
 fault_of StepMemory = None
 fault_of (Expand e) = option_map Expands (expand_fault e)
-fault_of (Target e) = option_map Targets (target_fault e)
+fault_of (Feed e) = option_map Feeds (feed_fault e)
 
 -- the bit steps of a procedure that comes to its end, or its first fault
 unfoldable pub procedure : List AProc → NestedNet → List ℕ → Part (List SeenStep)

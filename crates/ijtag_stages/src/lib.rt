@@ -16,7 +16,6 @@ mod procedure;
 mod refusal;
 mod svf;
 mod tables;
-mod unmerged;
 
 pub use device::read_device;
 pub use fit::fit_tables;
@@ -28,4 +27,3 @@ pub use procedure::check_procedure;
 pub use refusal::{Arg, Refusal, Stage, StageFault, put_refusal, refused_name};
 pub use svf::read_svf;
 pub use tables::read_tables;
-pub use unmerged::check_unmerged;

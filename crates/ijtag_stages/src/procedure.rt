@@ -2,7 +2,7 @@
 ghost use Rattle.std.specs.Prelude.{◌≡◌, ◌<◌, ◌^◌, ◌∷◌, [], Some, None, OnOk, codes, length, map};
 ghost use Rattle.std.specs.Option.{option_map};
 ghost use Rattle.bit_steps.specs.BitSteps.{bit_steps};
-ghost use Rattle.bit_steps.specs.Seen.{expand_fault};
+ghost use Rattle.bit_steps.specs.Seen.{expand_fault, feed_fault};
 ghost use Rattle.icl_signals.specs.PlainNets.{seen_net};
 ghost use Rattle.ij_text.specs.Numbering.{AreDistinct};
 ghost use Rattle.net_graph.specs.Nets.{IsNet};
@@ -12,7 +12,7 @@ ghost use Rattle.pdl_targets.specs.Seen.{fault_of as target_fault};
 ghost use Rattle.ijtag_stages.specs.Elaborated.{which_name};
 ghost use Rattle.ijtag_stages.specs.Follows.{Follows, IsToldAs};
 ghost use Rattle.ijtag_stages.specs.NetNames.{bit_arg};
-ghost use Rattle.ijtag_stages.specs.Procedure.{procedure, expand_refusal, fault_of, target_refusal, step_refusal};
+ghost use Rattle.ijtag_stages.specs.Procedure.{procedure, expand_refusal, fault_of, feed_refusal, target_refusal, step_refusal};
 ghost use Rattle.ijtag_stages.specs.Refusals.{At, Num, Said};
 ghost use Rattle.ijtag_stages.specs.Seen.{seen_network};
 
@@ -24,6 +24,7 @@ use crate::refusal::{
 };
 use bit_steps::{StepFault, check};
 use ij_text::{Place, Which, name_of};
+use merge_order::FeedFault;
 use net_graph::{BitId, Net};
 use pdl_expand::ExpandFault;
 use pdl_parser::Procs;
@@ -90,12 +91,24 @@ fn told_target(alloc: Global, net: &Net, fault: TargetFault) -> StageFault
 }
 
 /// How a fault of a step is told.
+fn told_feed(alloc: Global, net: &Net, fault: FeedFault) -> StageFault
+    ensures { IsToldAs (option_map (feed_refusal (seen_net net.now)) (feed_fault fault)) result }
+{
+    match fault {
+        FeedFault::MergeInside { at } => refused_at(alloc, Stage::Pdl, b"MergeInside", at),
+        FeedFault::MergeReset { at } => refused_at(alloc, Stage::Pdl, b"MergeReset", at),
+        FeedFault::Target(fault) => told_target(alloc, net, fault),
+        FeedFault::OutOfMemory => StageFault::OutOfMemory,
+    }
+}
+
+/// How a fault of a procedure is told.
 fn told(alloc: Global, net: &Net, fault: StepFault) -> StageFault
     ensures { IsToldAs (option_map (step_refusal (seen_net net.now)) (fault_of fault)) result }
 {
     match fault {
         StepFault::Expand(fault) => told_expand(alloc, fault),
-        StepFault::Target(fault) => told_target(alloc, net, fault),
+        StepFault::Feed(fault) => told_feed(alloc, net, fault),
         StepFault::OutOfMemory => StageFault::OutOfMemory,
     }
 }

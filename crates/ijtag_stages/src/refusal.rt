@@ -36,8 +36,6 @@ pub enum Stage {
     Fit,
     /// The procedures' text is read, and the procedure followed to its end (IEEE 1687-2014, PDL level 0).
     Pdl,
-    /// What is asked for isn't built yet.
-    Core,
 }
 
 impl Stage {
@@ -57,7 +55,6 @@ impl Stage {
             Stage::Nest => b"nest",
             Stage::Fit => b"fit",
             Stage::Pdl => b"pdl",
-            Stage::Core => b"core",
         }
     }
 }

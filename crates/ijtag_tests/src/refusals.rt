@@ -196,8 +196,8 @@ fn refused_procedures_tell_why(rt: HostRuntime) -> Result<(), Fail> {
             b"refused pdl Unapplied 3:3\n",
         ),
         (
-            b"iProcsForModule chip\niProc p {} {\n  iMerge -begin\n  iMerge -end\n}\n",
-            b"refused core Merge\n",
+            b"iProcsForModule chip\niProc p {} {\n  iWrite net.R 1\n  iMerge -begin\n  iMerge -end\n}\n",
+            b"refused pdl Unapplied 3:3\n",
         ),
     ];
     for (pdl, said) in rows {

@@ -3,3 +3,5 @@
 
 #[cfg(test)]
 mod memories;
+#[cfg(test)]
+mod merges;

@@ -21,7 +21,7 @@ const PDL: &[u8] =
 const REPORT: &[u8] =
     b"register net.R 000100011101\ninstrument mem q=00 m[3]=11 changes 3 runs 0 resets 0\nreads 0 differs 0\n";
 
-fn words(alloc: Global, parts: &[&str]) -> Result<Vec<String>, AllocError> {
+pub(crate) fn words(alloc: Global, parts: &[&str]) -> Result<Vec<String>, AllocError> {
     let mut words = Vec::new(alloc);
     for part in parts {
         words.push(String::from_str(alloc, part)?)?;
@@ -70,10 +70,10 @@ fn a_memory_shows_what_stood_there(rt: HostRuntime) -> Result<(), Fail> {
         ),
         (PDL, Status::Good, REPORT, b""),
         (
-            b"iProcsForModule chip\niProc p {} {\n  iMerge -begin\n  iMerge -end\n}\n",
+            b"iProcsForModule chip\niProc p {} {\n  iWrite mem.a 3\n}\n",
             Status::Refused,
             b"",
-            b"refused core Merge\n",
+            b"refused pdl Unapplied 3:3\n",
         ),
     ];
     for (pdl, ended, report, line) in rows {

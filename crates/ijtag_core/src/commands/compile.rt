@@ -13,18 +13,20 @@ ghost use Rattle.ijtag_core.specs.Runs.{IsDone, IsPartDone, IsStop, OnlyTheseCha
 ghost use Rattle.ijtag_core.specs.Seen.{IsCompilable, seen_compilable, seen_compile, seen_stop, differing};
 ghost use Rattle.ijtag_core.specs.Stops.{IsEarly};
 
-use crate::follow::{follow, steps_again};
+use crate::follow::steps_again;
 use crate::load::load_all;
 use crate::status::Verdict;
 use crate::stop::Stop;
 use crate::words::CompileWords;
 use crate::write::write_file;
-use bit_steps::{bit_steps_are_bound, bit_steps_are_few};
+use bit_steps::{bit_steps_are_few, bit_steps_are_of_the_network};
 use group_scans::procedures_are_plannable;
 use icl_syntax::Design;
 use ij_bits::OutOfMemory;
 use ij_io::{Shelf, Sink, StoreFault, SureSink};
-use ijtag_stages::{Network, StageFault, read_device, read_icl, read_network, read_pdl};
+use ijtag_stages::{
+    Network, StageFault, check_procedure, read_device, read_icl, read_network, read_pdl,
+};
 use net_graph::Device;
 use pdl_parser::Procs;
 use retargeter::put_svf;
@@ -58,7 +60,7 @@ fn accept_procedure(
 {
     let network = read_network(alloc, modules, words.top, &device)?;
     let procs = read_pdl(alloc, pdl)?;
-    follow(alloc, &procs, &network, words.procedure)?;
+    check_procedure(alloc, &procs, &network, words.procedure)?;
     Ok(Compilable {
         network,
         device,
@@ -108,7 +110,7 @@ fn make_svf(alloc: Global, it: &Compilable, procedure: &str) -> Result<SureSink,
     requires { IsCompilable procedure.now it.now }
     ensures { IfOk result (λ svf. (written_text (seen_compilable procedure.now it.now)).gives svf) }
 {
-    bit_steps_are_bound();
+    bit_steps_are_of_the_network();
     bit_steps_are_few();
     procedures_are_plannable();
     let mut svf = SureSink::new(alloc);

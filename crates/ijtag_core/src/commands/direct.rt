@@ -21,7 +21,7 @@ ghost use Rattle.ijtag_core.specs.Runs.{IsDone, IsPartDone, IsStop, OnlyTheseRis
 ghost use Rattle.ijtag_core.specs.Seen.{IsInstrumented, IsRunnable, seen_direct, seen_instrumented, seen_runnable, seen_stop, differing};
 ghost use Rattle.ijtag_core.specs.Stops.{IsEarly};
 
-use crate::follow::{follow, steps_again};
+use crate::follow::steps_again;
 use crate::load::load_all;
 use crate::status::Verdict;
 use crate::stop::Stop;
@@ -33,7 +33,8 @@ use icl_syntax::Design;
 use ij_bits::List;
 use ij_io::{Shelf, Sink, StoreFault};
 use ijtag_stages::{
-    Network, StageFault, fit_tables, read_device, read_icl, read_network, read_pdl, read_tables,
+    Network, StageFault, check_procedure, fit_tables, read_device, read_icl, read_network,
+    read_pdl, read_tables,
 };
 use net_graph::Device;
 use pdl_parser::Procs;
@@ -94,7 +95,7 @@ fn accept_procedure(
     ensures ends { IfOk result (λ procs. (bit_steps (seen_procs procs) on.now.network.net on.now.network.form name.now).fault ≡ None) }
 {
     let procs = read_pdl(alloc, pdl)?;
-    follow(alloc, &procs, &on.network, name)?;
+    check_procedure(alloc, &procs, &on.network, name)?;
     Ok(procs)
 }
 

@@ -1,5 +1,8 @@
-use Rattle.bit_steps.proofs.Whole.{steps_are_bound}
+use Rattle.bit_steps.proofs.Whole.{steps_are_bound, steps_are_fed}
 use Rattle.bit_steps.proofs.laws.bit_steps_are_bound.Goals as goal
 
-pub returns : goal.returns
-returns c = steps_are_bound
+pub returns-clause-fed : goal.returns-clause-fed
+returns-clause-fed c = steps_are_fed
+
+pub returns-clause-alone : goal.returns-clause-alone
+returns-clause-alone c = steps_are_bound

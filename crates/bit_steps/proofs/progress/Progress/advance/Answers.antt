@@ -5,16 +5,16 @@ use Rattle.pdl_expand.specs.Code.{Left}
 use Rattle.pdl_expand.specs.SeenSteps.{given_first, nothing_left as no_step}
 use Rattle.pdl_expand.specs.Values.{seen_step}
 use Rattle.pdl_expand.specs.declared.step.Step.{Step}
-use Rattle.bit_steps.specs.Seen.{Refuses, of_target}
+use Rattle.bit_steps.specs.Seen.{Refuses, of_feed}
 use Rattle.bit_steps.specs.SeenProgress.{bits_behind, steps_of}
 use Rattle.bit_steps.proofs.progress.Progress.advance.Goals as goal
 
-pub returns-in_err-given-in-Some-clause-refused : goal.returns-in_err-given-in-Some-clause-refused
-returns-in_err-given-in-Some-clause-refused c =
-    let p = err_from_is_err_and c.from_residual-in_err-given-in-Some.result c.from_residual-in_err-given-in-Some.ensures.1 in
+pub returns-in_err-feed-in-Some-clause-refused : goal.returns-in_err-feed-in-Some-clause-refused
+returns-in_err-feed-in-Some-clause-refused c =
+    let p = err_from_is_err_and c.from_residual-in_err-feed-in-Some.result c.from_residual-in_err-feed-in-Some.ensures.1 in
     let left = steps_of c.args.self.now in
     let more = c.take.new.steps in
     let taken : left ≡ given_first (seen_step c.in-Some.step) more =
     subst (λ (o : Option Step). MatchOption o (left ≡ no_step) (λ s. left ≡ given_first (seen_step s) more)) c.in-Some.is c.in_ok-step.ensures.taken in
-    let refused = c.in_err-given-in-Some.ensures.refused more in
-    rw (p.1, p.2) (subst (λ (l : Left). Refuses (bits_behind c.args.self.now.binder l) (of_target c.in_err-given-in-Some.field-0.0)) (sym taken) refused)
+    let refused = c.in_err-feed-in-Some.ensures.refused more in
+    rw (p.1, p.2) (subst (λ (l : Left). Refuses (bits_behind c.args.self.now.feeder l) (of_feed c.in_err-feed-in-Some.field-0.0)) (sym taken) refused)

@@ -13,4 +13,4 @@ put_svf-requires-clause-plannable c =
     let it = c.args.it.now in
     let net = it.network.net in
     subst (λ (b : BitStepsOf). All (StepIsPlannable net it.network.form) b.steps) (sym c.in_ok-steps.ensures)
-    (plannable c.bit_steps_are_bound.ensures c.procedures_are_plannable.ensures.steps (seen_procs it.procs) net it.network.form c.args.procedure.now c.requires.nested.well_formed c.requires.nested.describes)
+    (plannable c.bit_steps_are_of_the_network.ensures.steps c.bit_steps_are_of_the_network.ensures.paths c.procedures_are_plannable.ensures.steps (seen_procs it.procs) net it.network.form c.args.procedure.now c.requires.nested.well_formed c.requires.nested.describes)

@@ -1,13 +1,24 @@
 use Rattle.std.proofs.Common.{◌≡◌, ◌∙◌, ap, arith, ℕ, List, Option, map, subst}
 use Rattle.bit_steps.specs.BitSteps.{BitStepsOf, bit_steps}
 use Rattle.direct_report.specs.Report.{direct_report, direct_differs}
-use Rattle.ij_io.specs.Bytes.{Adds}
+use Rattle.ij_io.specs.Bytes.{Adds, AddsPart}
+use Rattle.ij_io.proofs.Adding.{at_refusal}
 use Rattle.instruments.specs.Seen.{seen_model}
 use Rattle.instruments.specs.declared.model.Model.{Model}
 use Rattle.pdl_parser.specs.Views.{seen_procs}
 use Rattle.ijtag_core.specs.Order.{meaning_of}
 use Rattle.ijtag_core.proofs.Verdicts.{differs}
 use Rattle.ijtag_core.proofs.commands.direct.put_lines.Goals as goal
+
+pub returns-in_err-differs-clause-part : goal.returns-in_err-differs-clause-part
+unfolding meaning_of
+returns-in_err-differs-clause-part g c =
+    let on = c.args.it.now.on in
+    let old : Option (List ℕ) = g.O.Sink.taken c.args.out.now in
+    let new : Option (List ℕ) = g.O.Sink.taken c.put_direct.new.k in
+    at_refusal _
+    (subst (λ (b : BitStepsOf). AddsPart old new (direct_report on.network.net (map seen_model on.models) b.steps)) c.in_ok-steps.ensures
+    (subst (λ (ms : List Model). AddsPart old new (direct_report on.network.net (map seen_model ms) c.in_ok-steps.steps.steps)) c.models.ensures c.in_err-differs.ensures.part))
 
 pub returns-then-differs-eq0-clause-printed : goal.returns-then-differs-eq0-clause-printed
 unfolding meaning_of
