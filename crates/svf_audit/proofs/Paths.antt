@@ -1,0 +1,171 @@
+-- The active path and its bits: its registers take the bits of one list, and every path has room.
+use Rattle.std.proofs.Common.{◌≡◌, ℕ, zero, suc, ◌+◌, ◌-◌, ◌<◌, ◌≤◌, Bool, false, get_or, List, [], ◌∷◌, ◌++◌, length, take, drop, Option, Some, None, refl, sym, ap, ◌∙◌, subst, arith, length-append, append_assoc, add-one}
+use Rattle.std.specs.Prelude.{All, replicate, map, unwrap_or, slice_set, sum}
+use Rattle.std.proofs.lemmas.List.{append-nil, length-map, length-set, drop-drop, drop_more, get_or-set_other, length-replicate}
+use Rattle.std.proofs.lemmas.List.Elements.{All-append, All-cons, All-nil}
+use Rattle.std.proofs.lemmas.List.Sums.{sum_by-cons}
+use Rattle.net_graph.specs.Chain.{NotIn, IsRoute, chain, put_chain}
+use Rattle.net_graph.specs.Held.{AreHolds}
+use Rattle.net_graph.specs.Named.{bits_from, width_of, IsBitOf}
+use Rattle.net_graph.specs.Nets.{IsNet}
+use Rattle.net_graph.specs.Path.{active}
+use Rattle.net_graph.specs.Resets.{reset_holds, start_holds, zero_holds}
+use Rattle.net_graph.specs.Signals.{Holds, bits_at}
+use Rattle.net_graph.specs.declared.net.BitId.{BitId}
+use Rattle.net_graph.specs.declared.net.Net.{Net}
+use Rattle.net_graph.specs.declared.net.Reg.{Reg}
+use Rattle.net_graph.proofs.Chains.{chain-set, put_chain-set}
+use Rattle.net_graph.proofs.PlainNet.{length-bits_from}
+use Rattle.net_graph.proofs.Shapes.{length_at, total, reset-shape, length-chain}
+use Rattle.net_graph.proofs.Tracing.{trace_route}
+use Rattle.svf_audit.specs.Audit.{bits_on, path_of}
+
+-- the active path has different registers of the network
+pub route_is : (net : Net) (holds : Holds) → IsNet net → IsRoute (length net.regs.items) (path_of net holds)
+route_is net holds w = by (active net holds) refl
+  where
+    by : (o : Option (List ℕ)) → active net holds ≡ o → IsRoute (length net.regs.items) (unwrap_or o [])
+    by None e = tt
+    by (Some met) e = trace_route net holds w (length net.regs.items + length net.muxes.items) net.out met w.output e
+
+pub count_of : (net : Net) (s : Holds) → AreHolds net s → length s ≡ length net.regs.items
+count_of net s h = sym (length-map s length) ∙ ap length h ∙ length-map net.regs.items (λ reg. reg.width)
+
+pub route_in : (net : Net) (holds s : Holds) → IsNet net → AreHolds net s → IsRoute (length s) (path_of net holds)
+route_in net holds s w h = subst (λ n. IsRoute n (path_of net holds)) (sym (count_of net s h)) (route_is net holds w)
+
+-- one more register has taken its bits
+pub unload_step : (r : ℕ) (rs : List ℕ) (at : ℕ) (bits : List Bool) (s : Holds) → NotIn r rs → put_chain rs (drop (at + length (bits_at s r)) bits) (slice_set s r (take (length (bits_at s r)) (drop at bits))) ≡ put_chain (r ∷ rs) (drop at bits) s
+unload_step r rs at bits s h =
+    let w = length (bits_at s r) in
+    ap (λ b. put_chain rs b (slice_set s r (take w (drop at bits)))) (sym (drop-drop w at bits))
+    ∙ put_chain-set rs (drop w (drop at bits)) s r (take w (drop at bits)) h
+
+pub unload_fits : (r : ℕ) (rs : List ℕ) (at n : ℕ) (s : Holds) (v : List Bool) → NotIn r rs → at + length (chain (r ∷ rs) s) ≡ n → (at + length (bits_at s r)) + length (chain rs (slice_set s r v)) ≡ n
+unload_fits r rs at n s v h e =
+    omega (arith, e, ap length (chain-set rs s r v h), length-append (bits_at s r) (chain rs s))
+
+pub unload_turn : (path : List ℕ) (i at w : ℕ) (bits : List Bool) (s t : Holds) → i < length path → IsRoute (length s) (drop i path) → w ≡ length (bits_at s (get_or path i 0)) → t ≡ slice_set s (get_or path i 0) (take (length (bits_at s (get_or path i 0))) (drop at bits)) → at + length (chain (drop i path) s) ≡ length bits
+    → (put_chain (drop (i + 1) path) (drop (at + w) bits) t ≡ put_chain (drop i path) (drop at bits) s) × IsRoute (length t) (drop (i + 1) path) × (at + w + length (chain (drop (i + 1) path) t) ≡ length bits)
+unload_turn path i at w bits s t within route width new fits =
+    let r = get_or path i 0 in
+    let rs = drop (i + 1) path in
+    let v = take (length (bits_at s r)) (drop at bits) in
+    let more : drop i path ≡ r ∷ rs = drop_more path i 0 within in
+    let here : IsRoute (length s) (r ∷ rs) = subst (IsRoute (length s)) more route in
+    let count : length t ≡ length s = ap length new ∙ length-set s r v in (
+      ap (λ n. put_chain rs (drop (at + n) bits) t) width
+          ∙ ap (put_chain rs (drop (at + length (bits_at s r)) bits)) new
+          ∙ unload_step r rs at bits s here.1
+          ∙ ap (λ p. put_chain p (drop at bits) s) (sym more),
+      subst (λ n. IsRoute n rs) (sym count) here.2,
+      ap (λ n. at + n + length (chain rs t)) width
+          ∙ ap (λ x. at + length (bits_at s r) + length (chain rs x)) new
+          ∙ unload_fits r rs at (length bits) s v here.1 (ap (λ p. at + length (chain p s)) (sym more) ∙ fits),
+    )
+
+-- ---- every path has room
+
+sum-set : (ns : List ℕ) (r : ℕ) → r < length ns → sum (slice_set ns r 0) + get_or ns r 0 ≡ sum ns
+sum-set [] r h = absurd (omega (arith, h))
+sum-set (n ∷ ns) zero h = omega (arith, sum_by-cons (λ k. k) n ns, sum_by-cons (λ k. k) 0 ns)
+sum-set (n ∷ ns) (suc r) h =
+    omega (arith, sum_by-cons (λ k. k) n ns, sum_by-cons (λ k. k) n (slice_set ns r 0), sum-set ns r (omega (arith, h)))
+
+total-set : (p ns : List ℕ) (r : ℕ) → NotIn r p → total p (slice_set ns r 0) ≡ total p ns
+total-set [] ns r h = refl
+total-set (x ∷ xs) ns r h = omega (arith, get_or-set_other ns r x 0 0 h.0, total-set xs ns r h.1)
+
+total_fits : (p ns : List ℕ) → IsRoute (length ns) p → total p ns ≤ sum ns
+total_fits [] ns h = omega arith
+total_fits (r ∷ rs) ns h =
+    let rest : total rs (slice_set ns r 0) ≤ sum (slice_set ns r 0) =
+    total_fits rs (slice_set ns r 0) (subst (λ n. IsRoute n rs) (sym (length-set ns r 0)) h.2) in
+    omega (arith, rest, total-set rs ns r h.1, sum-set ns r h.0)
+
+-- the bits of a path are some of the network's
+pub chain_fits : (net : Net) (p : List ℕ) (s : Holds) → AreHolds net s → IsRoute (length s) p → length (chain p s) ≤ sum (map (λ reg. reg.width) net.regs.items)
+chain_fits net p s h r =
+    let fits : total p (map length s) ≤ sum (map length s) =
+    total_fits p (map length s) (subst (λ n. IsRoute n p) (sym (length-map s length)) r) in
+    omega (arith, length-chain p s, fits, ap sum h)
+
+pub turn_register : (n : ℕ) (path : List ℕ) (i : ℕ) → i < length path → IsRoute n (drop i path) → (get_or path i 0 < n) × IsRoute n (drop (i + 1) path)
+turn_register n path i h r =
+    let k : IsRoute n (get_or path i 0 ∷ drop (i + 1) path) = subst (IsRoute n) (drop_more path i 0 h) r in (k.0, k.2)
+
+-- ---- at power-up
+
+zero_widths : (regs : List Reg) → map length (map (λ r. replicate r.width false) regs) ≡ map (λ reg. reg.width) regs
+zero_widths [] = refl
+zero_widths (r ∷ regs) =
+    ap (λ n. n ∷ map length (map (λ r. replicate r.width false) regs)) (length-replicate r.width false) ∙ ap (λ ns. r.width ∷ ns) (zero_widths regs)
+
+pub start_shape : (net : Net) (s : Holds) → s ≡ start_holds net → AreHolds net s
+start_shape net s e = ap (map length) e ∙ reset-shape net (zero_holds net) ∙ zero_widths net.regs.items
+
+pub reset_shape : (net : Net) (holds into : Holds) → AreHolds net holds → into ≡ reset_holds net holds → AreHolds net into
+reset_shape net holds into h is = ap (map length) is ∙ reset-shape net holds ∙ h
+
+-- ---- the bits of a path
+
+pub length-bits_on : (holds : Holds) (path : List ℕ) → length (bits_on holds path) ≡ length (chain path holds)
+length-bits_on holds [] = refl
+length-bits_on holds (r ∷ rs) =
+    omega (arith, length-append (bits_from r 0 (length (bits_at holds r))) (bits_on holds rs), length-append (bits_at holds r) (chain rs holds), length-bits_from r 0 (length (bits_at holds r)), length-bits_on holds rs)
+
+-- one more bit of a register
+pub one_bit : (r k n : ℕ) (done now whole : List BitId) → k < n → now ≡ done ++ record { reg = r; pos = k } ∷ [] → done ++ bits_from r k (n - k) ≡ whole → now ++ bits_from r (k + 1) (n - (k + 1)) ≡ whole
+one_bit r k n done now whole l e w =
+    let here : BitId = record { reg = r; pos = k } in
+    let rest = bits_from r (k + 1) (n - (k + 1)) in
+    let more : n - k ≡ suc (n - (k + 1)) = omega arith in
+    ap (λ x. x ++ rest) e
+    ∙ append_assoc done (here ∷ []) rest
+    ∙ ap (λ j. done ++ here ∷ bits_from r j (n - (k + 1))) (add-one k)
+    ∙ ap (λ m. done ++ bits_from r k m) (sym more)
+    ∙ w
+
+-- one more register of a path
+pub one_register : (holds : Holds) (path : List ℕ) (i w : ℕ) (done now whole : List BitId) → i < length path → w ≡ length (bits_at holds (get_or path i 0)) → now ≡ done ++ bits_from (get_or path i 0) 0 w → done ++ bits_on holds (drop i path) ≡ whole → now ++ bits_on holds (drop (i + 1) path) ≡ whole
+one_register holds path i w done now whole l e is was =
+    let r = get_or path i 0 in
+    let rest = bits_on holds (drop (i + 1) path) in
+    ap (λ x. x ++ rest) is
+    ∙ append_assoc done (bits_from r 0 w) rest
+    ∙ ap (λ n. done ++ (bits_from r 0 n ++ rest)) e
+    ∙ ap (λ p. done ++ bits_on holds p) (sym (drop_more path i 0 l))
+    ∙ was
+
+pub last_bit : (r k n : ℕ) (done whole : List BitId) → n ≤ k → done ++ bits_from r k (n - k) ≡ whole → done ≡ whole
+last_bit r k n done whole l e =
+    let none : n - k ≡ 0 = omega arith in
+    sym (append-nil done) ∙ ap (λ m. done ++ bits_from r k m) (sym none) ∙ e
+
+pub on_length : (holds : Holds) (path : List ℕ) (i : ℕ) → i < length path → length (bits_on holds (drop i path)) ≡ length (bits_at holds (get_or path i 0)) + length (bits_on holds (drop (i + 1) path))
+on_length holds path i l =
+    let r = get_or path i 0 in
+    let rest = bits_on holds (drop (i + 1) path) in
+    omega (arith, ap (λ p. length (bits_on holds p)) (drop_more path i 0 l), length-append (bits_from r 0 (length (bits_at holds r))) rest, length-bits_from r 0 (length (bits_at holds r)))
+
+-- so many more bits
+pub grown : (now done : List BitId) (r w : ℕ) → now ≡ done ++ bits_from r 0 w → length now ≡ length done + w
+grown now done r w e =
+    omega (arith, ap length e, length-append done (bits_from r 0 w), length-bits_from r 0 w)
+
+-- the bits of the active path are few
+pub bits_fit : (net : Net) (holds : Holds) (path : List ℕ) → IsNet net → AreHolds net holds → path ≡ path_of net holds → length (bits_on holds path) ≤ 4096
+bits_fit net holds path w h e =
+    omega (arith, length-bits_on holds path, chain_fits net path holds h (subst (IsRoute (length holds)) (sym e) (route_in net holds holds w h)), w.few_bits)
+
+-- each is a bit of the network
+bits_below : (P : BitId → Type 0) (r k n : ℕ) → ((p : ℕ) → p < k + n → P (record { reg = r; pos = p })) → All P (bits_from r k n)
+bits_below P r k zero f = All-nil P
+bits_below P r k (suc n) f =
+    All-cons P (record { reg = r; pos = k }) (bits_from r (suc k) n) (f k (omega arith)) (bits_below P r (suc k) n (λ p l. f p (omega (arith, l))))
+
+pub bits_of_net : (net : Net) (holds : Holds) (path : List ℕ) → AreHolds net holds → All (IsBitOf net) (bits_on holds path)
+bits_of_net net holds [] h = All-nil (IsBitOf net)
+bits_of_net net holds (r ∷ rs) h =
+    let wide : length (bits_at holds r) ≡ width_of net r = length_at holds r ∙ ap (λ ns. get_or ns r 0) h in
+    All-append (IsBitOf net) (bits_from r 0 (length (bits_at holds r))) (bits_on holds rs) (bits_below (IsBitOf net) r 0 (length (bits_at holds r)) (λ p l. omega (arith, l, wide))) (bits_of_net net holds rs h)

@@ -1,0 +1,30 @@
+-- What a scan of a kind leaves for the next one, by the commands that it stands in.
+use Rattle.std.specs.Prelude.{◌≡◌, ℕ, Bool, true, List, [], length, replicate, Option, option_map, unwrap_or}
+use Rattle.std.specs.Borrow.{Bor}
+use Rattle.svf_writer.specs.Fits.{HasLength}
+use Rattle.svf_audit.specs.declared.kept.Kept.{Kept}
+use Rattle.tap_machine.specs.Play.{LastScan, expected}
+
+-- bits that were lent
+abbrev pub lent : Option (Bor (Option (List Bool))) → Option (List Bool)
+lent bits = option_map (λ b. unwrap_or b.now []) bits
+
+abbrev pub seen_tdi : Kept → List Bool
+seen_tdi k = unwrap_or (lent k.tdi) []
+
+abbrev pub seen_kept : Kept → LastScan
+seen_kept k =
+    record { len = k.len; tdi = seen_tdi k; mask = unwrap_or (lent k.mask) (replicate k.len true) }
+
+-- the length of that scan, where there was one
+abbrev pub last_length : Kept → Option ℕ
+last_length k = option_map (λ b. k.len) k.tdi
+
+-- its bits have its length
+pub record AreKept (k : Kept) : Type 0 where
+  pub tdi : length (seen_tdi k) ≡ k.len
+  pub mask : HasLength k.len (lent k.mask)
+
+-- what is expected at each position of that scan, by its TDO
+abbrev pub looked_for : Kept → Option (List Bool) → List (Option Bool)
+looked_for k tdo = expected k.len tdo (seen_kept k).mask

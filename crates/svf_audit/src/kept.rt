@@ -1,0 +1,153 @@
+// TDI and MASK that hold over from scan to scan.
+ghost use Rattle.std.specs.Prelude.{◌≡◌, ◌+◌, ◌<◌, ◌≤◌, length, slice_index_or, false, Some, None, get_or};
+ghost use Rattle.std.specs.List.{list_any};
+ghost use Rattle.std.specs.Option.{is_some};
+ghost use Rattle.ij_bits.specs.BitLists.{bits_eq, bits_of};
+ghost use Rattle.svf_writer.specs.Fits.{FitsAfter, HasLength};
+ghost use Rattle.svf_writer.specs.SeenCommands.{seen_scan};
+ghost use Rattle.svf_audit.specs.Kept.{AreKept, last_length, lent, looked_for, seen_kept, seen_tdi};
+ghost use Rattle.tap_machine.specs.Play.{after_scan, no_scan};
+
+use ij_bits::Ring;
+use svf_writer::{Part, Scan};
+
+/// The length of the last scan of a kind, and the parts of the commands that it took its TDI and MASK from. Without MASK
+/// each bit is compared.
+#[derive(Clone, Copy, Drop)]
+pub(crate) struct Kept<'a> {
+    pub len: u32,
+    pub tdi: Option<&'a Part>,
+    pub mask: Option<&'a Part>,
+}
+
+/// A part of a scan, lent where it stands in the command.
+fn lend(part: &Part) -> Option<&Part>
+    ensures { lent result ≡ part.now }
+{
+    if part.is_given() { Some(part) } else { None }
+}
+
+/// Nothing, before the first scan.
+pub(crate) fn nothing_kept<'a>() -> Kept<'a>
+    ensures kept { seen_kept result ≡ no_scan }
+    ensures sound { AreKept result }
+    ensures last { last_length result ≡ None }
+{
+    Kept {
+        len: 0,
+        tdi: None,
+        mask: None,
+    }
+}
+
+/// What the next scan shifts and compares by: TDI and MASK hold where the command has none, MASK up to a new length.
+pub(crate) fn kept_after<'a>(kept: Kept<'a>, scan: &'a Scan) -> Kept<'a>
+    requires sound { AreKept kept }
+    requires fits { FitsAfter (last_length kept) (seen_scan scan.now) }
+    ensures kept { seen_kept result ≡ after_scan (seen_kept kept.entry) (seen_scan scan.now) }
+    ensures sound { AreKept result }
+    ensures last { last_length result ≡ Some scan.now.len }
+{
+    let mask = match lend(&scan.mask) {
+        Some(mask) => Some(mask),
+        None => if kept.len == scan.len {
+            kept.mask
+        } else {
+            None
+        },
+    };
+    let tdi = match lend(&scan.tdi) {
+        Some(tdi) => Some(tdi),
+        None => kept.tdi,
+    };
+    Kept {
+        len: scan.len,
+        tdi,
+        mask,
+    }
+}
+
+/// Whether MASK compares a position.
+fn is_compared(kept: &Kept, k: u32) -> bool
+    requires within { k < kept.now.len }
+    requires sound { AreKept kept.now }
+    ensures { result ≡ get_or (seen_kept kept.now).mask k false }
+{
+    match kept.mask {
+        Some(mask) => mask.get(k),
+        None => true,
+    }
+}
+
+/// The bit that is expected at a position, where it is compared.
+pub(crate) fn expected_at(kept: &Kept, tdo: &Part, k: u32) -> Option<bool>
+    requires within { k < kept.now.len }
+    requires sound { AreKept kept.now }
+    requires tdo { HasLength kept.now.len tdo.now }
+    ensures { result ≡ get_or (looked_for kept.now tdo.now) k None }
+{
+    if !tdo.is_given() {
+        return None;
+    }
+    if is_compared(kept, k) {
+        Some(tdo.get(k))
+    } else {
+        None
+    }
+}
+
+/// Whether some bit is compared.
+pub(crate) fn compares_some(kept: &Kept, tdo: &Part) -> bool
+    requires sound { AreKept kept.now }
+    requires tdo { HasLength kept.now.len tdo.now }
+    ensures { result ≡ list_any is_some (looked_for kept.now tdo.now) }
+{
+    if !tdo.is_given() {
+        return false;
+    }
+    for k in 0..kept.len {
+        if is_compared(kept, k) {
+            return true;
+        }
+    }
+    false
+}
+
+/// The bit of TDI at a position, the one shifted first at 0.
+fn tdi_at(kept: &Kept, k: u32) -> bool
+    requires within { k < length (seen_tdi kept.now) }
+    ensures { result ≡ slice_index_or (seen_tdi kept.now) k false }
+{
+    match kept.tdi {
+        Some(tdi) => tdi.get(k),
+        None => false,
+    }
+}
+
+/// Makes a list be TDI.
+pub(crate) fn take_tdi(kept: &Kept, into: &mut Ring)
+    requires sound { AreKept kept.now }
+    requires room { kept.now.len ≤ length into.old.items + into.old.spare }
+    ensures items { into.new.items ≡ (seen_kept kept.now).tdi }
+    ensures room { length into.new.items + into.new.spare ≡ length into.old.items + into.old.spare }
+{
+    into.clear();
+    for k in 0..kept.len {
+        into.push_reserved(tdi_at(kept, k));
+    }
+}
+
+/// Whether TDI has the lowest bits of a number.
+pub(crate) fn is_number(kept: &Kept, n: u64) -> bool
+    requires { AreKept kept.now }
+    ensures { result ≡ bits_eq (seen_kept kept.now).tdi (bits_of kept.now.len n) }
+{
+    let mut rest = n;
+    for k in 0..kept.len {
+        if tdi_at(kept, k) != (rest % 2 == 1) {
+            return false;
+        }
+        rest /= 2;
+    }
+    true
+}
