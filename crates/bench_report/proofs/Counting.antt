@@ -1,6 +1,7 @@
 -- Compares clock by clock.
-use Rattle.std.proofs.Common.{◌≡◌, ℕ, suc, ◌+◌, ◌≤◌, Bool, true, false, cond, List, [], ◌∷◌, ◌++◌, length, Option, Some, None, refl, ap, sym, ◌∙◌, arith, append_assoc, length-append, ◌<◌, drop}
-use Rattle.std.specs.Prelude.{get_or, codes, decimal}
+use Rattle.std.proofs.Common.{◌≡◌, ℕ, ◌+◌, ◌≤◌, Bool, true, false, cond, List, [], ◌∷◌, ◌++◌, length, Option, Some, None, refl, ap, sym, ◌∙◌, arith, append_assoc, append-nil, length-append, ◌<◌, drop}
+use Rattle.std.specs.Prelude.{get_or, Result, Ok, Err, OnOk, OnErr}
+use Rattle.net_graph.specs.declared.step.ReadBit.{ReadBit}
 use Rattle.std.proofs.lemmas.List.{at_drop_more}
 use Rattle.svf_writer.specs.SeenCommands.{SIR, SDR, Reset, Idle, Run, SeenCommand}
 use Rattle.tap_machine.specs.Play.{scans_in}
@@ -9,7 +10,7 @@ use Rattle.net_bench.specs.Bench.{Chip, State, clock, tdo}
 use Rattle.report.specs.Differs.{differ_text}
 use Rattle.net_bench.specs.Playing.{Compare, compare_of, compares, after_pins, differing}
 use Rattle.tap_machine.specs.declared.Pins.{Pins}
-use Rattle.bench_report.specs.Report.{compare_lines}
+use Rattle.bench_report.specs.Report.{Names, compare_at, named_lines}
 
 pub differing_one : (c : Compare) (cs : List Compare) (same : Bool) → same_bit c.expect c.found ≡ same → differing (c ∷ cs) ≡ cond same (differing cs) (c ∷ differing cs)
 differing_one c cs same e = ap (λ k. cond k (differing cs) (c ∷ differing cs)) e
@@ -24,13 +25,29 @@ differing_both (x ∷ xs) ys =
     ap (λ l. cond (same_bit x.expect x.found) l (x ∷ l)) (differing_both xs ys)
     ∙ cond_both (same_bit x.expect x.found) x (differing xs) (differing ys)
 
-abbrev line : Compare → List ℕ
-line c = differ_text (record { scan = c.scan; bit = c.bit; expect = c.expect; found = c.found; read = None })
+abbrev line : Names → Compare → List ℕ
+line names c = differ_text (record { scan = c.scan; bit = c.bit; expect = c.expect; found = c.found; read = names c.scan c.bit })
 
-pub lines_both : (xs ys : List Compare) → compare_lines (xs ++ ys) ≡ compare_lines xs ++ compare_lines ys
-lines_both [] ys = refl
-lines_both (x ∷ xs) ys =
-    ap (λ l. line x ++ l) (lines_both xs ys) ∙ sym (append_assoc (line x) (compare_lines xs) (compare_lines ys))
+pub lines_both : (names : Names) (xs ys : List Compare) → named_lines names (xs ++ ys) ≡ named_lines names xs ++ named_lines names ys
+lines_both names [] ys = refl
+lines_both names (x ∷ xs) ys =
+    ap (λ l. line names x ++ l) (lines_both names xs ys) ∙ sym (append_assoc (line names x) (named_lines names xs) (named_lines names ys))
+
+-- the line of a clock's compare
+pub line_is : (names : Names) (p : Pins) (expect found : Bool) (read : Option ReadBit) → read ≡ names p.scan p.bit
+    → differ_text (record { scan = p.scan; bit = p.bit; expect = expect; found = found; read = read }) ≡ named_lines names (compare_at p expect found ∷ [])
+line_is names p expect found read is =
+    ap (λ (r : Option ReadBit). differ_text (record { scan = p.scan; bit = p.bit; expect = expect; found = found; read = r })) is
+    ∙ sym (append-nil (line names (compare_at p expect found)))
+
+-- what holds of a result, by what holds of it already
+pub at_ok : {T E P Q : Type 0} (result : Result T E) → (P → Q) → OnOk result P → OnOk result Q
+at_ok (Ok x) f p = f p
+at_ok (Err e) f p = tt
+
+pub at_err : {T E P Q : Type 0} (result : Result T E) → (P → Q) → OnErr result P → OnErr result Q
+at_err (Ok x) f p = tt
+at_err (Err e) f p = f p
 
 pub few_of : (o : Option Bool) (scan bit : ℕ) (found : Bool) → length (differing (compare_of o scan bit found)) ≤ 1
 few_of None scan bit found = omega arith
@@ -58,9 +75,9 @@ module _ {L : Type 0} (chip : Chip L) (p : Pins) (ps qs : List Pins) (s t : Stat
       ∙ ap (λ b. differing (compare_of p.expect p.scan p.bit b) ++ differing (compares chip ps u)) (sym is)
       ∙ ap (λ v. differing (compare_of p.expect p.scan p.bit found) ++ differing (compares chip ps v)) (sym next)
 
-  pub lines_here : compare_lines (differing (compares chip qs s)) ≡ compare_lines (differing (compare_of p.expect p.scan p.bit found)) ++ compare_lines (differing (compares chip ps t))
-  lines_here =
-      ap compare_lines here_and_later ∙ lines_both (differing (compare_of p.expect p.scan p.bit found)) (differing (compares chip ps t))
+  pub lines_here : (names : Names) → named_lines names (differing (compares chip qs s)) ≡ named_lines names (differing (compare_of p.expect p.scan p.bit found)) ++ named_lines names (differing (compares chip ps t))
+  lines_here names =
+      ap (named_lines names) here_and_later ∙ lines_both names (differing (compare_of p.expect p.scan p.bit found)) (differing (compares chip ps t))
 
   pub count_here : length (differing (compares chip qs s)) ≡ length (differing (compare_of p.expect p.scan p.bit found)) + length (differing (compares chip ps t))
   count_here =

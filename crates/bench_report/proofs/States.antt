@@ -4,7 +4,6 @@ use Rattle.std.specs.Prelude.{get_or, IfSome, codes}
 use Rattle.std.proofs.Math.Seq.{drop-cons}
 use Rattle.std.proofs.lemmas.List.{length-map, get_or-map, get_or-set_other}
 use Rattle.std.proofs.lemmas.Grind.{get_or-set_at}
-use Rattle.instruments.specs.Machine.{Inner}
 use Rattle.instruments.specs.Models.{IsMemory, IsModel}
 use Rattle.instruments.specs.OnNetwork.{Running, inner_at}
 use Rattle.instruments.specs.Seen.{SeenWord, SeenMemory, SeenModel, seen_model}

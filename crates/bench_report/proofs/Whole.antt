@@ -1,5 +1,5 @@
 -- The report of a whole play from power-up.
-use Rattle.std.proofs.Common.{◌≡◌, ℕ, List, [], ◌∷◌, ◌++◌, length, map, refl, ap, ◌∙◌}
+use Rattle.std.proofs.Common.{◌≡◌, ℕ, List, [], ◌∷◌, length, map, refl, ap, ◌∙◌}
 use Rattle.instruments.specs.After.{machine_of}
 use Rattle.instruments.specs.Machine.{Machine, count_log}
 use Rattle.instruments.specs.Seen.{seen_model}

@@ -2,7 +2,9 @@
 #![tactic(auto)]
 
 mod compares;
+mod names;
 mod play;
 mod state;
 
-pub use play::put_play;
+pub use names::ReadNames;
+pub use play::{put_named_play, put_play};

@@ -1,7 +1,7 @@
 use Rattle.std.proofs.Common.{◌≡◌, ◌≤◌, ◌+◌, length}
 use Rattle.ij_io.proofs.Fronts.{AddsFront}
 use Rattle.net_bench.specs.Playing.{after_pins, compares, differing}
-use Rattle.bench_report.specs.Report.{chip_of, compare_lines}
+use Rattle.bench_report.specs.Report.{Names, chip_of, named_lines}
 use Rattle.bench_report.proofs.compares.put_compares.Given as goal
 
 abbrev pub invariant-loop-pins : goal.invariant-loop-pins
@@ -12,7 +12,8 @@ invariant-loop-pins g l =
     record {
       same : l.bench ≡ record l.fn.bench { state = l.bench.state };
       after : after_pins chip l.player.pins l.bench.state ≡ after_pins chip l.fn.player.pins l.fn.bench.state;
-      front : AddsFront (g.K.Sink.taken l.fn.k) (g.K.Sink.taken l.k) (compare_lines left) (compare_lines all);
+      front : (ns : Names) → g.N.ReadNames.AreNames l.fn.names ns → AddsFront (g.K.Sink.taken l.fn.k) (g.K.Sink.taken l.k) (named_lines ns left) (named_lines ns all);
+      names : (ns : Names) → g.N.ReadNames.AreNames l.fn.names ns → g.N.ReadNames.AreNames l.names ns;
       clocks : l.clocks + length l.player.pins ≡ length l.fn.player.pins;
       differs : l.differs + length left ≡ length all;
       later : g.K.Sink.faults l.fn.k ≤ g.K.Sink.faults l.k;

@@ -1,19 +1,10 @@
-use Rattle.std.proofs.Common.{map, subst}
-use Rattle.std.specs.Prelude.{OnOk, OnErr}
-use Rattle.ij_io.specs.Bytes.{Adds, AddsPart}
-use Rattle.instruments.specs.Seen.{seen_model}
-use Rattle.net_bench.specs.Board.{SeenBench}
-use Rattle.bench_report.specs.Report.{play_report}
+use Rattle.std.proofs.Common.{refl}
+use Rattle.bench_report.specs.Report.{no_names}
+use Rattle.bench_report.proofs.Counting.{at_ok, at_err}
 use Rattle.bench_report.proofs.play.put_play.Goals as goal
 
 pub returns-clause-whole : goal.returns-clause-whole
-returns-clause-whole g c =
-    let a = c.args in
-    subst (λ (b : SeenBench). OnOk c.put_report.result (Adds (g.K.Sink.taken a.k.now) (g.K.Sink.taken c.put_report.new.k) (play_report a.net.now b.device (map seen_model a.models.now.items) a.commands.now)))
-    c.in_ok-bench.ensures c.put_report.ensures.whole
+returns-clause-whole g c = at_ok c.put_named_play.result (λ printed. printed no_names (λ scan bit. refl)) c.put_named_play.ensures.whole
 
 pub returns-clause-part : goal.returns-clause-part
-returns-clause-part g c =
-    let a = c.args in
-    subst (λ (b : SeenBench). OnErr c.put_report.result (AddsPart (g.K.Sink.taken a.k.now) (g.K.Sink.taken c.put_report.new.k) (play_report a.net.now b.device (map seen_model a.models.now.items) a.commands.now)))
-    c.in_ok-bench.ensures c.put_report.ensures.part
+returns-clause-part g c = at_err c.put_named_play.result (λ printed. printed no_names (λ scan bit. refl)) c.put_named_play.ensures.part

@@ -1,5 +1,5 @@
 use Rattle.ij_io.proofs.Adding.{adds_both, adds_front, adds_then_part, at_refusal}
-use Rattle.std.proofs.Common.{ap, subst, List, ℕ, ◌≡◌}
+use Rattle.std.proofs.Common.{subst}
 use Rattle.ij_io.specs.Bytes.{Adds, AddsPart}
 use Rattle.net_graph.specs.Signals.{Holds}
 use Rattle.report.specs.Registers.{registers_text}
