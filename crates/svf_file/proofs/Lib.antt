@@ -1,0 +1,4 @@
+pub mod Pieces
+pub mod Causes
+pub mod Steps
+pub mod Scripts
