@@ -4,8 +4,6 @@
 #[cfg(test)]
 mod nested_forms;
 #[cfg(test)]
-mod texts;
-#[cfg(test)]
 mod trimmed_nets;
 #[cfg(test)]
 mod update_stages;

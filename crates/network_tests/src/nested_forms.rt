@@ -4,12 +4,12 @@ ghost use Rattle.net_graph.specs.Nets.{IsNet};
 ghost use Rattle.net_tree.specs.Form.{Describes};
 ghost use Rattle.net_tree.specs.Lawful.{IsLawful};
 
-use crate::texts::{chain_of, network_of};
 use nest_check::{NestFault, nest};
 use net_graph::{BitId, Net, Point};
 use net_tree::{Branches, Tree};
 use std::alloc::{AllocError, Global};
 use std::test::Fail;
+use test_networks::{chain_of, form_of, network_of};
 
 // ---- texts
 
@@ -69,18 +69,6 @@ fn places(alloc: Global, net: &Net, tree: &Tree) -> Result<String, AllocError> {
 }
 
 // ---- forms
-
-/// The form of a network that has one.
-pub(crate) fn form_of(alloc: Global, net: &Net) -> Result<Tree, Fail>
-    requires well_formed { IsNet net.now }
-    ensures describes { IfOk result (Describes net.now) }
-    ensures lawful { IfOk result (IsLawful net.now) }
-{
-    match nest(alloc, net) {
-        Ok(tree) => Ok(tree),
-        Err(_) => Err(Fail::new("the network has no lawful form")),
-    }
-}
 
 /// The places in a network's form, or its refusal.
 fn outcome(alloc: Global, source: &str, parts: &str) -> Result<String, Fail> {

@@ -4,11 +4,11 @@ ghost use Rattle.net_graph.specs.Held.{AreHolds};
 ghost use Rattle.net_graph.specs.Named.{IsBitOf};
 ghost use Rattle.net_graph.specs.Nets.{IsNet};
 
-use crate::texts::network_of;
 use ij_bits::List;
 use net_graph::{BitId, Holds, Net, path, path_into, row_of};
 use std::alloc::{AllocError, Global};
 use std::test::Fail;
+use test_networks::network_of;
 
 // ---- bits
 

@@ -1,6 +1,6 @@
 use Rattle.icl_syntax.specs.Views.{seen_design}
-use Rattle.network_tests.proofs.Few.{few_tokens}
-use Rattle.network_tests.proofs.texts.design_of.Goals as goal
+use Rattle.test_networks.proofs.Few.{few_tokens}
+use Rattle.test_networks.proofs.texts.design_of.Goals as goal
 
 pub returns : goal.returns
 returns c =

@@ -63,7 +63,7 @@ const BACK: &str =
     "} Module chip { Instance net Of Net; AccessLink tap Of STD_1149_1_2001 { BSDLEntity chip; IJTAG { ScanInterface { net.client; } } } }";
 
 /// The network of a module `Net` whose output has this source, and these parts.
-pub(crate) fn network_of(alloc: Global, source: &str, parts: &str) -> Result<Net, Fail>
+pub fn network_of(alloc: Global, source: &str, parts: &str) -> Result<Net, Fail>
     ensures well_formed { IfOk result IsNet }
 {
     let text = format!(in alloc; "{FRONT} {source}; }}\n{parts} {BACK}")?;
@@ -73,7 +73,7 @@ pub(crate) fn network_of(alloc: Global, source: &str, parts: &str) -> Result<Net
 /// The parts of a network of so many multiplexers inside one another. The register `S0` selects the outermost one, whose row
 /// 1 has the register `S1` behind the next one, and so on; the innermost row has the register `S` of the last number alone.
 /// Each register has one bit, which is 0 at reset.
-pub(crate) fn chain_of(alloc: Global, muxes: u32) -> Result<String, AllocError> {
+pub fn chain_of(alloc: Global, muxes: u32) -> Result<String, AllocError> {
     let mut parts = String::new(alloc);
     for k in 0..muxes {
         let next = k + 1;
