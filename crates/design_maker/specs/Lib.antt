@@ -1,0 +1,9 @@
+pub mod Draws
+pub mod Numbered
+pub mod Instruments
+pub mod Parts
+pub mod Modules
+pub mod Network
+pub mod Procedure
+pub mod Tables
+pub mod Texts

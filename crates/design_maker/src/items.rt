@@ -1,0 +1,195 @@
+// The items of a module in the making.
+ghost use Rattle.std.specs.Prelude.{◌≡◌, [], ◌∷◌, ◌++◌, map, Some, None, OnOk, IfOk};
+ghost use Rattle.icl_syntax.specs.Values.{ADecimal, ASized, APort, ARegister, AMux};
+ghost use Rattle.icl_syntax.specs.Views.{seen_bind, seen_expr, seen_list, seen_module, seen_prop, seen_row, seen_sig, seen_what};
+ghost use Rattle.design_maker.specs.Parts.{HasAdded, attribute, bound, bound_width, instance, interface, item, module_of, mux_row, port, seen_items, sourced, wide_port, width_parameter};
+
+use crate::signals::{NOWHERE, names, one, signal, whole_width};
+use icl_syntax::{Bind, Expr, Item, Module, MuxRow, PortKind, Prop, Sig, What};
+use ij_bits::{List, OutOfMemory};
+use ij_text::name_of;
+use std::alloc::Global;
+
+/// The items of a module in the making, the first one first.
+#[derive(Drop)]
+pub(crate) struct Items {
+    /// Where memory is taken.
+    pub alloc: Global,
+    /// The items.
+    pub items: List<Item>,
+}
+
+impl Items {
+    /// No items yet.
+    #[tactic(auto, unfolding(crate::specs::Parts::HasAdded))]
+    pub fn new(alloc: Global) -> Self
+        ensures { seen_items result ≡ [] }
+    {
+        Items {
+            alloc,
+            items: List::new(alloc),
+        }
+    }
+
+    /// An item.
+    #[tactic(auto, unfolding(crate::specs::Parts::HasAdded))]
+    pub fn add(&mut self, name: &[u8], what: What) -> Result<(), OutOfMemory>
+        ensures { OnOk result (HasAdded self.old self.new (item name.now (seen_what what) ∷ [])) }
+    {
+        let name = name_of(self.alloc, name)?;
+        self.items.push(Item {
+            at: NOWHERE,
+            name,
+            what,
+        })
+    }
+
+    /// A port without properties.
+    #[tactic(auto, unfolding(crate::specs::Parts::HasAdded))]
+    pub fn port(&mut self, kind: PortKind, name: &[u8]) -> Result<(), OutOfMemory>
+        ensures { OnOk result (HasAdded self.old self.new (port kind name.now ∷ [])) }
+    {
+        let props = List::new(self.alloc);
+        self.add(
+            name,
+            What::Port {
+                kind,
+                range: None,
+                props,
+            },
+        )
+    }
+
+    /// A port with one property.
+    #[tactic(auto, unfolding(crate::specs::Parts::HasAdded))]
+    pub fn port_with(&mut self, kind: PortKind, name: &[u8], prop: Prop) -> Result<(), OutOfMemory>
+        ensures { OnOk result (HasAdded self.old self.new (item name.now (APort kind None (seen_prop prop ∷ [])) ∷ [])) }
+    {
+        let props = one(self.alloc, prop)?;
+        self.add(
+            name,
+            What::Port {
+                kind,
+                range: None,
+                props,
+            },
+        )
+    }
+
+    /// A port that a signal is the source of.
+    #[tactic(auto, unfolding(crate::specs::Parts::HasAdded))]
+    pub fn sourced(&mut self, kind: PortKind, name: &[u8], source: Sig) -> Result<(), OutOfMemory>
+        ensures { OnOk result (HasAdded self.old self.new (sourced kind name.now (seen_sig source) ∷ [])) }
+    {
+        let sigs = one(self.alloc, source)?;
+        self.port_with(kind, name, Prop::Source(sigs))
+    }
+
+    /// A port of `W` bits.
+    #[tactic(auto, unfolding(crate::specs::Parts::HasAdded))]
+    pub fn wide_port(&mut self, kind: PortKind, name: &[u8]) -> Result<(), OutOfMemory>
+        ensures { OnOk result (HasAdded self.old self.new (wide_port kind name.now ∷ [])) }
+    {
+        let range = Some(whole_width(self.alloc)?);
+        let props = List::new(self.alloc);
+        self.add(name, What::Port { kind, range, props })
+    }
+
+    /// A scan interface with these ports.
+    #[tactic(auto, unfolding(crate::specs::Parts::HasAdded))]
+    pub fn interface(&mut self, name: &[u8], ports: &[&[u8]]) -> Result<(), OutOfMemory>
+        ensures { OnOk result (HasAdded self.old self.new (interface name.now (map (λ word. word.now) ports.now) ∷ [])) }
+    {
+        let ports = names(self.alloc, ports)?;
+        self.add(name, What::Interface { ports })
+    }
+
+    /// The parameter `W`, of 8.
+    #[tactic(auto, unfolding(crate::specs::Parts::HasAdded))]
+    pub fn width_parameter(&mut self) -> Result<(), OutOfMemory>
+        ensures { OnOk result (HasAdded self.old self.new (width_parameter ∷ [])) }
+    {
+        self.add(
+            b"W",
+            What::Parameter {
+                local: false,
+                value: Expr::Decimal(8),
+            },
+        )
+    }
+
+    /// An attribute that is a text.
+    #[tactic(auto, unfolding(crate::specs::Parts::HasAdded))]
+    pub fn attribute(&mut self, name: &[u8], text: &[u8]) -> Result<(), OutOfMemory>
+        ensures { OnOk result (HasAdded self.old self.new (attribute name.now text.now ∷ [])) }
+    {
+        let value = Some(Expr::Quoted(name_of(self.alloc, text)?));
+        self.add(name, What::Attribute { value })
+    }
+
+    /// An instance of a module with these bindings.
+    #[tactic(auto, unfolding(crate::specs::Parts::HasAdded))]
+    pub fn instance(
+        &mut self,
+        name: &[u8],
+        of_module: &[u8],
+        binds: List<Bind>,
+    ) -> Result<(), OutOfMemory>
+        ensures { OnOk result (HasAdded self.old self.new (instance name.now of_module.now (seen_list seen_bind binds) ∷ [])) }
+    {
+        let module = name_of(self.alloc, of_module)?;
+        self.add(name, What::Child { module, binds })
+    }
+
+    /// The module of this name that has these items.
+    #[tactic(auto, unfolding(crate::specs::Parts::HasAdded))]
+    pub fn into_module(self, name: &[u8]) -> Result<Module, OutOfMemory>
+        ensures { IfOk result (λ m. seen_module m ≡ module_of name.now (seen_items self)) }
+    {
+        Ok(Module {
+            name: name_of(self.alloc, name)?,
+            at: NOWHERE,
+            items: self.items,
+        })
+    }
+}
+
+/// An input port that is bound to a signal.
+pub(crate) fn bound(alloc: Global, name: &[u8], path: &[&[u8]]) -> Result<Bind, OutOfMemory>
+    ensures { IfOk result (λ bind. seen_bind bind ≡ bound name.now (map (λ word. word.now) path.now)) }
+{
+    Ok(Bind::Port {
+        at: NOWHERE,
+        name: name_of(alloc, name)?,
+        range: None,
+        sigs: one(alloc, signal(alloc, path)?)?,
+    })
+}
+
+/// The parameter `W` that is bound to a value.
+pub(crate) fn bound_width(alloc: Global, value: Expr) -> Result<Bind, OutOfMemory>
+    ensures { IfOk result (λ bind. seen_bind bind ≡ bound_width (seen_expr value)) }
+{
+    Ok(Bind::Parameter {
+        at: NOWHERE,
+        name: name_of(alloc, b"W")?,
+        value,
+    })
+}
+
+/// A sized number, as the one of a concatenation.
+pub(crate) fn sized(alloc: Global, text: &[u8]) -> Result<List<Expr>, OutOfMemory>
+    ensures { IfOk result (λ value. seen_list seen_expr value ≡ ASized text.now ∷ []) }
+{
+    one(alloc, Expr::Sized(name_of(alloc, text)?))
+}
+
+/// A row of a multiplexer that one number selects.
+pub(crate) fn mux_row(alloc: Global, value: &[u8], source: &[u8]) -> Result<MuxRow, OutOfMemory>
+    ensures { IfOk result (λ row. seen_row row ≡ mux_row value.now source.now) }
+{
+    Ok(MuxRow {
+        values: one(alloc, sized(alloc, value)?)?,
+        source: signal(alloc, &[source])?,
+    })
+}
