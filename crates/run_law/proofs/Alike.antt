@@ -1,28 +1,23 @@
 -- Some compare of a run differs exactly where some read of the procedure's meaning does.
-use Rattle.std.proofs.Common.{◌≡◌, ◌≢◌, ℕ, zero, suc, Bool, true, false, not, cond, List, [], ◌∷◌, refl, sym, ap, ◌∙◌, subst, arith}
-use Rattle.std.specs.Prelude.{◌↔◌, Contains, filter, map, Result, Ok, Err}
+use Rattle.std.proofs.Common.{◌≡◌, ◌≢◌, zero, suc, Bool, true, false, not, cond, List, [], ◌∷◌, refl, sym, ap, ◌∙◌, subst, arith}
+use Rattle.std.specs.Prelude.{◌↔◌, Contains, filter, map, Result, Ok}
 use Rattle.std.proofs.lemmas.Bool.{true≢false}
 use Rattle.ij_bits.specs.BitLists.{same_bit}
 use Rattle.instruments.specs.After.{machine_of}
 use Rattle.instruments.specs.declared.Counts.{Counts}
-use Rattle.instruments.specs.Machine.{Machine, count_log, whole_log}
-use Rattle.instruments.specs.Seen.{SeenModel}
-use Rattle.net_graph.specs.declared.device.Device.{Device}
-use Rattle.net_graph.specs.declared.net.Net.{Net}
+use Rattle.instruments.specs.Machine.{whole_log}
 use Rattle.net_graph.specs.declared.step.ReadBit.{ReadBit}
-use Rattle.net_graph.specs.SeenSteps.{SeenStep}
-use Rattle.net_tree.specs.Form.{Items}
-use Rattle.svf_reader.specs.Meaning.{Refusal, svf}
+use Rattle.svf_reader.specs.Meaning.{Refusal}
 use Rattle.svf_writer.specs.SeenCommands.{SeenCommand}
 use Rattle.tap_machine.specs.Play.{is_empty}
-use Rattle.net_bench.specs.Bench.{State, fault_free, power_up}
+use Rattle.net_bench.specs.Bench.{power_up}
 use Rattle.net_bench.specs.Counting.{CountsBegin, CountsCompare, counting, listing}
 use Rattle.net_bench.specs.Playing.{Compare, compares_from, differing}
 use Rattle.pdl_meaning.specs.Direct.{Direct, direct}
 use Rattle.headline.specs.Differences.{PlaysDifferAlike, SomeCompareDiffers, SomeReadDiffers}
 use Rattle.headline.specs.Headline.{at_end, compared}
-use Rattle.headline.specs.Script.{script_commands, steps_of}
-use Rattle.group_scans.specs.Retargeting.{IsRetargeted, script_of}
+use Rattle.headline.specs.Script.{script_commands}
+use Rattle.group_scans.specs.Retargeting.{script_of}
 use Rattle.net_graph.specs.Resets.{start_holds}
 use Rattle.bench_report.specs.Report.{differs_of}
 use Rattle.direct_report.specs.Report.{differs, direct_differs}
@@ -58,10 +53,10 @@ alike false false f g = refl
 
 -- ---- an item of a list
 
-first_one : {X : Type 0} (x : X) (xs : List X) → Contains (x ∷ xs) x
+pub first_one : {X : Type 0} (x : X) (xs : List X) → Contains (x ∷ xs) x
 first_one x xs = (zero, omega arith, refl)
 
-later_one : {X : Type 0} (x y : X) (xs : List X) → Contains xs y → Contains (x ∷ xs) y
+pub later_one : {X : Type 0} (x y : X) (xs : List X) → Contains xs y → Contains (x ∷ xs) y
 later_one x y xs (k, l, e) = (suc k, omega (arith, l), e)
 
 -- ---- compares, and reads, some of which differ
@@ -115,7 +110,7 @@ both_alike : (cs : List Compare) (rs : List Read) → (SomeCompareDiffers cs ↔
 both_alike cs rs both =
     alike (is_empty (differing cs)) (is_empty (filter differs rs)) (λ e. let (r, i, d) = both.0 (some_compare cs e) in read_some rs r i d) (λ e. let (c, i, d) = both.1 (some_read rs e) in compare_some cs c i d)
 
-ok_same : (a b : List SeenCommand) → ◌≡◌ {A = Result (List SeenCommand) Refusal} (Ok a) (Ok b) → a ≡ b
+pub ok_same : (a b : List SeenCommand) → ◌≡◌ {A = Result (List SeenCommand) Refusal} (Ok a) (Ok b) → a ≡ b
 ok_same a b e = cc
 
 pub runs_differ_alike : CountsBegin → CountsCompare → PlaysDifferAlike → RunsDifferAlike

@@ -1,5 +1,5 @@
 -- A direct meaning that counts events, step by step.
-use Rattle.std.proofs.Common.{◌≡◌, ℕ, zero, suc, Bool, List, [], ◌∷◌, ◌++◌, refl, sym, ap, ◌∙◌}
+use Rattle.std.proofs.Common.{◌≡◌, ℕ, zero, suc, Bool, List, [], ◌∷◌, ◌++◌, refl, ap, ◌∙◌}
 use Rattle.std.specs.Prelude.{map}
 use Rattle.instruments.specs.declared.Counts.{Counts}
 use Rattle.instruments.specs.Machine.{Event, Machine, Run as RunEvent, Reset as ResetEvent, count_log, whole_log}
@@ -12,7 +12,7 @@ use Rattle.net_graph.specs.Signals.{signal, capture_signal}
 use Rattle.net_graph.specs.Writes.{write_all}
 use Rattle.net_bench.specs.Counting.{tallied}
 use Rattle.net_bench.proofs.Forgetting.{all_have_tallied, changes_tallied, outputs_tallied}
-use Rattle.pdl_meaning.specs.Direct.{Direct, direct, do_all, do_group, do_rounds, do_step, found, power_up, run_cycles}
+use Rattle.pdl_meaning.specs.Direct.{Direct, do_all, do_group, do_rounds, do_step, found, power_up, run_cycles}
 use Rattle.run_law.specs.Laws.{MeaningsAreCounted, with_counts}
 
 fresh_tallied : (machines : List Machine) → fresh count_log machines ≡ map tallied (fresh whole_log machines)

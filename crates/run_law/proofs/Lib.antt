@@ -1,2 +1,5 @@
 pub mod Counted
 pub mod Alike
+pub mod Naming
+pub mod Compared
+pub mod Named

@@ -1,20 +1,33 @@
 //! What a run of a procedure on the bench and its direct meaning have in common.
 #![tactic(auto)]
 
-ghost use Rattle.run_law.specs.Laws.{MeaningsAreCounted, RunsDifferAlike};
+ghost use Rattle.run_law.specs.Laws.{ComparesAreNamed, DiffersAreNamed, MeaningsAreCounted, ReadsAreCompared, RunsDifferAlike};
 
+use group_scans::planned_steps_law;
 use headline::planned_scripts_law;
 use net_bench::events_are_counted;
+use read_places::places_are_one;
 
 /// The law of runs: it carries no code, its clauses say what is proved of the definitions.
 ///
 /// - `counted`: a direct meaning that counts the events of instruments is that which keeps the lists of them, counted.
 /// - `alike`: where bytes are the SVF of a procedure's bit steps, some compare of their play from power-up differs exactly where some
 ///   read of the procedure's direct meaning does, whatever the instruments are. So `run` and `direct` tell a difference together.
+/// - `compared`: a play of planned steps from power-up compares their reads, each at its place, with the value that the direct
+///   meaning finds for it, and nothing else: see `AreComparedAt`.
+/// - `named`: so each compare of this play is of one read: the one that stands at its scan and position, with its expectation and
+///   the value that the direct meaning finds for it: see `IsNamed`.
+/// - `differs`: so it is for each compare that differs where bytes are the SVF of a procedure's bit steps, by the places of any plans
+///   of these steps: `run` names the very read whose value differs.
 pub fn runs_are_meant()
     ensures counted { MeaningsAreCounted }
     ensures alike { RunsDifferAlike }
+    ensures compared { ReadsAreCompared }
+    ensures named { ComparesAreNamed }
+    ensures differs { DiffersAreNamed }
 {
     events_are_counted();
     planned_scripts_law();
+    planned_steps_law();
+    places_are_one();
 }

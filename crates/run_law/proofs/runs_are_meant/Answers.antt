@@ -1,5 +1,6 @@
 use Rattle.run_law.proofs.Alike.{runs_differ_alike}
 use Rattle.run_law.proofs.Counted.{meanings_are_counted}
+use Rattle.run_law.proofs.Named.{compares_are_named, differs_are_named, reads_are_compared}
 use Rattle.run_law.proofs.runs_are_meant.Goals as goal
 
 pub returns-clause-counted : goal.returns-clause-counted
@@ -8,3 +9,15 @@ returns-clause-counted c = meanings_are_counted
 pub returns-clause-alike : goal.returns-clause-alike
 returns-clause-alike c =
     runs_differ_alike c.events_are_counted.ensures.power_up c.events_are_counted.ensures.compares c.planned_scripts_law.ensures.alike
+
+pub returns-clause-compared : goal.returns-clause-compared
+returns-clause-compared c = reads_are_compared c.planned_steps_law.ensures.play
+
+pub returns-clause-named : goal.returns-clause-named
+returns-clause-named c =
+    compares_are_named c.planned_steps_law.ensures.scripts c.planned_scripts_law.ensures.places c.planned_steps_law.ensures.play
+
+pub returns-clause-differs : goal.returns-clause-differs
+returns-clause-differs c =
+    differs_are_named c.events_are_counted.ensures.power_up c.events_are_counted.ensures.compares c.places_are_one.ensures.one
+    (compares_are_named c.planned_steps_law.ensures.scripts c.planned_scripts_law.ensures.places c.planned_steps_law.ensures.play)
