@@ -1,5 +1,6 @@
 // The texts, words and shelves that the tests of the program share.
-use ij_io::MemShelf;
+use ij_io::{MemShelf, Shelf, Sink};
+use ijtag_core::{Status, ijtag};
 use std::alloc::{AllocError, Global};
 use std::test::Fail;
 
@@ -129,4 +130,15 @@ pub fn direct_words(alloc: Global) -> Result<Vec<String>, AllocError> {
 
 pub fn migrate_words(alloc: Global) -> Result<Vec<String>, AllocError> {
     words(alloc, &["migrate", "a.tab", "b.tab"])
+}
+
+/// A run of the program as tests see it: of its clauses they need none, since they look at what comes.
+pub(crate) fn program<S: Shelf, O: Sink, E: Sink>(
+    alloc: Global,
+    words: &Vec<String>,
+    shelf: &mut S,
+    out: &mut O,
+    err: &mut E,
+) -> Status {
+    ijtag(alloc, words, shelf, out, err)
 }

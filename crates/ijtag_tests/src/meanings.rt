@@ -1,9 +1,9 @@
 // What procedures mean, with no chain and no clock: the command `direct`.
 use crate::examples::{
-    COUNTER_PDL, DEVICE, TABLES, behind_a_multiplexer, direct_words, shelf_of_counter,
+    COUNTER_PDL, DEVICE, TABLES, behind_a_multiplexer, direct_words, program, shelf_of_counter,
 };
 use ij_io::{MemShelf, MemSink};
-use ijtag_core::{Status, ijtag};
+use ijtag_core::Status;
 use std::test::Fail;
 
 #[test]
@@ -26,7 +26,7 @@ fn a_counter_is_done_after_its_clocks(rt: HostRuntime) -> Result<(), Fail> {
         shelf.put_file("a.pdl", pdl)?;
         let mut out = MemSink::new(alloc);
         let mut err = MemSink::new(alloc);
-        let ended = ijtag(alloc, &direct_words(alloc)?, &mut shelf, &mut out, &mut err);
+        let ended = program(alloc, &direct_words(alloc)?, &mut shelf, &mut out, &mut err);
         assert_eq!(rt; ended, status);
         assert_eq!(rt; out.bytes(), report);
         assert_eq!(rt; err.bytes(), b"".as_slice());
@@ -63,7 +63,7 @@ fn reads_come_before_writes(rt: HostRuntime) -> Result<(), Fail> {
         shelf.put_file("a.tab", TABLES)?;
         let mut out = MemSink::new(alloc);
         let mut err = MemSink::new(alloc);
-        let ended = ijtag(alloc, &direct_words(alloc)?, &mut shelf, &mut out, &mut err);
+        let ended = program(alloc, &direct_words(alloc)?, &mut shelf, &mut out, &mut err);
         assert_eq!(rt; out.bytes(), report);
         assert_eq!(rt; ended, status);
         assert_eq!(rt; err.bytes(), b"".as_slice());
@@ -86,7 +86,7 @@ fn each_load_of_direct_fails_once(rt: HostRuntime) -> Result<(), Fail> {
         shelf.fail_at(&[call])?;
         let mut out = MemSink::new(alloc);
         let mut err = MemSink::new(alloc);
-        let status = ijtag(alloc, &direct_words(alloc)?, &mut shelf, &mut out, &mut err);
+        let status = program(alloc, &direct_words(alloc)?, &mut shelf, &mut out, &mut err);
         if call < 5 {
             assert_eq!(rt; status, Status::ReadFault);
             assert_eq!(rt; err.bytes(), said[call as usize - 1]);
@@ -114,7 +114,7 @@ fn refused_meanings_tell_why(rt: HostRuntime) -> Result<(), Fail> {
         shelf.put_file(name, text)?;
         let mut out = MemSink::new(alloc);
         let mut err = MemSink::new(alloc);
-        let status = ijtag(alloc, &direct_words(alloc)?, &mut shelf, &mut out, &mut err);
+        let status = program(alloc, &direct_words(alloc)?, &mut shelf, &mut out, &mut err);
         assert_eq!(rt; status, Status::Refused);
         assert_eq!(rt; err.bytes(), line);
         assert_eq!(rt; out.bytes(), b"".as_slice());

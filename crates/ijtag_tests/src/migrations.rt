@@ -1,7 +1,7 @@
 // Files of tables that are written once more: the command `migrate`.
-use crate::examples::{COUNTER_TABLES, migrate_words};
+use crate::examples::{COUNTER_TABLES, migrate_words, program};
 use ij_io::{MemShelf, MemSink};
-use ijtag_core::{Status, ijtag};
+use ijtag_core::Status;
 use std::test::Fail;
 
 /// The counter's tables in version 2.
@@ -24,7 +24,7 @@ fn tables_are_written_in_version_2(rt: HostRuntime) -> Result<(), Fail> {
         shelf.put_file("a.tab", text)?;
         let mut out = MemSink::new(alloc);
         let mut err = MemSink::new(alloc);
-        let status = ijtag(
+        let status = program(
             alloc,
             &migrate_words(alloc)?,
             &mut shelf,
@@ -49,7 +49,7 @@ fn each_call_of_a_migration_fails_once(rt: HostRuntime) -> Result<(), Fail> {
         shelf.fail_at(&[call])?;
         let mut out = MemSink::new(alloc);
         let mut err = MemSink::new(alloc);
-        let status = ijtag(
+        let status = program(
             alloc,
             &migrate_words(alloc)?,
             &mut shelf,
@@ -96,7 +96,7 @@ fn refused_tables_are_not_written(rt: HostRuntime) -> Result<(), Fail> {
         shelf.put_file("a.tab", text)?;
         let mut out = MemSink::new(alloc);
         let mut err = MemSink::new(alloc);
-        let status = ijtag(
+        let status = program(
             alloc,
             &migrate_words(alloc)?,
             &mut shelf,

@@ -1,10 +1,10 @@
 // Runs of the program over memory and over real files.
 use crate::examples::{
     DEVICE, ICL, PDL, PREFACE, SVF, TABLES, behind_a_multiplexer, compile_words, icl_text,
-    play_words, shelf_to_play, shelf_with, words,
+    play_words, program, shelf_to_play, shelf_with, words,
 };
 use ij_io::{HostShelf, HostSink, MemShelf, MemSink, SureShelf, SureSink};
-use ijtag_core::{Status, ijtag, ijtag_in_memory};
+use ijtag_core::{Status, ijtag_in_memory};
 use std::alloc::{AllocError, Global};
 use std::test::Fail;
 use std::{env, fs, process};
@@ -44,7 +44,7 @@ fn texts_and_statuses_in_memory(rt: HostRuntime) -> Result<(), Fail> {
         let mut out = MemSink::new(alloc);
         let mut err = MemSink::new(alloc);
         assert_eq!(rt;
-            ijtag(alloc, &words, &mut shelf, &mut out, &mut err),
+            program(alloc, &words, &mut shelf, &mut out, &mut err),
             status
         );
         assert_eq!(rt; shelf.file("a.svf"), svf);
@@ -62,7 +62,7 @@ fn each_call_of_the_shelf_fails_once(rt: HostRuntime) -> Result<(), Fail> {
         shelf.fail_at(&[call])?;
         let mut out = MemSink::new(alloc);
         let mut err = MemSink::new(alloc);
-        let status = ijtag(alloc, &words, &mut shelf, &mut out, &mut err);
+        let status = program(alloc, &words, &mut shelf, &mut out, &mut err);
         let svf = shelf.file("a.svf");
         match call {
             1..=3 => {
@@ -89,13 +89,13 @@ fn no_words_and_a_missing_file(rt: HostRuntime) -> Result<(), Fail> {
     let mut shelf = MemShelf::new(alloc);
     let mut out = MemSink::new(alloc);
     let mut err = MemSink::new(alloc);
-    let status = ijtag(alloc, &Vec::new(alloc), &mut shelf, &mut out, &mut err);
+    let status = program(alloc, &Vec::new(alloc), &mut shelf, &mut out, &mut err);
     assert_eq!(rt; status.code(), 2);
     assert_eq!(rt;
         err.bytes(),
         b"usage: ijtag compile|play|direct|migrate\n".as_slice()
     );
-    let status = ijtag(
+    let status = program(
         alloc,
         &compile_words(alloc)?,
         &mut shelf,
@@ -134,7 +134,7 @@ fn other_names_and_a_long_file_are_refused(rt: HostRuntime) -> Result<(), Fail> 
         )?;
         let mut out = MemSink::new(alloc);
         let mut err = MemSink::new(alloc);
-        let status = ijtag(alloc, &words, &mut shelf, &mut out, &mut err);
+        let status = program(alloc, &words, &mut shelf, &mut out, &mut err);
         assert_eq!(rt; status, Status::Refused);
         assert_eq!(rt; err.bytes(), said);
         assert!(rt; shelf.file("a.svf").is_none());
@@ -156,7 +156,7 @@ fn a_fault_of_the_error_stream_changes_no_status(rt: HostRuntime) -> Result<(), 
             let mut out = MemSink::new(alloc);
             let mut err = MemSink::new(alloc);
             err.fail_at(&[call])?;
-            let ended = ijtag(alloc, &words, &mut shelf, &mut out, &mut err);
+            let ended = program(alloc, &words, &mut shelf, &mut out, &mut err);
             assert_eq!(rt; ended, Status::Refused);
             if err.bytes() != line {
                 failed = call;
@@ -185,7 +185,7 @@ fn what_a_command_does_not_use_cannot_stop_it(rt: HostRuntime) -> Result<(), Fai
         out.fail_at(of_output)?;
         let mut err = MemSink::new(alloc);
         err.fail_at(&[1])?;
-        let ended = ijtag(alloc, &words, &mut shelf, &mut out, &mut err);
+        let ended = program(alloc, &words, &mut shelf, &mut out, &mut err);
         assert_eq!(rt; ended, Status::Good);
         assert_eq!(rt; err.bytes(), b"".as_slice());
     }
@@ -217,7 +217,7 @@ fn plays_print_their_reports(rt: HostRuntime) -> Result<(), Fail> {
         let mut shelf = shelf_to_play(alloc, svf, TABLES)?;
         let mut out = MemSink::new(alloc);
         let mut err = MemSink::new(alloc);
-        let ended = ijtag(alloc, &words, &mut shelf, &mut out, &mut err);
+        let ended = program(alloc, &words, &mut shelf, &mut out, &mut err);
         assert_eq!(rt; ended, status);
         assert_eq!(rt; out.bytes(), printed);
         assert_eq!(rt; err.bytes(), b"".as_slice());
@@ -242,7 +242,7 @@ fn each_load_of_a_play_fails_once(rt: HostRuntime) -> Result<(), Fail> {
         shelf.fail_at(&[call])?;
         let mut out = MemSink::new(alloc);
         let mut err = MemSink::new(alloc);
-        let status = ijtag(alloc, &words, &mut shelf, &mut out, &mut err);
+        let status = program(alloc, &words, &mut shelf, &mut out, &mut err);
         if call < 5 {
             assert_eq!(rt; status, Status::ReadFault);
             assert_eq!(rt; out.bytes(), b"".as_slice());
@@ -268,7 +268,7 @@ fn registers_of_all_widths_are_compiled_and_played(rt: HostRuntime) -> Result<()
         } else {
             Status::Good
         };
-        let compiled = ijtag(
+        let compiled = program(
             alloc,
             &compile_words(alloc)?,
             &mut shelf,
@@ -276,7 +276,7 @@ fn registers_of_all_widths_are_compiled_and_played(rt: HostRuntime) -> Result<()
             &mut err,
         );
         assert_eq!(rt; compiled, wanted);
-        let played = ijtag(alloc, &play_words(alloc)?, &mut shelf, &mut out, &mut err);
+        let played = program(alloc, &play_words(alloc)?, &mut shelf, &mut out, &mut err);
         assert_eq!(rt; played, wanted);
     }
     Ok(())
@@ -294,7 +294,7 @@ fn a_report_that_is_not_taken(rt: HostRuntime) -> Result<(), Fail> {
         let mut out = MemSink::new(alloc);
         out.fail_at(&[call])?;
         let mut err = MemSink::new(alloc);
-        if ijtag(alloc, &words, &mut shelf, &mut out, &mut err) == Status::Good {
+        if program(alloc, &words, &mut shelf, &mut out, &mut err) == Status::Good {
             assert_eq!(rt; out.bytes(), report);
         } else {
             failed = call;
@@ -328,7 +328,7 @@ fn a_written_file_is_played(rt: HostRuntime) -> Result<(), Fail> {
         shelf.put_file("a.pdl", pdl)?;
         let mut out = MemSink::new(alloc);
         let mut err = MemSink::new(alloc);
-        let compiled = ijtag(
+        let compiled = program(
             alloc,
             &compile_words(alloc)?,
             &mut shelf,
@@ -336,7 +336,7 @@ fn a_written_file_is_played(rt: HostRuntime) -> Result<(), Fail> {
             &mut err,
         );
         assert_eq!(rt; compiled, Status::Good);
-        let played = ijtag(alloc, &play_words(alloc)?, &mut shelf, &mut out, &mut err);
+        let played = program(alloc, &play_words(alloc)?, &mut shelf, &mut out, &mut err);
         assert_eq!(rt; played, status);
         assert_eq!(rt; out.bytes(), report);
         assert_eq!(rt; err.bytes(), b"".as_slice());
@@ -379,7 +379,7 @@ fn procedures_are_compiled_and_played_over_a_multiplexer(rt: HostRuntime) -> Res
         shelf.put_file("a.pdl", &pdl)?;
         let mut out = MemSink::new(alloc);
         let mut err = MemSink::new(alloc);
-        let compiled = ijtag(
+        let compiled = program(
             alloc,
             &compile_words(alloc)?,
             &mut shelf,
@@ -389,7 +389,7 @@ fn procedures_are_compiled_and_played_over_a_multiplexer(rt: HostRuntime) -> Res
         assert_eq!(rt; compiled, Status::Good);
         let svf = shelf.file("a.svf").unwrap_or(b"");
         assert_eq!(rt; svf.strip_prefix(PREFACE), Some(wanted));
-        let played = ijtag(alloc, &play_words(alloc)?, &mut shelf, &mut out, &mut err);
+        let played = program(alloc, &play_words(alloc)?, &mut shelf, &mut out, &mut err);
         assert_eq!(rt; played, Status::Good);
         assert_eq!(rt; out.bytes(), report);
     }
@@ -451,13 +451,13 @@ fn real_files_and_streams(rt: HostRuntime) -> Result<(), Fail> {
     assert!(rt; written.is_err());
     let mut shelf = HostShelf::new(&rt, alloc);
     assert_eq!(rt;
-        ijtag(alloc, &words, &mut shelf, &mut out, &mut err).code(),
+        program(alloc, &words, &mut shelf, &mut out, &mut err).code(),
         0
     );
     let written = fs::read(&rt, svf.as_str())?;
     assert_eq!(rt; written.as_slice(), SVF);
     assert_eq!(rt;
-        ijtag(alloc, &Vec::new(alloc), &mut shelf, &mut out, &mut err).code(),
+        program(alloc, &Vec::new(alloc), &mut shelf, &mut out, &mut err).code(),
         2
     );
     for name in [icl.as_str(), pdl.as_str(), device.as_str(), svf.as_str()] {

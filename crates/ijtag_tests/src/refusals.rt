@@ -1,10 +1,10 @@
 // Texts that the program refuses, each with its line.
 use crate::examples::{
-    DEVICE, ICL, SVF, TABLES, UNDRIVEN, chip_with, compile_words, play_words, shelf_to_play,
-    shelf_with,
+    DEVICE, ICL, SVF, TABLES, UNDRIVEN, chip_with, compile_words, play_words, program,
+    shelf_to_play, shelf_with,
 };
 use ij_io::MemSink;
-use ijtag_core::{Status, ijtag};
+use ijtag_core::Status;
 use std::test::Fail;
 
 // The device text comes behind the ICL text, and in front of the tables and the SVF text.
@@ -32,7 +32,7 @@ fn refused_devices_tell_why(rt: HostRuntime) -> Result<(), Fail> {
             shelf.put_file("a.dev", device)?;
             let mut out = MemSink::new(alloc);
             let mut err = MemSink::new(alloc);
-            let status = ijtag(alloc, &words, &mut shelf, &mut out, &mut err);
+            let status = program(alloc, &words, &mut shelf, &mut out, &mut err);
             assert_eq!(rt; status, Status::Refused);
             assert_eq!(rt; err.bytes(), said);
         }
@@ -62,7 +62,7 @@ fn refused_networks_tell_why(rt: HostRuntime) -> Result<(), Fail> {
             shelf.put_file("a.dev", device)?;
             let mut out = MemSink::new(alloc);
             let mut err = MemSink::new(alloc);
-            let status = ijtag(alloc, &words, &mut shelf, &mut out, &mut err);
+            let status = program(alloc, &words, &mut shelf, &mut out, &mut err);
             assert_eq!(rt; status, Status::Refused);
             assert_eq!(rt; err.bytes(), said);
         }
@@ -115,7 +115,7 @@ fn refused_forms_tell_why(rt: HostRuntime) -> Result<(), Fail> {
             shelf.put_file("a.icl", &chip_with(alloc, items)?)?;
             let mut out = MemSink::new(alloc);
             let mut err = MemSink::new(alloc);
-            let status = ijtag(alloc, &words, &mut shelf, &mut out, &mut err);
+            let status = program(alloc, &words, &mut shelf, &mut out, &mut err);
             assert_eq!(rt; status, Status::Refused);
             assert_eq!(rt; err.bytes(), said);
         }
@@ -204,7 +204,7 @@ fn refused_procedures_tell_why(rt: HostRuntime) -> Result<(), Fail> {
         let mut shelf = shelf_with(alloc, pdl)?;
         let mut out = MemSink::new(alloc);
         let mut err = MemSink::new(alloc);
-        let status = ijtag(alloc, &words, &mut shelf, &mut out, &mut err);
+        let status = program(alloc, &words, &mut shelf, &mut out, &mut err);
         assert_eq!(rt; status, Status::Refused);
         assert_eq!(rt; err.bytes(), said);
     }
@@ -272,7 +272,7 @@ fn refused_plays_tell_why(rt: HostRuntime) -> Result<(), Fail> {
         shelf.put_file("a.icl", icl)?;
         let mut out = MemSink::new(alloc);
         let mut err = MemSink::new(alloc);
-        let ended = ijtag(alloc, &words, &mut shelf, &mut out, &mut err);
+        let ended = program(alloc, &words, &mut shelf, &mut out, &mut err);
         assert_eq!(rt; ended, Status::Refused);
         assert_eq!(rt; out.bytes(), b"".as_slice());
         assert_eq!(rt; err.bytes(), said);

@@ -5,3 +5,5 @@
 mod memories;
 #[cfg(test)]
 mod merges;
+#[cfg(test)]
+mod program;

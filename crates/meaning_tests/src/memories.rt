@@ -1,6 +1,7 @@
 // An instrument with a memory, as each command shows it.
+use crate::program::program;
 use ij_io::{MemShelf, MemSink};
-use ijtag_core::{Status, ijtag};
+use ijtag_core::Status;
 use std::alloc::{AllocError, Global};
 use std::test::Fail;
 
@@ -80,7 +81,7 @@ fn a_memory_shows_what_stood_there(rt: HostRuntime) -> Result<(), Fail> {
         let mut shelf = shelf_with(alloc, pdl)?;
         let mut out = MemSink::new(alloc);
         let mut err = MemSink::new(alloc);
-        let status = ijtag(
+        let status = program(
             alloc,
             &direct_words(alloc, "a.tab")?,
             &mut shelf,
@@ -104,7 +105,7 @@ fn a_meaning_that_is_not_taken(rt: HostRuntime) -> Result<(), Fail> {
         let mut out = MemSink::new(alloc);
         out.fail_at(&[call])?;
         let mut err = MemSink::new(alloc);
-        let status = ijtag(
+        let status = program(
             alloc,
             &direct_words(alloc, "a.tab")?,
             &mut shelf,
@@ -136,7 +137,7 @@ fn migrated_tables_mean_the_same(rt: HostRuntime) -> Result<(), Fail> {
     ] {
         let mut out = MemSink::new(alloc);
         let mut err = MemSink::new(alloc);
-        let status = ijtag(alloc, &command, &mut shelf, &mut out, &mut err);
+        let status = program(alloc, &command, &mut shelf, &mut out, &mut err);
         assert_eq!(rt; err.bytes(), b"".as_slice());
         assert_eq!(rt; status, Status::Good);
         assert!(rt; out.bytes().is_empty() || out.bytes() == REPORT);
@@ -158,7 +159,7 @@ fn a_played_file_does_what_is_meant(rt: HostRuntime) -> Result<(), Fail> {
         )?,
         words(alloc, &["play", "a.svf", "a.icl", "a.dev", "a.tab", "chip"])?,
     ] {
-        let status = ijtag(alloc, &command, &mut shelf, &mut out, &mut err);
+        let status = program(alloc, &command, &mut shelf, &mut out, &mut err);
         assert_eq!(rt; status, Status::Good);
     }
     assert_eq!(rt;

@@ -1,7 +1,8 @@
 // Procedures with iMerge, compiled and by their direct meaning.
 use crate::memories::words;
+use crate::program::program;
 use ij_io::{MemShelf, MemSink};
-use ijtag_core::{Status, ijtag};
+use ijtag_core::Status;
 use std::alloc::{AllocError, Global};
 use std::test::Fail;
 
@@ -88,7 +89,7 @@ fn branches_advance_turn_by_turn(rt: HostRuntime) -> Result<(), Fail> {
         let mut out = MemSink::new(alloc);
         let mut err = MemSink::new(alloc);
         for command in [compile_words(alloc)?, direct_words(alloc)?] {
-            let status = ijtag(alloc, &command, &mut shelf, &mut out, &mut err);
+            let status = program(alloc, &command, &mut shelf, &mut out, &mut err);
             assert_eq!(rt; status, Status::Good);
         }
         assert_eq!(rt; shelf.file("a.svf"), Some(svf.as_bytes()));
@@ -120,7 +121,7 @@ fn refused_merges_tell_why(rt: HostRuntime) -> Result<(), Fail> {
             let mut shelf = shelf_with(alloc, LINE, pdl.as_bytes())?;
             let mut out = MemSink::new(alloc);
             let mut err = MemSink::new(alloc);
-            let status = ijtag(alloc, &command, &mut shelf, &mut out, &mut err);
+            let status = program(alloc, &command, &mut shelf, &mut out, &mut err);
             assert_eq!(rt; status, Status::Refused);
             assert_eq!(rt; err.bytes(), line);
             assert_eq!(rt; out.bytes(), b"".as_slice());
