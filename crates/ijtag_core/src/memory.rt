@@ -2,15 +2,16 @@
 ghost use Rattle.std.specs.Prelude.{◌≡◌, Bool, Some, IsNone, IfSome};
 ghost use Rattle.std.specs.Bool.{OnFalse};
 ghost use Rattle.ij_io.specs.SureShelf.{sure_files_in};
-ghost use Rattle.ijtag_core.specs.Command.{command_in, writes_in, prints_in};
-ghost use Rattle.ijtag_core.specs.Headline.{IfCompiles, IsRetargeted};
-ghost use Rattle.ijtag_core.specs.Leaves.{Leaves};
-ghost use Rattle.ijtag_core.specs.Order.{work};
+ghost use Rattle.ijtag_work.specs.Command.{command_in, writes_in, prints_in};
+ghost use Rattle.ijtag_work.specs.Headline.{LeavesRightSvf};
+ghost use Rattle.ijtag_work.specs.Leaves.{Leaves};
+ghost use Rattle.ijtag_work.specs.Order.{work};
 ghost use Rattle.ijtag_stages.specs.Refusals.{Refusal};
-ghost use Rattle.ijtag_core.specs.Runs.{IsDone, OnlyTheseChange, IsOrMemory, IsEarlyStatus, status_if};
+ghost use Rattle.ijtag_work.specs.Runs.{IsDone, OnlyTheseChange, IsOrMemory, IsEarlyStatus, status_if};
 
-use crate::{Status, ijtag};
+use crate::top::ijtag;
 use ij_io::{SureShelf, SureSink};
+use ijtag_work::Status;
 use std::alloc::Global;
 
 /// Runs the program over files and streams in memory. Nothing fails there but for want of memory, so what is accepted
@@ -22,8 +23,7 @@ pub fn ijtag_in_memory(
     out: &mut SureSink,
     err: &mut SureSink,
 ) -> Status
-    ensures headline { result ≡ Status.Good → IfCompiles (command_in words.now.items) (λ c.
-        IsRetargeted (Some (sure_files_in shelf.old)) c (Some (sure_files_in shelf.new c.svf))) }
+    ensures headline { (differs : Bool) → result ≡ status_if differs → LeavesRightSvf (Some (sure_files_in shelf.old)) (λ name. Some (sure_files_in shelf.new name)) differs (command_in words.now.items) }
     ensures done { (differs : Bool) → result ≡ status_if differs → IfSome (command_in words.now.items) (λ command.
         IsDone (work (Some (sure_files_in shelf.old)) command)
         (record { files = Some (sure_files_in shelf.old); printed = Some out.old })

@@ -1,22 +1,23 @@
 // A run of the program.
-ghost use Rattle.std.specs.Prelude.{◌≡◌, IfOk, OnErr, OnOk, IfErr, IfSome, IsSome};
+ghost use Rattle.std.specs.Prelude.{◌≡◌, false, IfOk, OnErr, OnOk, IfErr, IfSome, IsSome};
 ghost use Rattle.std.specs.Bool.{OnFalse};
 ghost use Rattle.ij_io.specs.Files.{file_at};
-ghost use Rattle.ijtag_core.specs.Command.{command_in, loads_in, writes_in, prints_in};
-ghost use Rattle.ijtag_core.specs.Headline.{IfCompiles, IsRetargeted};
-ghost use Rattle.ijtag_core.specs.Order.{work};
-ghost use Rattle.ijtag_core.specs.Runs.{IsDone, IsPartDone, IsRunStop, OnlyTheseChange, OnlyTheseRise, counts, seen};
-ghost use Rattle.ijtag_core.specs.Seen.{seen_stop, differing};
-ghost use Rattle.ijtag_core.specs.Stops.{IsEarly};
+ghost use Rattle.ijtag_work.specs.Audited.{IfAudits, IsAudited};
+ghost use Rattle.ijtag_work.specs.Command.{command_in, loads_in, writes_in, prints_in};
+ghost use Rattle.ijtag_work.specs.Headline.{LeavesRightSvf};
+ghost use Rattle.ijtag_work.specs.Order.{work};
+ghost use Rattle.ijtag_work.specs.Runs.{IsDone, IsPartDone, IsRunStop, OnlyTheseChange, OnlyTheseRise, counts, seen};
+ghost use Rattle.ijtag_work.specs.Seen.{seen_stop, differing};
+ghost use Rattle.ijtag_work.specs.Stops.{IsEarly};
 
-use crate::commands::compile::compile;
-use crate::commands::direct::direct;
-use crate::commands::migrate::migrate;
-use crate::commands::play::play;
-use crate::status::Verdict;
-use crate::stop::Stop;
-use crate::words::{CommandWords, read_words};
+use audit_command::audit;
+use compile_command::compile;
+use direct_command::direct;
 use ij_io::{Shelf, Sink};
+use ijtag_work::{CommandWords, Stop, Verdict, read_words};
+use migrate_command::migrate;
+use play_command::play;
+use run_command::run as run_procedure;
 use std::alloc::Global;
 
 /// Does what the words say: without a command nothing, and no file changes.
@@ -29,7 +30,9 @@ pub(crate) fn run<'a, S: Shelf, O: Sink>(
     ensures done { IfOk result (λ verdict. IfSome (command_in words.now.items) (λ command. IsDone (work (S.files shelf.old) command)
         (seen S.files O.taken shelf.old out.old) (seen S.files O.taken shelf.new out.new) (differing verdict))) }
     ensures command { OnOk result (IsSome (command_in words.now.items)) }
-    ensures headline { OnOk result (IfCompiles (command_in words.now.items) (λ c. IsRetargeted (S.files shelf.old) c (file_at (S.files shelf.new) c.svf))) }
+    ensures headline { IfOk result (λ verdict. LeavesRightSvf (S.files shelf.old) (file_at (S.files shelf.new)) (differing verdict) (command_in words.now.items)) }
+    ensures audited { IfOk result (λ verdict. differing verdict ≡ false
+        → IfSome (command_in words.now.items) (λ command. IfAudits command (IsAudited (S.files shelf.old)))) }
     ensures stop { IfErr result (λ stop. IsRunStop (command_in words.now.items) (S.files shelf.old)
         (counts S.load_faults S.store_faults O.faults shelf.old shelf.new out.old out.new) (seen_stop stop)) }
     ensures early { IfErr result (λ stop. IsEarly (seen_stop stop) → S.files shelf.new ≡ S.files shelf.old) }
@@ -45,7 +48,9 @@ pub(crate) fn run<'a, S: Shelf, O: Sink>(
         Some(CommandWords::Compile(words)) => compile(alloc, &words, shelf, out),
         Some(CommandWords::Play(words)) => play(alloc, &words, shelf, out),
         Some(CommandWords::Direct(words)) => direct(alloc, &words, shelf, out),
+        Some(CommandWords::Run(words)) => run_procedure(alloc, &words, shelf, out),
         Some(CommandWords::Migrate(words)) => migrate(alloc, &words, shelf, out),
+        Some(CommandWords::Audit(words)) => audit(alloc, &words, shelf, out),
         None => Err(Stop::Usage),
     }
 }

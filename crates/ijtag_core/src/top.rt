@@ -3,32 +3,38 @@ ghost use Rattle.std.specs.Prelude.{◌≡◌, ◌⊎◌, Bool, Some, IsNone, If
 ghost use Rattle.std.specs.Bool.{OnFalse};
 ghost use Rattle.ij_io.specs.Bytes.{AddsPart};
 ghost use Rattle.ij_io.specs.Files.{file_at};
-ghost use Rattle.ijtag_core.specs.Command.{command_in, loads, loads_in, writes_in, prints_in};
-ghost use Rattle.ijtag_core.specs.Headline.{IfCompiles, IsRetargeted};
-ghost use Rattle.ijtag_core.specs.Leaves.{Leaves};
-ghost use Rattle.ijtag_core.specs.Order.{work};
+ghost use Rattle.ijtag_work.specs.Audited.{IfAudits, IsAudited, IsOwnText};
+ghost use Rattle.ijtag_work.specs.Command.{command_in, loads, loads_in, writes_in, prints_in};
+ghost use Rattle.ijtag_work.specs.Headline.{LeavesRightSvf};
+ghost use Rattle.ijtag_work.specs.Leaves.{Leaves};
+ghost use Rattle.ijtag_work.specs.Order.{work};
 ghost use Rattle.ijtag_stages.specs.Refusals.{Refusal};
-ghost use Rattle.ijtag_core.specs.Runs.{IsDone, IsPartDone, IsAccepted, IsReadFault, IsRunStop, IfTold, LoadRose, WriteRose, OnlyTheseChange, OnlyTheseRise, Tells, IsOrMemory, IsEarlyStatus, IsPartStatus, IsWriteStop, status_if, counts, seen};
-ghost use Rattle.ijtag_core.specs.Stops.{Stop, Usage, Refuses, ReadFault, stop_text};
+ghost use Rattle.ijtag_work.specs.Runs.{IsDone, IsPartDone, IsAccepted, IsReadFault, IsRunStop, IfTold, LoadRose, WriteRose, OnlyTheseChange, OnlyTheseRise, Tells, IsOrMemory, IsEarlyStatus, IsPartStatus, IsWriteStop, status_if, counts, seen};
+ghost use Rattle.ijtag_work.specs.Stops.{Stop, Usage, Refuses, ReadFault, stop_text};
 
-use crate::Status;
-use crate::decided::works_are_decided;
 use crate::run::run;
-use crate::stop::report;
 use ij_io::{Shelf, Sink};
+use ijtag_work::{Status, own_texts_pass, report, works_are_decided};
 use std::alloc::Global;
 
 /// Runs the program with these words, those behind the program's name, over files and streams, and says how it ended.
 ///
 /// - `compile ICL PDL DEVICE TOP PROC SVF` loads the first three files in this order, accepts what they hold (IEEE 1687-2014: ICL,
-///   PDL level 0), and only then writes the SVF file (Serial Vector Format, revision E), from its front. It prints nothing on `out`.
+///   PDL level 0), and only then writes the SVF file (Serial Vector Format, revision E), from its front, one piece after the other. It
+///   prints nothing on `out`.
 /// - `play SVF ICL DEVICE TABLES TOP` loads the four files in this order, accepts what they hold, and only then plays the SVF file
-///   clock by clock from power-up and prints the report on `out`: the compares that differ, the register, and the totals. It ends
-///   as `Differs` where a compare does.
+///   clock by clock from power-up and prints the report on `out`: the compares that differ, each register and each instrument, and the
+///   totals. It ends as `Differs` where a compare does.
+/// - `run ICL PDL DEVICE TABLES TOP PROC SVF` loads the first four files in this order, accepts what they hold, and only then writes the
+///   SVF file, as a compile does, plays its commands clock by clock from power-up and prints the report on `out`, in which each compare
+///   that differs names its iRead. It ends as `Differs` where a compare does.
 /// - `direct ICL PDL DEVICE TABLES TOP PROC` loads the four files in this order, accepts what they hold, and only then does what the
 ///   procedure means, with no chain and no clock, and prints the report on `out`. It ends as `Differs` where a read does.
 /// - `migrate TABLES NEW` loads the first file, accepts it, and only then writes its tables to the second, as a file of version 2. It
 ///   prints nothing.
+/// - `audit SVF ICL PDL DEVICE TOP PROC` loads the four files in this order, accepts what they hold, and only then audits the SVF file for
+///   the procedure, without playing it, and prints one line on `out`. It ends as `Good` where the audit says yes: then the file, played
+///   on any chip with this network, does what the procedure means; and as `Differs` where it says no.
 ///
 /// A run that ends otherwise than as `Good` or `Differs` prints one line on `err`, or a first part of it where `err` fails, which
 /// changes no status. Memory is taken from `alloc`; want of it anywhere ends the run as `OutOfMemory`.
@@ -39,9 +45,19 @@ pub fn ijtag<S: Shelf, O: Sink, E: Sink>(
     out: &mut O,
     err: &mut E,
 ) -> Status
-    // The headline: what a compile leaves in the SVF file does, played clock by clock, what the procedure means.
-    ensures headline { result ≡ Status.Good → IfCompiles (command_in words.now.items) (λ c.
-        IsRetargeted (S.files shelf.old) c (file_at (S.files shelf.new) c.svf)) }
+    // The headline: what a compile or a run leaves in the SVF file does, played clock by clock, what the procedure means; and a run tells
+    // a difference exactly where its procedure's direct meaning does.
+    ensures headline { (differs : Bool) → result ≡ status_if differs → LeavesRightSvf
+        (S.files shelf.old) (file_at (S.files shelf.new)) differs (command_in words.now.items) }
+
+    // The same of an audit that says yes: the SVF file, of whichever tool, does what the procedure means. And it says yes of the text
+    // that a compile writes.
+    ensures audited { result ≡ Status.Good → IfSome (command_in words.now.items) (λ command.
+        IfAudits command (IsAudited (S.files shelf.old))) }
+    ensures own_text { IfTold (command_in words.now.items) (S.files shelf.old) (λ command files.
+        let c = counts S.load_faults S.store_faults O.faults shelf.old shelf.new out.old out.new in
+        IfAudits command (λ audit. IsOwnText files audit → ¬ LoadRose command c
+        → ¬ WriteRose command c → IsOrMemory result Status.Good)) }
 
     // Where all of the command's work is done, and that what is accepted is done where no fault is counted.
     ensures done { (differs : Bool) → result ≡ status_if differs
@@ -100,6 +116,7 @@ pub fn ijtag<S: Shelf, O: Sink, E: Sink>(
         (S.store_faults shelf.old) (S.store_faults shelf.new) }
 {
     works_are_decided();
+    own_texts_pass();
     match run(alloc, words, shelf, out) {
         Ok(verdict) => verdict.status(),
         Err(stop) => report(&stop, err),

@@ -1,8 +1,8 @@
 use Rattle.std.proofs.Common.{arith}
 use Rattle.ij_io.specs.SureShelf.{sure_files_in}
-use Rattle.ijtag_core.specs.Command.{command_in}
-use Rattle.ijtag_core.specs.Runs.{Counts}
-use Rattle.ijtag_core.proofs.Statuses.{refuses_sure}
+use Rattle.ijtag_work.specs.Command.{command_in}
+use Rattle.ijtag_work.specs.Runs.{Counts}
+use Rattle.ijtag_work.proofs.Statuses.{refuses_sure}
 use Rattle.ijtag_core.proofs.memory.ijtag_in_memory.Goals as goal
 
 pub returns-clause-refuses : goal.returns-clause-refuses

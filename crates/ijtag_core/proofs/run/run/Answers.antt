@@ -1,9 +1,9 @@
 use Rattle.std.specs.Prelude.{IfErr, IfOk, IfSome, Some}
 use Rattle.std.proofs.Common.{◌≡◌, rules, subst, Option}
-use Rattle.ijtag_core.specs.Command.{Command, Compiles, command_in}
-use Rattle.ijtag_core.specs.Order.{work}
-use Rattle.ijtag_core.specs.Runs.{IsDone, IsRunStop, counts, seen}
-use Rattle.ijtag_core.specs.Seen.{seen_compile, seen_stop, differing}
+use Rattle.ijtag_work.specs.Command.{Command, Compiles, Runs, command_in}
+use Rattle.ijtag_work.specs.Order.{work}
+use Rattle.ijtag_work.specs.Runs.{IsDone, IsRunStop, counts, seen}
+use Rattle.ijtag_work.specs.Seen.{seen_compile, seen_run, seen_stop, differing}
 use Rattle.ijtag_core.proofs.run.run.Goals as goal
 
 pub returns-in-Some-Compile-clause-done : goal.returns-in-Some-Compile-clause-done
@@ -17,3 +17,15 @@ returns-in-Some-Compile-clause-stop g c =
     let is : Some (Compiles (seen_compile c.in-Some-Compile.words)) ≡ command_in c.args.words.now.items = search rules in
     subst (λ (w : Option Command). IfErr c.compile.result (λ stop. IsRunStop w (g.S.Shelf.files c.args.shelf.now)
     (counts g.S.Shelf.load_faults g.S.Shelf.store_faults g.O.Sink.faults c.args.shelf.now c.compile.new.shelf c.args.out.now c.compile.new._out) (seen_stop stop))) is c.compile.ensures.stop
+
+pub returns-in-Some-Run-clause-done : goal.returns-in-Some-Run-clause-done
+returns-in-Some-Run-clause-done g c =
+    let is : Some (Runs (seen_run c.in-Some-Run.words)) ≡ command_in c.args.words.now.items = search rules in
+    subst (λ (w : Option Command). IfOk c.run.result (λ verdict. IfSome w (λ command. IsDone (work (g.S.Shelf.files c.args.shelf.now) command)
+    (seen g.S.Shelf.files g.O.Sink.taken c.args.shelf.now c.args.out.now) (seen g.S.Shelf.files g.O.Sink.taken c.run.new.shelf c.run.new.out) (differing verdict)))) is c.run.ensures.done
+
+pub returns-in-Some-Run-clause-stop : goal.returns-in-Some-Run-clause-stop
+returns-in-Some-Run-clause-stop g c =
+    let is : Some (Runs (seen_run c.in-Some-Run.words)) ≡ command_in c.args.words.now.items = search rules in
+    subst (λ (w : Option Command). IfErr c.run.result (λ stop. IsRunStop w (g.S.Shelf.files c.args.shelf.now)
+    (counts g.S.Shelf.load_faults g.S.Shelf.store_faults g.O.Sink.faults c.args.shelf.now c.run.new.shelf c.args.out.now c.run.new.out) (seen_stop stop))) is c.run.ensures.stop

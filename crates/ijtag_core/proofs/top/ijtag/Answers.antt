@@ -1,7 +1,10 @@
-use Rattle.ijtag_core.specs.Command.{command_in}
-use Rattle.ijtag_core.specs.Runs.{counts, seen}
-use Rattle.ijtag_core.specs.Seen.{seen_stop, differing}
-use Rattle.ijtag_core.proofs.Statuses.{done_with, complete_stop, complete_done, refuses_stop, refuses_done}
+use Rattle.ijtag_work.specs.Command.{command_in}
+use Rattle.ijtag_work.specs.Runs.{Tells, counts, seen}
+use Rattle.ijtag_work.specs.Seen.{seen_stop, differing}
+use Rattle.ijtag_work.proofs.Audits.{own_good}
+use Rattle.ijtag_work.proofs.Statuses.{done_with, complete_stop, complete_done, refuses_stop, refuses_done}
+use Rattle.ijtag_work.specs.Stops.{stop_text}
+use Rattle.ijtag_core.proofs.Faults.{write_told}
 use Rattle.ijtag_core.proofs.top.ijtag.Goals as goal
 
 pub returns-in-Err-clause-complete : goal.returns-in-Err-clause-complete
@@ -30,3 +33,24 @@ pub returns-in-Ok-clause-done : goal.returns-in-Ok-clause-done
 returns-in-Ok-clause-done g c =
     done_with (command_in c.args.words.now.items) (g.S.Shelf.files c.args.shelf.now) (seen g.S.Shelf.files g.O.Sink.taken c.args.shelf.now c.args.out.now) (seen g.S.Shelf.files g.O.Sink.taken c.run.new.shelf c.run.new.out)
     (differing c.in-Ok.verdict) c.status.result c.in-Ok.ensures.done c.status.ensures
+
+pub returns-in-Err-clause-own_text : goal.returns-in-Err-clause-own_text
+returns-in-Err-clause-own_text g c =
+    own_good c.own_texts_pass.ensures (command_in c.args.words.now.items) (g.S.Shelf.files c.args.shelf.now)
+    (counts g.S.Shelf.load_faults g.S.Shelf.store_faults g.O.Sink.faults c.args.shelf.now c.run.new.shelf c.args.out.now c.run.new.out) c.report.result
+    (complete_stop c.works_are_decided.ensures (command_in c.args.words.now.items) (g.S.Shelf.files c.args.shelf.now)
+    (counts g.S.Shelf.load_faults g.S.Shelf.store_faults g.O.Sink.faults c.args.shelf.now c.run.new.shelf c.args.out.now c.run.new.out) (seen_stop c.in-Err.stop) c.report.result c.in-Err.ensures.stop c.report.ensures.status)
+
+pub returns-in-Ok-clause-own_text : goal.returns-in-Ok-clause-own_text
+returns-in-Ok-clause-own_text g c =
+    own_good c.own_texts_pass.ensures (command_in c.args.words.now.items) (g.S.Shelf.files c.args.shelf.now)
+    (counts g.S.Shelf.load_faults g.S.Shelf.store_faults g.O.Sink.faults c.args.shelf.now c.run.new.shelf c.args.out.now c.run.new.out) c.status.result
+    (complete_done c.works_are_decided.ensures (command_in c.args.words.now.items) (g.S.Shelf.files c.args.shelf.now)
+    (counts g.S.Shelf.load_faults g.S.Shelf.store_faults g.O.Sink.faults c.args.shelf.now c.run.new.shelf c.args.out.now c.run.new.out) (seen g.S.Shelf.files g.O.Sink.taken c.args.shelf.now c.args.out.now)
+    (seen g.S.Shelf.files g.O.Sink.taken c.run.new.shelf c.run.new.out) (differing c.in-Ok.verdict) c.status.result c.in-Ok.ensures.done c.status.ensures)
+
+pub returns-in-Err-clause-write_fault : goal.returns-in-Err-clause-write_fault
+returns-in-Err-clause-write_fault g c =
+    λ fault. write_told (λ stop. Tells g.E.Sink.taken g.E.Sink.faults c.args.err.now c.report.new.err (stop_text stop)) (g.S.Shelf.files c.args.shelf.now)
+    (counts g.S.Shelf.load_faults g.S.Shelf.store_faults g.O.Sink.faults c.args.shelf.now c.run.new.shelf c.args.out.now c.run.new.out) c.report.result fault
+    (command_in c.args.words.now.items) (seen_stop c.in-Err.stop) c.in-Err.ensures.stop c.report.ensures.status c.report.ensures.told

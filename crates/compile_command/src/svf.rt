@@ -1,0 +1,85 @@
+// The SVF of a procedure: as a text, and as a file.
+ghost use Rattle.std.specs.Prelude.{◌≡◌, ◌⊎◌, List, ℕ, IfOk, IsErrOf, OnOk, OnErr};
+ghost use Rattle.ij_io.specs.Causes.{HasCauseAt, SameCounts};
+ghost use Rattle.ij_io.specs.Files.{OthersStay};
+ghost use Rattle.ijtag_work.specs.Filed.{HasPlans, IsFiled, IsPartFiled};
+ghost use Rattle.ijtag_work.specs.Order.{written_text};
+ghost use Rattle.ijtag_work.specs.Seen.{IsCompilable, seen_compilable};
+
+use bit_steps::{bit_steps_are_few, bit_steps_are_of_the_network};
+use group_scans::procedures_are_plannable;
+use ij_bits::OutOfMemory;
+use ij_io::{Shelf, StoreFault, SureSink};
+use ijtag_stages::Network;
+use ijtag_work::steps_again;
+use net_graph::Device;
+use pdl_parser::Procs;
+use retargeter::put_svf;
+use std::alloc::Global;
+use svf_file::put_svf_file;
+
+/// The SVF text of a procedure, whole.
+#[tactic(auto, unfolding(ijtag_work::specs::Order::written_text, ijtag_work::specs::Seen::IsCompilable))]
+pub fn make_svf(
+    alloc: Global,
+    network: &Network,
+    device: &Device,
+    procs: &Procs,
+    procedure: &str,
+) -> Result<SureSink, OutOfMemory>
+    requires { IsCompilable procedure.now (record { network = network.now; device = device.now; procs = procs.now }) }
+    ensures text { IfOk result (λ svf. (written_text (seen_compilable procedure.now (record { network = network.now; device = device.now; procs = procs.now }))).gives svf) }
+    ensures plans { OnOk result (HasPlans (seen_compilable procedure.now (record { network = network.now; device = device.now; procs = procs.now }))) }
+{
+    bit_steps_are_of_the_network();
+    bit_steps_are_few();
+    procedures_are_plannable();
+    let mut svf = SureSink::new(alloc);
+    let mut steps = steps_again(alloc, procs, network, procedure)?;
+    match put_svf(
+        alloc,
+        &network.net,
+        &network.form,
+        device,
+        &mut steps,
+        &mut svf,
+    ) {
+        Ok(()) => Ok(svf),
+        Err(_) => Err(OutOfMemory),
+    }
+}
+
+/// Writes the SVF file of a procedure from its front, and keeps one piece of it at a time. After a refusal the file is as before, or
+/// holds some first bytes.
+#[tactic(auto, unfolding(ijtag_work::specs::Seen::IsCompilable))]
+pub fn write_svf<S: Shelf>(
+    alloc: Global,
+    network: &Network,
+    device: &Device,
+    procs: &Procs,
+    procedure: &str,
+    name: &str,
+    shelf: &mut S,
+) -> Result<(), StoreFault>
+    requires { IsCompilable procedure.now (record { network = network.now; device = device.now; procs = procs.now }) }
+    ensures whole { OnOk result (IsFiled (written_text (seen_compilable procedure.now (record { network = network.now; device = device.now; procs = procs.now }))) (S.files shelf.old) (S.files shelf.new) name.now) }
+    ensures part { OnErr result ((S.files shelf.new ≡ S.files shelf.old) ⊎ IsPartFiled (written_text (seen_compilable procedure.now (record { network = network.now; device = device.now; procs = procs.now }))) (S.files shelf.old) (S.files shelf.new) name.now) }
+    ensures text { IsErrOf result StoreFault.Failed → (bytes : List ℕ) × (written_text (seen_compilable procedure.now (record { network = network.now; device = device.now; procs = procs.now }))).gives bytes }
+    ensures others { OthersStay (S.files shelf.old) (S.files shelf.new) name.now }
+    ensures cause { HasCauseAt name.now (S.store_faults shelf.old) (S.store_faults shelf.new) result StoreFault.Failed }
+    ensures loads { SameCounts (S.load_faults shelf.old) (S.load_faults shelf.new) }
+{
+    bit_steps_are_of_the_network();
+    bit_steps_are_few();
+    procedures_are_plannable();
+    let mut steps = steps_again(alloc, procs, network, procedure)?;
+    put_svf_file(
+        alloc,
+        &network.net,
+        &network.form,
+        device,
+        &mut steps,
+        name,
+        shelf,
+    )
+}

@@ -1,0 +1,12 @@
+pub mod Told
+pub mod Loading
+pub mod Begun
+pub mod Ends
+pub mod Made
+pub mod Filed
+pub mod Late
+pub mod Running
+pub mod Verdicts
+pub mod Deciding
+pub mod Statuses
+pub mod Audits

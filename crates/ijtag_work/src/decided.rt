@@ -1,0 +1,16 @@
+// What follows from the order of work.
+ghost use Rattle.ijtag_work.specs.Runs.{WorksAreDecided};
+
+use group_scans::planned_steps_law;
+use ijtag_stages::stages_are_decided;
+use read_places::places_are_one;
+
+/// The work of a command on files comes to one end at most: what it leaves is one, where it leaves something, it meets no
+/// refusal, and the refusal that it meets is one.
+pub fn works_are_decided()
+    ensures { WorksAreDecided }
+{
+    stages_are_decided();
+    planned_steps_law();
+    places_are_one();
+}

@@ -1,0 +1,121 @@
+// Why a run stops short.
+ghost use Rattle.std.specs.Prelude.{◌≡◌, ◌⊎◌, OnOk, OnErr};
+ghost use Rattle.ij_io.specs.Bytes.{Adds, AddsPart};
+ghost use Rattle.ij_io.specs.Causes.{HasCause};
+ghost use Rattle.ijtag_work.specs.Runs.{IsOrMemory, Tells};
+ghost use Rattle.ijtag_work.specs.Seen.{seen_stop, stop_from};
+ghost use Rattle.ijtag_work.specs.declared.stop.Stop.TheVariants as stops;
+ghost use Rattle.ijtag_work.specs.Stops.{status_of, stop_text, named_line};
+
+use crate::status::Status;
+use ij_bits::OutOfMemory;
+use ij_io::{Sink, StoreFault, Word, put_words};
+use ijtag_stages::{Refusal, StageFault, put_refusal};
+use std::alloc::AllocFailed;
+
+/// Why a run stops short, with the file's name where it is a file's fault.
+#[derive(Drop)]
+pub enum Stop<'a> {
+    /// The words are no command.
+    Usage,
+    /// A file or a text is refused.
+    Refused(Refusal),
+    /// A load of the file of this name failed.
+    ReadFault(&'a str),
+    /// A store under this name failed.
+    WriteFault(&'a str),
+    /// A write of the output failed.
+    OutputFault,
+    /// There was no memory.
+    OutOfMemory,
+}
+
+impl<'a> From<StageFault> for Stop<'a> {
+    ghost from_gives = { λ fault stop. stop ≡ stop_from fault };
+
+    fn from(fault: StageFault) -> Self {
+        match fault {
+            StageFault::Refused(refusal) => Stop::Refused(refusal),
+            StageFault::OutOfMemory => Stop::OutOfMemory,
+        }
+    }
+}
+
+impl<'a> From<OutOfMemory> for Stop<'a> {
+    ghost from_gives = { λ _ stop. stop ≡ stops.OutOfMemory };
+
+    fn from(_: OutOfMemory) -> Self {
+        Stop::OutOfMemory
+    }
+}
+
+impl<'a> From<AllocFailed<Vec<u8>>> for Stop<'a> {
+    ghost from_gives = { λ _ stop. stop ≡ stops.OutOfMemory };
+
+    fn from(_: AllocFailed<Vec<u8>>) -> Self {
+        Stop::OutOfMemory
+    }
+}
+
+impl Stop<'_> {
+    /// The status of a run that stops so.
+    pub fn status(&self) -> Status
+        ensures { result ≡ status_of (seen_stop self.now) }
+    {
+        match self {
+            Stop::Usage => Status::Usage,
+            Stop::Refused(_) => Status::Refused,
+            Stop::ReadFault(_) => Status::ReadFault,
+            Stop::WriteFault(_) => Status::WriteFault,
+            Stop::OutputFault => Status::WriteFault,
+            Stop::OutOfMemory => Status::OutOfMemory,
+        }
+    }
+}
+
+/// Prints a name behind a text, on a line of its own.
+#[tactic(auto, unfolding(ij_io::specs::Words::words_text))]
+fn put_named<'a, K: Sink>(text: &'a [u8], name: &'a str, k: &mut K) -> Result<(), StoreFault>
+    ensures whole { OnOk result (Adds (K.taken k.old) (K.taken k.new) (named_line text.now name.now)) }
+    ensures part { OnErr result (AddsPart (K.taken k.old) (K.taken k.new) (named_line text.now name.now)) }
+    ensures cause { HasCause (K.faults k.old) (K.faults k.new) result StoreFault.Failed }
+{
+    put_words(
+        k,
+        &[
+            Word::Text(text),
+            Word::Text(name.as_bytes()),
+            Word::Text(b"\n"),
+        ],
+    )
+}
+
+/// Prints the line of a stop.
+#[tactic(auto, unfolding(crate::specs::Stops::stop_text))]
+fn put_stop<K: Sink>(stop: &Stop<'_>, k: &mut K) -> Result<(), StoreFault>
+    ensures whole { OnOk result (Adds (K.taken k.old) (K.taken k.new) (stop_text (seen_stop stop.now))) }
+    ensures part { OnErr result (AddsPart (K.taken k.old) (K.taken k.new) (stop_text (seen_stop stop.now))) }
+    ensures cause { HasCause (K.faults k.old) (K.faults k.new) result StoreFault.Failed }
+{
+    match stop {
+        Stop::Usage => k.write(b"usage: ijtag compile|play|run|direct|migrate|audit\n"),
+        Stop::Refused(refusal) => put_refusal(refusal, k),
+        Stop::ReadFault(name) => put_named(b"read fault ", name, k),
+        Stop::WriteFault(name) => put_named(b"write fault ", name, k),
+        Stop::OutputFault => k.write(b"write fault output\n"),
+        Stop::OutOfMemory => k.write(b"out of memory\n"),
+    }
+}
+
+/// Prints the line of a stop on the error stream and gives its status. A fault of the stream changes no status, and want of
+/// memory there is want of memory of the run.
+pub fn report<E: Sink>(stop: &Stop<'_>, err: &mut E) -> Status
+    ensures status { IsOrMemory result (status_of (seen_stop stop.now)) }
+    ensures told { (result ≡ Status.OutOfMemory → ⊥) → Tells E.taken E.faults err.old err.new (stop_text (seen_stop stop.now)) }
+    ensures part { AddsPart (E.taken err.old) (E.taken err.new) (stop_text (seen_stop stop.now)) }
+{
+    match put_stop(stop, err) {
+        Err(StoreFault::OutOfMemory) => Status::OutOfMemory,
+        _ => stop.status(),
+    }
+}
