@@ -10,7 +10,7 @@ import json
 import os
 import sys
 
-BUILT = ('compile', 'play', 'direct', 'migrate')
+BUILT = ('compile', 'play', 'run', 'direct', 'migrate', 'audit')
 USAGE = f'usage: ijtag {"|".join(BUILT)}\n'
 program, shared = os.path.abspath(sys.argv[1]), sys.argv[2]
 
@@ -30,7 +30,7 @@ def rows():
     bed = module('run_rows', f'{shared}/rows/run_rows.py')
     passed, failed = 0, []
     for name, case in bed.cases(None):
-        if not bed.holds(case, 'headline' if is_built(case['words']) and case['status'] != 2 else 'nest'):
+        if not bed.holds(case, 'audit' if is_built(case['words']) and case['status'] != 2 else 'nest'):
             continue
         if case['status'] == 2:
             case['err'] = USAGE

@@ -2,8 +2,12 @@
 #![tactic(auto)]
 
 #[cfg(test)]
+mod audits;
+#[cfg(test)]
 mod memories;
 #[cfg(test)]
 mod merges;
 #[cfg(test)]
 mod program;
+#[cfg(test)]
+mod runs;
