@@ -57,22 +57,23 @@ fn audit_words(alloc: Global) -> Result<Vec<String>, AllocError> {
     )
 }
 
+fn put(shelf: &mut MemShelf, name: &str, text: &[u8]) -> Result<(), AllocError> {
+    if shelf.put_file(name, text).is_err() {
+        return Err(AllocError);
+    }
+    Ok(())
+}
+
 /// The files of a chip, with a procedure and what stands in the SVF file behind the preface.
 fn shelf_with(alloc: Global, icl: &[u8], pdl: &[u8], scans: &[u8]) -> Result<MemShelf, AllocError> {
     let mut svf = Vec::new(alloc);
     svf.extend_from_slice(PREFACE)?;
     svf.extend_from_slice(scans)?;
     let mut shelf = MemShelf::new(alloc);
-    for (name, text) in [
-        ("a.svf", svf.as_slice()),
-        ("a.icl", icl),
-        ("a.pdl", pdl),
-        ("a.dev", DEVICE),
-    ] {
-        if shelf.put_file(name, text).is_err() {
-            return Err(AllocError);
-        }
-    }
+    put(&mut shelf, "a.svf", &svf)?;
+    put(&mut shelf, "a.icl", icl)?;
+    put(&mut shelf, "a.pdl", pdl)?;
+    put(&mut shelf, "a.dev", DEVICE)?;
     Ok(shelf)
 }
 
