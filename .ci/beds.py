@@ -10,7 +10,7 @@ import json
 import os
 import sys
 
-BUILT = ('compile', 'play', 'run', 'direct', 'migrate', 'audit')
+BUILT = ('compile', 'play', 'run', 'direct', 'make', 'migrate', 'audit')
 USAGE = f'usage: ijtag {"|".join(BUILT)}\n'
 program, shared = os.path.abspath(sys.argv[1]), sys.argv[2]
 
@@ -50,6 +50,8 @@ def corpus():
                 for run in case['runs']:
                     if 'clocks 1000000000 ' in run['out']:
                         run['words'] = ['left out']
+                    if run['status'] == 2:
+                        run['err'] = USAGE
                 tasks.append((case, [program], 'audit', None, ''))
     bed.want_of = lambda run, upto: 'exact' if is_built(run['words']) and len(run['words']) == bed.FORMS[run['words'][0]] else 'skip'
     with concurrent.futures.ThreadPoolExecutor(os.cpu_count() or 1) as workers:

@@ -177,7 +177,7 @@ pub fn audit<'a, S: Shelf, O: Sink>(
     ensures stop { IfErr result (λ stop. IsStop (S.files shelf.old) (Audits (seen_audit words.now))
         (counts S.load_faults S.store_faults O.faults shelf.old shelf.new out.old out.new) (seen_stop stop)) }
     ensures early { IfErr result (λ stop. IsEarly (seen_stop stop) → out.new ≡ out.old) }
-    ensures part { OnErr result (IsPartDone (work (S.files shelf.old) (Audits (seen_audit words.now)))
+    ensures part { OnErr result (IsPartDone (S.files shelf.old) (Audits (seen_audit words.now))
         (seen S.files O.taken shelf.old out.old) (seen S.files O.taken shelf.new out.new)) }
     ensures files { S.files shelf.new ≡ S.files shelf.old }
     ensures loads { OnlyTheseRise (names_of (audit_loads (seen_audit words.now))) (S.load_faults shelf.old) (S.load_faults shelf.new) }

@@ -5,4 +5,4 @@ mod command;
 mod svf;
 
 pub use command::{accept_procedure, compile};
-pub use svf::make_svf;
+pub use svf::{make_svf, read_commands};

@@ -1,22 +1,26 @@
 // The SVF of a procedure: as a text, and as a file.
-ghost use Rattle.std.specs.Prelude.{◌≡◌, ◌⊎◌, List, ℕ, IfOk, IsErrOf, OnOk, OnErr};
+ghost use Rattle.std.specs.Prelude.{◌≡◌, ◌≤◌, ◌⊎◌, List, ℕ, length, IfOk, IsErrOf, OnOk, OnErr};
 ghost use Rattle.ij_io.specs.Causes.{HasCauseAt, SameCounts};
 ghost use Rattle.ij_io.specs.Files.{OthersStay};
+ghost use Rattle.svf_writer.specs.SeenCommands.{SeenCommand};
+ghost use Rattle.tap_machine.specs.declared.Stable.TheVariants.{Reset as InReset};
+ghost use Rattle.tap_machine.specs.Play.{pins, scans_in};
 ghost use Rattle.ijtag_work.specs.Filed.{HasPlans, IsFiled, IsPartFiled};
-ghost use Rattle.ijtag_work.specs.Order.{written_text};
+ghost use Rattle.ijtag_work.specs.Order.{commands_of, written_text};
 ghost use Rattle.ijtag_work.specs.Seen.{IsCompilable, seen_compilable};
 
 use bit_steps::{bit_steps_are_few, bit_steps_are_of_the_network};
 use group_scans::procedures_are_plannable;
 use ij_bits::OutOfMemory;
 use ij_io::{Shelf, StoreFault, SureSink};
-use ijtag_stages::Network;
+use ijtag_stages::{Network, read_svf};
 use ijtag_work::steps_again;
 use net_graph::Device;
 use pdl_parser::Procs;
 use retargeter::put_svf;
 use std::alloc::Global;
 use svf_file::put_svf_file;
+use svf_writer::Commands;
 
 /// The SVF text of a procedure, whole.
 #[tactic(auto, unfolding(ijtag_work::specs::Order::written_text, ijtag_work::specs::Seen::IsCompilable))]
@@ -82,4 +86,19 @@ pub fn write_svf<S: Shelf>(
         name,
         shelf,
     )
+}
+
+/// The commands of a written SVF text, in which a reader finds some: only want of memory is an error.
+#[tactic(auto, unfolding(ijtag_work::specs::Order::commands_of))]
+pub fn read_commands(alloc: Global, bytes: &[u8]) -> Result<Commands, OutOfMemory>
+    requires short { length bytes.now ≤ 134217728 }
+    requires written { (found : List SeenCommand) × (commands_of bytes.now).gives found }
+    ensures given { IfOk result (λ commands. (commands_of bytes.now).gives commands) }
+    ensures clocks { IfOk result (λ commands. length (pins InReset 0 commands) ≤ 1000000000) }
+    ensures scans { IfOk result (λ commands. scans_in commands ≤ 1000000000) }
+{
+    match read_svf(alloc, bytes) {
+        Ok(commands) => Ok(commands),
+        Err(_) => Err(OutOfMemory),
+    }
 }

@@ -79,7 +79,8 @@ fn accept_procedure(
 #[tactic(auto, unfolding(ijtag_work::specs::Order::run_network, ijtag_work::specs::Seen::IsInstrumented, ijtag_work::specs::Seen::IsRunnable))]
 fn accept_network(
     alloc: Global,
-    words: &DirectWords<'_>,
+    top: &str,
+    procedure: &str,
     modules: &Design,
     device: Device,
     tables: &List<Table>,
@@ -89,11 +90,11 @@ fn accept_network(
     requires device { IsDevice device }
     requires models { All (λ t. IsModel (seen_model t.model)) tables.now.items }
     requires pdl { length pdl.now ≤ 134217728 }
-    ensures follows { Follows (run_network words.now.top.now words.now.procedure.now (seen_design modules.now) device (seen_tables tables.now) pdl.now) (seen_runnable words.now.procedure.now) result }
-    ensures can { IfOk result (IsRunnable words.now.procedure.now) }
+    ensures follows { Follows (run_network top.now procedure.now (seen_design modules.now) device (seen_tables tables.now) pdl.now) (seen_runnable procedure.now) result }
+    ensures can { IfOk result (IsRunnable procedure.now) }
 {
-    let on = accept_instruments(alloc, words.top, modules, &device, tables)?;
-    let procs = accept_procedure(alloc, words.procedure, pdl, &on)?;
+    let on = accept_instruments(alloc, top, modules, &device, tables)?;
+    let procs = accept_procedure(alloc, procedure, pdl, &on)?;
     Ok(Runnable { on, device, procs })
 }
 
@@ -101,7 +102,8 @@ fn accept_network(
 #[tactic(auto, unfolding(ijtag_work::specs::Order::run_texts))]
 fn accept_texts(
     alloc: Global,
-    words: &DirectWords<'_>,
+    top: &str,
+    procedure: &str,
     modules: &Design,
     pdl: &[u8],
     device: &[u8],
@@ -111,19 +113,20 @@ fn accept_texts(
     requires pdl { length pdl.now ≤ 134217728 }
     requires device { length device.now ≤ 134217728 }
     requires tables { length tables.now ≤ 134217728 }
-    ensures follows { Follows (run_texts words.now.top.now words.now.procedure.now (seen_design modules.now) pdl.now device.now tables.now) (seen_runnable words.now.procedure.now) result }
-    ensures can { IfOk result (IsRunnable words.now.procedure.now) }
+    ensures follows { Follows (run_texts top.now procedure.now (seen_design modules.now) pdl.now device.now tables.now) (seen_runnable procedure.now) result }
+    ensures can { IfOk result (IsRunnable procedure.now) }
 {
     let of = read_device(alloc, device)?;
     let tables = read_tables(alloc, tables)?;
-    let it = accept_network(alloc, words, modules, of, &tables, pdl)?;
+    let it = accept_network(alloc, top, procedure, modules, of, &tables, pdl)?;
     Ok(it)
 }
 
-/// What the four texts of ICL, PDL, device and tables are accepted as.
-fn accept_four(
+/// What four texts of ICL, PDL, device and tables are accepted as, for the procedure of this name below this top module.
+pub fn accept_four(
     alloc: Global,
-    words: &DirectWords<'_>,
+    top: &str,
+    procedure: &str,
     icl: &[u8],
     pdl: &[u8],
     device: &[u8],
@@ -133,11 +136,11 @@ fn accept_four(
     requires pdl { length pdl.now ≤ 134217728 }
     requires device { length device.now ≤ 134217728 }
     requires tables { length tables.now ≤ 134217728 }
-    ensures follows { Follows (runnable words.now.top.now words.now.procedure.now (icl.now ∷ pdl.now ∷ device.now ∷ tables.now ∷ [])) (seen_runnable words.now.procedure.now) result }
-    ensures can { IfOk result (IsRunnable words.now.procedure.now) }
+    ensures follows { Follows (runnable top.now procedure.now (icl.now ∷ pdl.now ∷ device.now ∷ tables.now ∷ [])) (seen_runnable procedure.now) result }
+    ensures can { IfOk result (IsRunnable procedure.now) }
 {
     let modules = read_icl(alloc, icl)?;
-    let it = accept_texts(alloc, words, &modules, pdl, device, tables)?;
+    let it = accept_texts(alloc, top, procedure, &modules, pdl, device, tables)?;
     Ok(it)
 }
 
@@ -154,7 +157,7 @@ pub fn accept(
     let [icl, pdl, device, tables] = texts else {
         unreachable!()
     };
-    accept_four(alloc, words, icl, pdl, device, tables)
+    accept_four(alloc, words.top, words.procedure, icl, pdl, device, tables)
 }
 
 /// Runs a procedure by its meaning and writes the report. A refusal leaves a first part of the report.
@@ -213,7 +216,7 @@ pub fn direct<'a, S: Shelf, O: Sink>(
     ensures stop { IfErr result (λ stop. IsStop (S.files shelf.old) (Directs (seen_direct words.now))
         (counts S.load_faults S.store_faults O.faults shelf.old shelf.new out.old out.new) (seen_stop stop)) }
     ensures early { IfErr result (λ stop. IsEarly (seen_stop stop) → out.new ≡ out.old) }
-    ensures part { OnErr result (IsPartDone (work (S.files shelf.old) (Directs (seen_direct words.now)))
+    ensures part { OnErr result (IsPartDone (S.files shelf.old) (Directs (seen_direct words.now))
         (seen S.files O.taken shelf.old out.old) (seen S.files O.taken shelf.new out.new)) }
     ensures files { S.files shelf.new ≡ S.files shelf.old }
     ensures loads { OnlyTheseRise (names_of (direct_loads (seen_direct words.now))) (S.load_faults shelf.old) (S.load_faults shelf.new) }

@@ -3,4 +3,4 @@
 
 mod command;
 
-pub use command::{accept, direct};
+pub use command::{accept, accept_four, direct};

@@ -3,7 +3,7 @@ use Rattle.std.specs.Prelude.{IfSome}
 use Rattle.std.proofs.Common.{◌≡◌, ◌⊎◌, inl, inr, ℕ, List, Option, Some, None, sym, ◌∙◌}
 use Rattle.ij_io.specs.Files.{Files}
 use Rattle.ijtag_work.specs.Command.{Command}
-use Rattle.ijtag_work.specs.Runs.{Counts, IsAccepted, IsWriteStop, IsRunStop, IsOrMemory}
+use Rattle.ijtag_work.specs.Runs.{Counts, IsStop, IsWriteStop, IsRunStop, IsOrMemory}
 use Rattle.ijtag_work.specs.Stops.{Stop, Usage, Refuses, ReadFault, WriteFault, OutputFault, NoMemory, status_of}
 use Rattle.ijtag_work.specs.declared.status.Status.{Status}
 use Rattle.ijtag_work.specs.declared.status.Status.TheVariants.{Usage as UsageStatus, Refused, ReadFault as ReadStatus, WriteFault as WriteStatus, OutOfMemory}
@@ -25,15 +25,15 @@ memory_apart e = cc
 
 module _ (Told : Stop → Type 0) (files : Option Files) (c : Counts) (result : Status) (fault : result ≡ WriteStatus) where
   stopped : (command : Command) (stop : Stop) → IsRunStop (Some command) files c stop → IsOrMemory result (status_of stop) → ((result ≡ OutOfMemory → ⊥) → Told stop)
-      → (s : Stop) × IsAccepted files command × IsWriteStop command c s × Told s
-  stopped command (WriteFault name) is ends told = (WriteFault name, is.0, is.1, told (no_memory result fault))
-  stopped command OutputFault is ends told = (OutputFault, is.0, is.1, told (no_memory result fault))
+      → (s : Stop) × IsStop files command c s × IsWriteStop command c s × Told s
+  stopped command (WriteFault name) is ends told = (WriteFault name, is, is.1, told (no_memory result fault))
+  stopped command OutputFault is ends told = (OutputFault, is, is.1, told (no_memory result fault))
   stopped command Usage is ends told = absurd is
   stopped command (Refuses refusal) is ends told = absurd (other_status result Refused refused_apart ends fault)
   stopped command (ReadFault name) is ends told = absurd (other_status result ReadStatus read_apart ends fault)
   stopped command NoMemory is ends told = absurd (other_status result OutOfMemory memory_apart ends fault)
 
   pub write_told : (words : Option Command) (stop : Stop) → IsRunStop words files c stop → IsOrMemory result (status_of stop) → ((result ≡ OutOfMemory → ⊥) → Told stop)
-      → IfSome words (λ command. (s : Stop) × IsAccepted files command × IsWriteStop command c s × Told s)
+      → IfSome words (λ command. (s : Stop) × IsStop files command c s × IsWriteStop command c s × Told s)
   write_told None stop is ends told = tt
   write_told (Some command) stop is ends told = stopped command stop is ends told

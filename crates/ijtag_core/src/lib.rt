@@ -1,5 +1,5 @@
 //! The program as a function of its words, over any files and streams: `compile` a procedure to SVF, `play` an SVF file, `run` both,
-//! `direct` what a procedure means, `migrate` a file of tables, `audit` an SVF file for a procedure.
+//! `direct` what a procedure means, `make` a design that is run, `migrate` a file of tables, `audit` an SVF file for a procedure.
 //!
 //! Each command is a crate, and `specs/Order` of `ijtag_work` has the order of its work. Here the words choose among them.
 #![tactic(auto)]

@@ -7,7 +7,7 @@ ghost use Rattle.ijtag_work.specs.Headline.{LeavesRightSvf};
 ghost use Rattle.ijtag_work.specs.Leaves.{Leaves};
 ghost use Rattle.ijtag_work.specs.Order.{work};
 ghost use Rattle.ijtag_stages.specs.Refusals.{Refusal};
-ghost use Rattle.ijtag_work.specs.Runs.{IsDone, OnlyTheseChange, IsOrMemory, IsEarlyStatus, status_if};
+ghost use Rattle.ijtag_work.specs.Runs.{AreKept, IsDone, OnlyTheseChange, IsOrMemory, IsEarlyStatus, status_if};
 
 use crate::top::ijtag;
 use ij_io::{SureShelf, SureSink};
@@ -34,7 +34,7 @@ pub fn ijtag_in_memory(
         → (work (Some (sure_files_in shelf.old)) command).refuses refusal → IsOrMemory result Status.Refused) }
     ensures no_command { IsNone (command_in words.now.items) → IsOrMemory result Status.Usage }
     ensures err_stays { (differs : Bool) → result ≡ status_if differs → err.new ≡ err.old }
-    ensures same_files { IsEarlyStatus result → Some (sure_files_in shelf.new) ≡ Some (sure_files_in shelf.old) }
+    ensures kept_files { IsEarlyStatus result → AreKept (command_in words.now.items) (Some (sure_files_in shelf.old)) (Some (sure_files_in shelf.new)) }
     ensures same_output { IsEarlyStatus result → out.new ≡ out.old }
     ensures only_its_files_change { OnlyTheseChange (writes_in (command_in words.now.items)) (Some (sure_files_in shelf.old)) (Some (sure_files_in shelf.new)) }
     ensures only_reports_print { OnFalse (prints_in (command_in words.now.items)) (out.new ≡ out.old) }

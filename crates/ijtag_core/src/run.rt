@@ -6,7 +6,7 @@ ghost use Rattle.ijtag_work.specs.Audited.{IfAudits, IsAudited};
 ghost use Rattle.ijtag_work.specs.Command.{command_in, loads_in, writes_in, prints_in};
 ghost use Rattle.ijtag_work.specs.Headline.{LeavesRightSvf};
 ghost use Rattle.ijtag_work.specs.Order.{work};
-ghost use Rattle.ijtag_work.specs.Runs.{IsDone, IsPartDone, IsRunStop, OnlyTheseChange, OnlyTheseRise, counts, seen};
+ghost use Rattle.ijtag_work.specs.Runs.{AreKept, IsDone, IsPartDone, IsRunStop, OnlyTheseChange, OnlyTheseRise, counts, seen};
 ghost use Rattle.ijtag_work.specs.Seen.{seen_stop, differing};
 ghost use Rattle.ijtag_work.specs.Stops.{IsEarly};
 
@@ -15,6 +15,7 @@ use compile_command::compile;
 use direct_command::direct;
 use ij_io::{Shelf, Sink};
 use ijtag_work::{CommandWords, Stop, Verdict, read_words};
+use make_command::make;
 use migrate_command::migrate;
 use play_command::play;
 use run_command::run as run_procedure;
@@ -35,9 +36,9 @@ pub(crate) fn run<'a, S: Shelf, O: Sink>(
         → IfSome (command_in words.now.items) (λ command. IfAudits command (IsAudited (S.files shelf.old)))) }
     ensures stop { IfErr result (λ stop. IsRunStop (command_in words.now.items) (S.files shelf.old)
         (counts S.load_faults S.store_faults O.faults shelf.old shelf.new out.old out.new) (seen_stop stop)) }
-    ensures early { IfErr result (λ stop. IsEarly (seen_stop stop) → S.files shelf.new ≡ S.files shelf.old) }
+    ensures early { IfErr result (λ stop. IsEarly (seen_stop stop) → AreKept (command_in words.now.items) (S.files shelf.old) (S.files shelf.new)) }
     ensures silent { IfErr result (λ stop. IsEarly (seen_stop stop) → out.new ≡ out.old) }
-    ensures part { OnErr result (IfSome (command_in words.now.items) (λ command. IsPartDone (work (S.files shelf.old) command)
+    ensures part { OnErr result (IfSome (command_in words.now.items) (λ command. IsPartDone (S.files shelf.old) command
         (seen S.files O.taken shelf.old out.old) (seen S.files O.taken shelf.new out.new))) }
     ensures files { OnlyTheseChange (writes_in (command_in words.now.items)) (S.files shelf.old) (S.files shelf.new) }
     ensures out { OnFalse (prints_in (command_in words.now.items)) (out.new ≡ out.old) }
@@ -49,6 +50,7 @@ pub(crate) fn run<'a, S: Shelf, O: Sink>(
         Some(CommandWords::Play(words)) => play(alloc, &words, shelf, out),
         Some(CommandWords::Direct(words)) => direct(alloc, &words, shelf, out),
         Some(CommandWords::Run(words)) => run_procedure(alloc, &words, shelf, out),
+        Some(CommandWords::Make(words)) => make(alloc, &words, shelf, out),
         Some(CommandWords::Migrate(words)) => migrate(alloc, &words, shelf, out),
         Some(CommandWords::Audit(words)) => audit(alloc, &words, shelf, out),
         None => Err(Stop::Usage),

@@ -9,7 +9,7 @@ ghost use Rattle.ijtag_work.specs.Headline.{LeavesRightSvf};
 ghost use Rattle.ijtag_work.specs.Leaves.{Leaves};
 ghost use Rattle.ijtag_work.specs.Order.{work};
 ghost use Rattle.ijtag_stages.specs.Refusals.{Refusal};
-ghost use Rattle.ijtag_work.specs.Runs.{IsDone, IsPartDone, IsAccepted, IsReadFault, IsRunStop, IfTold, LoadRose, WriteRose, OnlyTheseChange, OnlyTheseRise, Tells, IsOrMemory, IsEarlyStatus, IsPartStatus, IsWriteStop, status_if, counts, seen};
+ghost use Rattle.ijtag_work.specs.Runs.{AreKept, IsDone, IsPartDone, IsReadFault, IsRunStop, IsStop, IfTold, LoadRose, FirstRose, WriteRose, OnlyTheseChange, OnlyTheseRise, Tells, IsOrMemory, IsEarlyStatus, IsPartStatus, IsWriteStop, status_if, counts, seen};
 ghost use Rattle.ijtag_work.specs.Stops.{Stop, Usage, Refuses, ReadFault, stop_text};
 
 use crate::run::run;
@@ -30,6 +30,9 @@ use std::alloc::Global;
 ///   that differs names its iRead. It ends as `Differs` where a compare does.
 /// - `direct ICL PDL DEVICE TABLES TOP PROC` loads the four files in this order, accepts what they hold, and only then does what the
 ///   procedure means, with no chain and no clock, and prints the report on `out`. It ends as `Differs` where a read does.
+/// - `make SEED SIZE STEM` loads nothing. It makes a design of SIZE instruments, 1 to 64, from the number SEED, writes `STEM.icl`, `STEM.pdl`,
+///   `STEM.dev` and `STEM.tab`, accepts what they hold, and only then writes `STEM.svf`, as a compile does, plays its commands clock by
+///   clock from power-up and prints one line on `out`. It ends as `Differs` where a compare does.
 /// - `migrate TABLES NEW` loads the first file, accepts it, and only then writes its tables to the second, as a file of version 2. It
 ///   prints nothing.
 /// - `audit SVF ICL PDL DEVICE TOP PROC` loads the four files in this order, accepts what they hold, and only then audits the SVF file for
@@ -45,8 +48,8 @@ pub fn ijtag<S: Shelf, O: Sink, E: Sink>(
     out: &mut O,
     err: &mut E,
 ) -> Status
-    // The headline: what a compile or a run leaves in the SVF file does, played clock by clock, what the procedure means; and a run tells
-    // a difference exactly where its procedure's direct meaning does.
+    // The headline: what a compile, a run or a make leaves in the SVF file does, played clock by clock, what the procedure means; and a
+    // run or a make tells a difference exactly where its procedure's direct meaning does.
     ensures headline { (differs : Bool) → result ≡ status_if differs → LeavesRightSvf
         (S.files shelf.old) (file_at (S.files shelf.new)) differs (command_in words.now.items) }
 
@@ -76,16 +79,18 @@ pub fn ijtag<S: Shelf, O: Sink, E: Sink>(
     ensures says_usage { result ≡ Status.Usage
         → Tells E.taken E.faults err.old err.new (stop_text Usage) }
 
-    // Refused exactly at the first refusal of the command's work, which is printed.
+    // Refused exactly at the first refusal of the command's work, which is printed, unless a load failed, or a write of the files that
+    // come before the texts.
     ensures refused { result ≡ Status.Refused → IfSome (command_in words.now.items) (λ command.
         (refusal : Refusal) × (work (S.files shelf.old) command).refuses refusal
         × Tells E.taken E.faults err.old err.new (stop_text (Refuses refusal))) }
     ensures refuses { IfTold (command_in words.now.items) (S.files shelf.old) (λ command files.
         let c = counts S.load_faults S.store_faults O.faults shelf.old shelf.new out.old out.new in
         (refusal : Refusal) → (work (Some files) command).refuses refusal
-        → ¬ LoadRose command c → IsOrMemory result Status.Refused) }
+        → ¬ LoadRose command c → ¬ FirstRose command c → IsOrMemory result Status.Refused) }
 
-    // ReadFault only where a load failed that was come to, WriteFault only where all was accepted and a write failed.
+    // ReadFault only where a load failed that was come to, WriteFault only where a write failed of what could be written: all was
+    // accepted, or it is one of the files that are written before.
     ensures read_fault { result ≡ Status.ReadFault → IfSome (command_in words.now.items) (λ command.
         (name : List ℕ) × IsReadFault (S.files shelf.old) (loads command)
         (S.load_faults shelf.old) (S.load_faults shelf.new) name
@@ -93,14 +98,16 @@ pub fn ijtag<S: Shelf, O: Sink, E: Sink>(
     ensures write_fault { result ≡ Status.WriteFault
         → IfSome (command_in words.now.items) (λ command.
         let c = counts S.load_faults S.store_faults O.faults shelf.old shelf.new out.old out.new in
-        (stop : Stop) × IsAccepted (S.files shelf.old) command × IsWriteStop command c stop
+        (stop : Stop) × IsStop (S.files shelf.old) command c stop × IsWriteStop command c stop
         × Tells E.taken E.faults err.old err.new (stop_text stop)) }
 
-    // Nothing changes before all is accepted, then a first part of what the command leaves, and never anything else.
-    ensures nothing_changes { IsEarlyStatus result
-        → (S.files shelf.new ≡ S.files shelf.old) × (out.new ≡ out.old) }
+    // Nothing changes before all is accepted but the files that are written before, then a first part of what the command leaves,
+    // and never anything else.
+    ensures kept { IsEarlyStatus result
+        → AreKept (command_in words.now.items) (S.files shelf.old) (S.files shelf.new)
+        × (out.new ≡ out.old) }
     ensures part { IsPartStatus result → IfSome (command_in words.now.items) (λ command.
-        IsPartDone (work (S.files shelf.old) command)
+        IsPartDone (S.files shelf.old) command
         (seen S.files O.taken shelf.old out.old) (seen S.files O.taken shelf.new out.new)) }
     ensures says_part { result ≡ Status.OutOfMemory → (stop : Stop)
         × IsRunStop (command_in words.now.items) (S.files shelf.old)

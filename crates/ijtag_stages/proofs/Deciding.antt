@@ -1,6 +1,6 @@
 -- Each stage comes to one end at most: what is given is one value, and then nothing is refused; and a refusal is one.
 use Rattle.std.specs.Prelude.{Option, None, Result, Ok, Err, codes}
-use Rattle.std.proofs.Common.{refl, ◌≡◌, ◌≢◌, ◌∙◌, sym, ap, ℕ, Some, List, [], ◌∷◌}
+use Rattle.std.proofs.Common.{refl, ◌≡◌, ◌≢◌, ◌∙◌, sym, ap, ℕ, Some, List}
 use Rattle.icl_lexer.specs.Cutting.{AreTokens, tokens_from}
 use Rattle.icl_lexer.specs.Laws.{CuttingsAreOne, CutTextsHaveNoFault, FaultsAreOne}
 use Rattle.icl_lexer.specs.declared.token.Token.{Token}

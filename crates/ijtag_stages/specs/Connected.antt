@@ -1,5 +1,5 @@
 -- The stage of the network: each signal of the hierarchy followed to where it ends, or the first fault (IEEE 1687-2014, ICL: AccessLink).
-use Rattle.std.specs.Prelude.{◌≡◌, ℕ, List, [], ◌∷◌, Ok, Err, codes}
+use Rattle.std.specs.Prelude.{◌≡◌, List, [], ◌∷◌, Ok, Err, codes}
 use Rattle.icl_references.specs.Roles.{CellOf}
 use Rattle.icl_signals.specs.Connecting.{network}
 use Rattle.icl_signals.specs.PlainNets.{NetOf}

@@ -1,7 +1,6 @@
 -- The stage of the nested form: the multiplexers stand inside one another, and their selects are lawful, or the first cause why not
 -- (IEEE 1687-2014, ICL: ScanMux, SelectedBy, ResetValue).
-use Rattle.std.specs.Prelude.{◌≡◌, ℕ, List, [], ◌∷◌, Option, Some, None, codes}
-use Rattle.net_graph.specs.declared.net.BitId.{BitId}
+use Rattle.std.specs.Prelude.{◌≡◌, [], ◌∷◌, Option, Some, None, codes}
 use Rattle.net_graph.specs.declared.net.Net.{Net}
 use Rattle.net_graph.specs.Nets.{IsNet}
 use Rattle.net_tree.specs.Form.{Items, Describes}

@@ -3,7 +3,7 @@ ghost use Rattle.std.specs.Prelude.{◌≡◌, ◌∷◌, [], ◌++◌, OnOk, On
 ghost use Rattle.std.specs.List.{flat_map};
 ghost use Rattle.ij_io.specs.Bytes.{Adds, AddsPart};
 ghost use Rattle.ij_io.specs.Causes.{HasCause};
-ghost use Rattle.ijtag_stages.specs.Refusals.{refused, refused_at, refused_name, refused_word, stage_name, arg_text, head_text, refusal_text, Said, Num};
+ghost use Rattle.ijtag_stages.specs.Refusals.{refused, refused_at, refused_name, refused_number, refused_word, stage_name, arg_text, head_text, refusal_text, Said, Num};
 ghost use Rattle.ijtag_stages.specs.Seen.{seen_arg, seen_refusal};
 ghost use Rattle.ijtag_stages.specs.Follows.{IsToldAs};
 ghost use Rattle.ijtag_stages.specs.declared.refusal.StageFault.TheVariants as stage_fault;
@@ -36,6 +36,8 @@ pub enum Stage {
     Fit,
     /// The procedures' text is read, and the procedure followed to its end (IEEE 1687-2014, PDL level 0).
     Pdl,
+    /// A design is made.
+    Make,
 }
 
 impl Stage {
@@ -55,6 +57,7 @@ impl Stage {
             Stage::Nest => b"nest",
             Stage::Fit => b"fit",
             Stage::Pdl => b"pdl",
+            Stage::Make => b"make",
         }
     }
 }
@@ -243,6 +246,13 @@ pub fn refused_name(alloc: Global, stage: Stage, kind: &'static [u8], name: &[u8
         Ok(args) => StageFault::Refused(Refusal { stage, kind, args }),
         Err(_) => StageFault::OutOfMemory,
     }
+}
+
+/// A refusal that tells a number.
+pub fn refused_number(alloc: Global, stage: Stage, kind: &'static [u8], number: u64) -> StageFault
+    ensures { IsToldAs (Some (refused_number stage kind.now number)) result }
+{
+    refused_one(alloc, stage, kind, Arg::Num(number))
 }
 
 /// A refusal that tells two names.

@@ -93,7 +93,7 @@ fn no_words_and_a_missing_file(rt: HostRuntime) -> Result<(), Fail> {
     assert_eq!(rt; status.code(), 2);
     assert_eq!(rt;
         err.bytes(),
-        b"usage: ijtag compile|play|run|direct|migrate|audit\n".as_slice()
+        b"usage: ijtag compile|play|run|direct|make|migrate|audit\n".as_slice()
     );
     let status = program(
         alloc,
@@ -105,7 +105,7 @@ fn no_words_and_a_missing_file(rt: HostRuntime) -> Result<(), Fail> {
     assert_eq!(rt; status.code(), 4);
     assert_eq!(rt;
         err.bytes(),
-        b"usage: ijtag compile|play|run|direct|migrate|audit\nread fault a.icl\n".as_slice()
+        b"usage: ijtag compile|play|run|direct|make|migrate|audit\nread fault a.icl\n".as_slice()
     );
     Ok(())
 }

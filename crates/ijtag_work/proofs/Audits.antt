@@ -1,31 +1,26 @@
 -- What an audit that says yes means, and what it says of the text that a compile of the same files writes.
-use Rattle.std.specs.Prelude.{All, IfSome, ◌<◌, ◌≤◌, Ok}
-use Rattle.std.proofs.Common.{◌≡◌, ℕ, Bool, false, true, Option, Some, None, List, [], ◌∷◌, length, refl, sym, ap, ◌∙◌, subst, arith}
+use Rattle.std.specs.Prelude.{All, IfSome, ◌<◌, Ok}
+use Rattle.std.proofs.Common.{◌≡◌, ℕ, false, Option, Some, None, List, [], ◌∷◌, length, refl, sym, ap, ◌∙◌, subst, arith}
 use Rattle.ij_io.specs.Files.{Files, bytes_of}
-use Rattle.instruments.specs.Machine.{Machine, whole_log}
-use Rattle.net_graph.specs.declared.device.Device.{Device}
 use Rattle.net_graph.specs.Devices.{IsDevice}
 use Rattle.net_graph.specs.SeenSteps.{SeenStep}
 use Rattle.net_graph.specs.Resets.{start_holds}
 use Rattle.net_graph.specs.Steps.{IsStep}
-use Rattle.net_bench.specs.Bench.{fault_free}
 use Rattle.svf_reader.specs.Meaning.{svf}
 use Rattle.svf_writer.specs.Fits.{AreFit}
 use Rattle.svf_writer.specs.SeenCommands.{SeenCommand}
-use Rattle.headline.specs.Script.{ScannedStep, script_commands, steps_of}
+use Rattle.headline.specs.Script.{ScannedStep, script_commands}
 use Rattle.group_scans.specs.Retargeting.{IsRetargetable, PlansAreScripts, script_of, IsRetargeted as DoSteps}
 use Rattle.group_scans.proofs.Playing.{selects_drive_nothing}
 use Rattle.svf_audit.specs.Audit.{Reading, Verdict, Yes, No, audit as audit_commands}
 use Rattle.bit_steps.specs.Laws.{BitStepsAreOfTheNetwork}
 use Rattle.pdl_parser.specs.Views.{seen_procs}
-use Rattle.audit_law.specs.Law.{AuditedPlaysDoAll, DoesAll}
+use Rattle.audit_law.specs.Law.{AuditedPlaysDoAll}
 use Rattle.audit_law.specs.Own.{PlannedScriptsPass, PlansList}
 use Rattle.audit_report.specs.Report.{says_no}
-use Rattle.ijtag_stages.specs.DeviceText.{device_text}
-use Rattle.ijtag_stages.specs.IclText.{icl_text}
 use Rattle.ijtag_stages.specs.SvfText.{svf_text}
 use Rattle.ijtag_work.specs.Audited.{IsAudited, IsOwnText, OwnTextsPass, IfAudits}
-use Rattle.ijtag_work.specs.Command.{Command, Compiles, Plays, Directs, Runs, Migrates, Audit, Audits, own_compile, compile_loads, audit_loads}
+use Rattle.ijtag_work.specs.Command.{Command, Compiles, Plays, Directs, Runs, Makes, Migrates, Audit, Audits, own_compile, compile_loads, audit_loads}
 use Rattle.ijtag_work.specs.Leaves.{Leaves, Written}
 use Rattle.ijtag_work.specs.Order.{SeenCompilable, SeenAuditable, loaded, loaded_one, accepted, written_text, filed, told, audited_texts, auditable, verdict_of, line_of, work}
 use Rattle.ijtag_work.specs.Seen.{IsAuditable, seen_auditable}
@@ -145,4 +140,5 @@ own_good pass (Some (Compiles x)) (Some f) c result complete = tt
 own_good pass (Some (Plays x)) (Some f) c result complete = tt
 own_good pass (Some (Directs x)) (Some f) c result complete = tt
 own_good pass (Some (Runs x)) (Some f) c result complete = tt
+own_good pass (Some (Makes x)) (Some f) c result complete = tt
 own_good pass (Some (Migrates x)) (Some f) c result complete = tt

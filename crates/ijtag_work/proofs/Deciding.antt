@@ -1,5 +1,5 @@
 -- The work of a command comes to one end at most: what is given is one value, and then nothing is refused; and a refusal is one.
-use Rattle.std.proofs.Common.{◌≡◌, ◌<◌, ◌≤◌, ◌∙◌, sym, ap, ℕ, Some, Result, Ok, List, [], ◌∷◌, length, arith}
+use Rattle.std.proofs.Common.{◌≡◌, ◌⊎◌, inl, inr, ◌<◌, ◌≤◌, ◌∙◌, sym, ap, ℕ, Some, Result, Ok, List, [], ◌∷◌, ◌++◌, length, codes, arith}
 use Rattle.ij_io.specs.Files.{Files, bytes_of}
 use Rattle.icl_syntax.specs.Values.{SeenModule}
 use Rattle.net_graph.specs.declared.device.Device.{Device}
@@ -15,7 +15,6 @@ use Rattle.ijtag_stages.specs.DeviceText.{device_text}
 use Rattle.ijtag_stages.specs.Fitted.{models_of}
 use Rattle.ijtag_stages.specs.IclText.{icl_text}
 use Rattle.ijtag_stages.specs.Laws.{StagesAreDecided}
-use Rattle.pdl_parser.specs.Values.{AProc}
 use Rattle.ijtag_stages.specs.Networks.{NestedNet, network_below}
 use Rattle.ijtag_stages.specs.PdlText.{pdl_text}
 use Rattle.ijtag_stages.specs.Procedure.{procedure}
@@ -24,8 +23,9 @@ use Rattle.ijtag_stages.specs.TablesText.{tables_text}
 use Rattle.table_file.specs.Tables.{SeenTable}
 use Rattle.ijtag_stages.specs.Work.{IsDecided}
 use Rattle.ijtag_stages.proofs.Turns.{give_decided, never_decided, in_turn_decided}
-use Rattle.ijtag_work.specs.Command.{Command, Compile, Compiles, Play, Plays, Directs, Runs, Migrates, Audit, Audits, own_compile, Load, loads}
-use Rattle.ijtag_work.specs.Order.{SeenCompilable, SeenRunnable, compilable_of, commands_of, run_report, run_of, loaded_one, loaded, compiled_procedure, accepted, written_text, read_tables_of, fitted_network, followed_text, run_network, run_texts, runnable, audited_texts, auditable, SeenFiles, played_files, played_network, played_texts, playable, work_on, work}
+use Rattle.ijtag_work.specs.Command.{Command, Compile, Compiles, Play, Plays, Directs, Runs, Make, Makes, Migrates, Audit, Audits, own_compile, Load, loads}
+use Rattle.ijtag_work.specs.Leaves.{Written}
+use Rattle.ijtag_work.specs.Order.{SeenCompilable, SeenRunnable, compilable_of, commands_of, run_report, run_of, made_files, taken_one, taken, accepted_made, made_of, make, loaded_one, loaded, compiled_procedure, accepted, written_text, read_tables_of, fitted_network, followed_text, run_network, run_texts, runnable, audited_texts, auditable, SeenFiles, played_files, played_network, played_texts, playable, work_on, work}
 
 -- ---- loads
 
@@ -41,6 +41,29 @@ loads_decided : (files : Files) (loads : List Load) → IsDecided (loaded (Some 
 loads_decided files [] = give_decided []
 loads_decided files (load ∷ loads) =
     in_turn_decided (loaded_one (Some files) load) _ (one_decided files load) (λ text. in_turn_decided (loaded (Some files) loads) _ (loads_decided files loads) (λ texts. give_decided (text ∷ texts)))
+
+-- ---- the files of a made design, and their texts as they are read
+
+wrong_size : (size : ℕ) → 1 ≤ size → size ≤ 64 → (size < 1) ⊎ (64 < size) → ⊥
+wrong_size size some few wrong = elim wrong [ inl none ↦ omega (arith, some, none) | inr many ↦ omega (arith, few, many) ]
+
+pub made_decided : (m : Make) → IsDecided (made_files m)
+unfolding made_files
+made_decided m =
+    record { one = λ a b p q. p.2 ∙ sym q.2; apart = λ a r p q. wrong_size m.size p.0 p.1 q.0; alike = λ r s p q. p.1 ∙ sym q.1 }
+
+too_long : (bytes : List ℕ) → length bytes ≤ 16777216 → 16777216 < length bytes → ⊥
+too_long bytes fits long = omega (arith, fits, long)
+
+taken_one_decided : (w : Written) → IsDecided (taken_one w)
+unfolding taken_one
+taken_one_decided w =
+    record { one = λ a b p q. p.1 ∙ sym q.1; apart = λ a r p q. too_long w.bytes p.0 q.0; alike = λ r s p q. p.1 ∙ sym q.1 }
+
+taken_decided : (ws : List Written) → IsDecided (taken ws)
+taken_decided [] = give_decided []
+taken_decided (w ∷ ws) =
+    in_turn_decided (taken_one w) _ (taken_one_decided w) (λ text. in_turn_decided (taken ws) _ (taken_decided ws) (λ texts. give_decided (text ∷ texts)))
 
 -- ---- the written text
 
@@ -148,6 +171,21 @@ module _ (stages : StagesAreDecided) (texts_one : TextsAreOne) (places_one : Pla
       in_turn_decided (written_text (compilable_of it)) _ (written_decided texts_one (compilable_of it)) (λ bytes. in_turn_decided (commands_of bytes) _ (commands_decided bytes)
       (λ commands. in_turn_decided (run_report it commands) _ (report_decided places_one it commands) (λ text. give_decided _)))
 
+  made_of_decided : (files : List Written) (svf : List ℕ) (it : SeenRunnable) → IsDecided (made_of files svf it)
+  unfolding made_of
+  made_of_decided files svf it =
+      in_turn_decided (written_text (compilable_of it)) _ (written_decided texts_one (compilable_of it)) (λ bytes. in_turn_decided (commands_of bytes) _ (commands_decided bytes)
+      (λ commands. give_decided _))
+
+  accepted_made_decided : (ws : List Written) → IsDecided (accepted_made ws)
+  unfolding accepted_made
+  accepted_made_decided ws = in_turn_decided (taken ws) _ (taken_decided ws) (runnable_decided (codes "chip") (codes "p"))
+
+  make_decided : (m : Make) → IsDecided (make m)
+  make_decided m =
+      in_turn_decided (made_files m) _ (made_decided m)
+      (λ files. in_turn_decided (accepted_made files) _ (accepted_made_decided files) (made_of_decided files (m.stem ++ codes ".svf")))
+
   tables_decided : (texts : List (List ℕ)) → IsDecided (read_tables_of texts)
   tables_decided (tables ∷ []) = stages.tables tables
   tables_decided [] = never_decided
@@ -174,6 +212,7 @@ module _ (stages : StagesAreDecided) (texts_one : TextsAreOne) (places_one : Pla
   work_on_decided (Plays p) texts = in_turn_decided (playable p texts) _ (playable_decided p texts) (λ it. give_decided _)
   work_on_decided (Directs d) texts = in_turn_decided (runnable d.top d.procedure texts) _ (runnable_decided d.top d.procedure texts) (λ it. give_decided _)
   work_on_decided (Runs r) texts = in_turn_decided (runnable r.top r.procedure texts) _ (runnable_decided r.top r.procedure texts) (run_of_decided r.svf)
+  work_on_decided (Makes m) texts = make_decided m
   work_on_decided (Migrates m) texts = in_turn_decided (read_tables_of texts) _ (tables_decided texts) (λ tables. give_decided _)
   work_on_decided (Audits a) texts = in_turn_decided (auditable a texts) _ (auditable_decided a texts) (λ it. give_decided _)
 

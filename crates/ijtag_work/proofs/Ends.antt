@@ -46,14 +46,14 @@ file_done files new printed command name bytes given written =
     record { leaves = filed name bytes; given = given; files = (written, tt); printed = none_added printed; verdict = refl }
 
 pub file_part : (files new : Option Files) (printed : Option (List ℕ)) (command : Command) (name bytes : List ℕ) → (work files command).gives (filed name bytes)
-    → HoldsPart files new name bytes → IsPartDone (work files command) (record { files = files; printed = printed }) (record { files = new; printed = printed })
+    → HoldsPart files new name bytes → IsPartDone files command (record { files = files; printed = printed }) (record { files = new; printed = printed })
 file_part files new printed command name bytes given part =
-    inr (record { leaves = filed name bytes; given = given; files = (part, tt); printed = adds_none [] refl; in_order = inl refl })
+    inr (inl (record { leaves = filed name bytes; given = given; files = inr (part, tt); printed = adds_none [] refl; in_order = inl refl }))
 
 -- a store of the file failed
 pub file_fault : (files : Option Files) (command : Command) (counts : Counts) (name bytes : List ℕ) → (work files command).gives (filed name bytes) → IsOneOf (writes command) name
     → Rose (counts.store name) (counts.store_now name) → IsStop files command counts (WriteFault name)
-file_fault files command counts name bytes given own rose = ((filed name bytes, given), (own, rose))
+file_fault files command counts name bytes given own rose = (inl (filed name bytes, given), (own, rose))
 
 -- ---- a command that prints a report, and writes no file
 
@@ -63,9 +63,9 @@ told_done files old new command text wanted differs given printed verdict =
     record { leaves = told text wanted; given = given; files = tt; printed = printed; verdict = verdict }
 
 pub told_part : (files : Option Files) (old new : Option (List ℕ)) (command : Command) (text : List ℕ) (wanted : Bool) → (work files command).gives (told text wanted)
-    → AddsPart old new text → IsPartDone (work files command) (record { files = files; printed = old }) (record { files = files; printed = new })
+    → AddsPart old new text → IsPartDone files command (record { files = files; printed = old }) (record { files = files; printed = new })
 told_part files old new command text wanted given part =
-    inr (record { leaves = told text wanted; given = given; files = tt; printed = part; in_order = inr tt })
+    inr (inl (record { leaves = told text wanted; given = given; files = tt; printed = part; in_order = inr tt }))
 
 -- a write of the report failed
 pub told_fault : (files : Option Files) (command : Command) (counts : Counts) (text : List ℕ) (wanted : Bool) → (work files command).gives (told text wanted) → IsTrue (prints command)
@@ -101,10 +101,10 @@ retargeted files c bytes svf m written =
 -- the file is as before, or holds some first bytes of the text
 pub compile_part : (files mid new : Option Files) (printed : Option (List ℕ)) (c : Compile) (texts : List (List ℕ)) (it : SeenCompilable) → (loaded files (compile_loads c)).gives texts → (accepted c texts).gives it
     → mid ≡ files → ((new ≡ mid) ⊎ IsPartFiled (written_text it) mid new c.svf)
-    → IsPartDone (work files (Compiles c)) (record { files = files; printed = printed }) (record { files = new; printed = printed })
+    → IsPartDone files (Compiles c) (record { files = files; printed = printed }) (record { files = new; printed = printed })
 compile_part files mid new printed c texts it read is same part = ⊎_elim (λ e. inl (e ∙ same, refl)) begun part
   where
-    begun : IsPartFiled (written_text it) mid new c.svf → IsPartDone (work files (Compiles c)) (record { files = files; printed = printed }) (record { files = new; printed = printed })
+    begun : IsPartFiled (written_text it) mid new c.svf → IsPartDone files (Compiles c) (record { files = files; printed = printed }) (record { files = new; printed = printed })
     begun w =
         file_part files new printed (Compiles c) c.svf w.bytes (compile_given files c w.bytes (record { texts = texts; it = it; read = read; accepted_so = is; written = w.given }))
         (part_now files mid new c.svf w.bytes same w.held)

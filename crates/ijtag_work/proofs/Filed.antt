@@ -1,12 +1,10 @@
 -- The SVF text of what is compiled, in its file.
-use Rattle.std.proofs.Common.{◌≡◌, ◌⊎◌, inl, inr, ◌∙◌, ℕ, Option, List, sym, refl, subst}
+use Rattle.std.proofs.Common.{ℕ, Option, List}
 use Rattle.ij_io.specs.Files.{Files}
 use Rattle.svf_file.specs.Files.{HoldsScript, HoldsScriptPart}
 use Rattle.retargeter.specs.Scripts.{HasScript, ScriptIsRight}
-use Rattle.ijtag_work.specs.Command.{Command}
 use Rattle.ijtag_work.specs.Filed.{IsFiled, IsPartFiled}
-use Rattle.ijtag_work.specs.Order.{SeenCompilable, written_text, work}
-use Rattle.ijtag_work.specs.Runs.{HoldsPart, IsPartDone}
+use Rattle.ijtag_work.specs.Order.{SeenCompilable, written_text}
 
 module _ (it : SeenCompilable) (text : HasScript it.network.net it.network.form it.device it.steps) (right : ScriptIsRight it.network.net it.network.form it.device it.steps) where
   pub has_text : (bytes : List ℕ) × (written_text it).gives bytes

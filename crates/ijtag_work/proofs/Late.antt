@@ -1,24 +1,24 @@
 -- What a part of a command's work does, the whole of it does.
-use Rattle.std.proofs.Common.{◌≡◌, ◌⊎◌, inl, inr, ℕ, Bool, Option, List, subst}
+use Rattle.std.proofs.Common.{◌≡◌, inl, inr, ℕ, Bool, Option, List, subst}
 use Rattle.ij_io.specs.Causes.{Rose}
 use Rattle.ij_io.specs.Files.{Files}
 use Rattle.ijtag_work.specs.Command.{Command}
-use Rattle.ijtag_work.specs.Late.{IsLateStop}
+use Rattle.ijtag_work.specs.Late.{IsLateStop, IsPartOf}
 use Rattle.ijtag_work.specs.Leaves.{Leaves}
 use Rattle.ijtag_work.specs.Order.{work}
 use Rattle.ijtag_work.specs.Runs.{Seen, IsDone, IsPartDone, Counts, IsStop}
 use Rattle.ijtag_work.specs.Stops.{Stop, Usage, Refuses, ReadFault, WriteFault, OutputFault, NoMemory, IsEarly}
 use Rattle.ijtag_stages.specs.Refusals.{Part}
 
-module _ (part whole : Part Leaves) (lift : (leaves : Leaves) → part.gives leaves → whole.gives leaves) (old new : Seen) where
-  pub done_in : (differs : Bool) → IsDone part old new differs → IsDone whole old new differs
+module _ (files : Option Files) (command : Command) (part : Part Leaves) (lift : (leaves : Leaves) → part.gives leaves → (work files command).gives leaves) (old new : Seen) where
+  pub done_in : (differs : Bool) → IsDone part old new differs → IsDone (work files command) old new differs
   done_in differs d =
       record { leaves = d.leaves; given = lift d.leaves d.given; files = d.files; printed = d.printed; verdict = d.verdict }
 
-  pub begun_in : IsPartDone part old new → IsPartDone whole old new
+  pub begun_in : IsPartOf part old new → IsPartDone files command old new
   begun_in either = elim either [
     | inl same ↦ inl same
-    | inr d ↦ inr (record { leaves = d.leaves; given = lift d.leaves d.given; files = d.files; printed = d.printed; in_order = d.in_order })
+    | inr d ↦ inr (inl (record { leaves = d.leaves; given = lift d.leaves d.given; files = d.files; printed = d.printed; in_order = d.in_order }))
   ]
 
 -- behind loads, which raise no count of a store
@@ -29,7 +29,7 @@ module _ (files : Option Files) (command : Command) (part : Part Leaves) (lift :
 
   pub late_stop : (stop : Stop) → IsLateStop part command mid stop → IsStop files command before stop
   late_stop (WriteFault name) is =
-      ((is.0.0, lift is.0.0 is.0.1), (is.1.0, subst (λ (n : ℕ). Rose n (mid.store_now name)) (same name) is.1.1))
+      (inl (is.0.0, lift is.0.0 is.0.1), (is.1.0, subst (λ (n : ℕ). Rose n (mid.store_now name)) (same name) is.1.1))
   late_stop OutputFault is = ((is.0.0, lift is.0.0 is.0.1), is.1)
   late_stop NoMemory is = tt
   late_stop Usage is = absurd is

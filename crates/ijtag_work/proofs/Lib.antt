@@ -1,4 +1,5 @@
 pub mod Told
+pub mod Numbers
 pub mod Loading
 pub mod Begun
 pub mod Ends

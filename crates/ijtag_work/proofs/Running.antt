@@ -1,6 +1,6 @@
 -- What a run does behind the texts that were accepted.
 use Rattle.std.specs.Prelude.{option_map}
-use Rattle.std.proofs.Common.{◌≡◌, ◌∙◌, ◌≤◌, ◌⊎◌, inl, inr, sym, ap, refl, subst, ℕ, Bool, true, false, Option, Some, List, [], ◌∷◌, length, arith}
+use Rattle.std.proofs.Common.{◌≡◌, ◌∙◌, ◌≤◌, inl, inr, sym, ap, refl, ℕ, Bool, Option, Some, List, [], ◌∷◌, length, arith}
 use Rattle.std.proofs.lemmas.List.{take_all}
 use Rattle.bench_report.specs.Report.{named_report}
 use Rattle.group_scans.specs.Retargeting.{PlannedStep, script_of}
@@ -19,7 +19,8 @@ use Rattle.ijtag_work.specs.Filed.{IsFiled}
 use Rattle.ijtag_work.specs.Headline.{IsRunRetargeted}
 use Rattle.ijtag_work.specs.Leaves.{Leaves}
 use Rattle.ijtag_work.specs.Order.{SeenRunnable, compilable_of, commands_of, run_report, run_differs, reads_differ, run_of, ran, any_differs, loaded, runnable, written_text, work}
-use Rattle.ijtag_work.specs.Runs.{HoldsPart, Seen, IsDone, IsPartDone}
+use Rattle.ijtag_work.specs.Late.{IsPartOf}
+use Rattle.ijtag_work.specs.Runs.{HoldsPart, Seen, IsDone}
 
 any_alike : {A B : Type 0} (xs : List A) (ys : List B) → is_empty xs ≡ is_empty ys → any_differs xs ≡ any_differs ys
 any_alike [] [] same = refl
@@ -36,7 +37,7 @@ module _ (name : List ℕ) (it : SeenRunnable) (bytes : List ℕ) (written : (wr
   short = omega (arith, written.few_bytes)
 
   -- a reader finds commands in the text
-  found : (commands : List SeenCommand) × (commands_of bytes).gives commands
+  pub found : (commands : List SeenCommand) × (commands_of bytes).gives commands
   unfolding written_text commands_of
   found = (script_commands it.device (script_of it.network.net (start_holds it.network.net) written.plans), written.read)
 
@@ -65,9 +66,9 @@ module _ (name : List ℕ) (it : SeenRunnable) (bytes : List ℕ) (written : (wr
 
     module _ (old new : Seen) where
       -- the file is cut off
-      pub write_part : HoldsPart old.files new.files name bytes → new.printed ≡ old.printed → IsPartDone (run_of name it) old new
+      pub write_part : HoldsPart old.files new.files name bytes → new.printed ≡ old.printed → IsPartOf (run_of name it) old new
       write_part part silent =
-          inr (record { leaves = ran name bytes (report found.0) (run_differs it found.0); given = given found.0 found.1; files = (part, tt); printed = adds_none (report found.0) silent; in_order = inl silent })
+          inr (record { leaves = ran name bytes (report found.0) (run_differs it found.0); given = given found.0 found.1; files = inr (part, tt); printed = adds_none (report found.0) silent; in_order = inl silent })
 
       module _ (whole : file_at new.files name ≡ option_map (λ _. Some bytes) old.files) where
         all_held : HoldsPart old.files new.files name bytes
@@ -75,14 +76,14 @@ module _ (name : List ℕ) (it : SeenRunnable) (bytes : List ℕ) (written : (wr
             inr (length bytes, whole ∙ ap (λ (bs : List ℕ). option_map (λ _. Some bs) old.files) (sym (take_all (length bytes) bytes (omega arith))))
 
         -- the file is whole, and nothing is printed
-        pub silent_part : new.printed ≡ old.printed → IsPartDone (run_of name it) old new
+        pub silent_part : new.printed ≡ old.printed → IsPartOf (run_of name it) old new
         silent_part silent = write_part all_held silent
 
         module _ (commands : List SeenCommand) (is : (commands_of bytes).gives commands) where
           -- the report is cut off
-          pub print_part : AddsPart old.printed new.printed (report commands) → IsPartDone (run_of name it) old new
+          pub print_part : AddsPart old.printed new.printed (report commands) → IsPartOf (run_of name it) old new
           print_part part =
-              inr (record { leaves = ran name bytes (report commands) (run_differs it commands); given = given commands is; files = (all_held, tt); printed = part; in_order = inr (whole, tt) })
+              inr (record { leaves = ran name bytes (report commands) (run_differs it commands); given = given commands is; files = inr (all_held, tt); printed = part; in_order = inr (whole, tt) })
 
           pub ran_done : (differs : Bool) → Adds old.printed new.printed (report commands) → differs ≡ run_differs it commands → IsDone (run_of name it) old new differs
           ran_done differs printed verdict =

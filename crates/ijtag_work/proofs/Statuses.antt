@@ -3,11 +3,11 @@ use Rattle.std.specs.Prelude.{IfSome}
 use Rattle.std.proofs.Common.{◌≡◌, ◌⊎◌, inl, inr, ℕ, Bool, false, true, Option, Some, None, List, [], ◌∷◌, refl, sym, ap, ◌∙◌, subst}
 use Rattle.ij_io.specs.Causes.{Rose}
 use Rattle.ij_io.specs.Files.{Files}
-use Rattle.ijtag_work.specs.Command.{Command, Load, loads, names_of, writes, IsOneOf}
+use Rattle.ijtag_work.specs.Command.{Command, Load, loads, names_of, writes, first_writes, IsOneOf}
 use Rattle.ijtag_work.specs.Leaves.{Leaves}
 use Rattle.ijtag_work.specs.Order.{work}
 use Rattle.ijtag_stages.specs.Refusals.{Refusal}
-use Rattle.ijtag_work.specs.Runs.{Counts, Seen, IsReached, SomeRose, LoadRose, WriteRose, IsWriteStop, IsRunStop, IsStop, IsDone, IsOrMemory, IfTold, status_if, WorksAreDecided}
+use Rattle.ijtag_work.specs.Runs.{Counts, Seen, IsReached, SomeRose, LoadRose, FirstRose, WriteRose, IsWriteStop, IsRunStop, IsStop, IsDone, IsOrMemory, IfTold, status_if, WorksAreDecided}
 use Rattle.ijtag_work.specs.Stops.{Stop, Usage, Refuses, ReadFault, WriteFault, OutputFault, NoMemory, status_of}
 use Rattle.ijtag_work.specs.declared.status.Status.{Status}
 use Rattle.ijtag_work.specs.declared.status.Status.TheVariants.{Refused, OutOfMemory}
@@ -60,27 +60,30 @@ complete_done decided (Some command) (Some f) c old new differs result done ends
     λ leaves given no_load no_write. inl (ends ∙ ap status_if (done.verdict ∙ ap (λ (l : Leaves). l.differs) ((decided f command).one done.leaves leaves done.given given)))
 
 -- a stop of what meets a refusal
-refused_stops : WorksAreDecided → (files : Files) (command : Command) (c : Counts) (stop : Stop) (result : Status) (refusal : Refusal) → (work (Some files) command).refuses refusal → (LoadRose command c → ⊥)
+refused_stops : WorksAreDecided → (files : Files) (command : Command) (c : Counts) (stop : Stop) (result : Status) (refusal : Refusal) → (work (Some files) command).refuses refusal → (LoadRose command c → ⊥) → (FirstRose command c → ⊥)
     → IsStop (Some files) command c stop → IsOrMemory result (status_of stop) → IsOrMemory result Refused
-refused_stops decided files command c Usage result refusal first no_load is ends = absurd is
-refused_stops decided files command c (Refuses other) result refusal first no_load is ends = ends
-refused_stops decided files command c (ReadFault name) result refusal first no_load is ends =
+refused_stops decided files command c Usage result refusal first no_load no_first is ends = absurd is
+refused_stops decided files command c (Refuses other) result refusal first no_load no_first is ends = ends
+refused_stops decided files command c (ReadFault name) result refusal first no_load no_first is ends =
     absurd (no_load (some_rose (names_of (loads command)) c.load c.load_now name (is_loaded (Some files) (loads command) name is.0) is.1))
-refused_stops decided files command c (WriteFault name) result refusal first no_load is ends = absurd ((decided files command).apart is.0.0 refusal is.0.1 first)
-refused_stops decided files command c OutputFault result refusal first no_load is ends = absurd ((decided files command).apart is.0.0 refusal is.0.1 first)
-refused_stops decided files command c NoMemory result refusal first no_load is ends = or_memory result Refused ends
+refused_stops decided files command c (WriteFault name) result refusal first no_load no_first is ends = elim is.0 [
+  | inl all ↦ absurd ((decided files command).apart all.0 refusal all.1 first)
+  | inr before ↦ absurd (no_first (some_rose (first_writes command) c.store c.store_now name before.1 is.1.1))
+]
+refused_stops decided files command c OutputFault result refusal first no_load no_first is ends = absurd ((decided files command).apart is.0.0 refusal is.0.1 first)
+refused_stops decided files command c NoMemory result refusal first no_load no_first is ends = or_memory result Refused ends
 
 pub refuses_stop : WorksAreDecided → (words : Option Command) (files : Option Files) (c : Counts) (stop : Stop) (result : Status) → IsRunStop words files c stop → IsOrMemory result (status_of stop)
-    → IfSome words (λ command. IfSome files (λ f. (refusal : Refusal) → (work (Some f) command).refuses refusal → (LoadRose command c → ⊥) → IsOrMemory result Refused))
+    → IfSome words (λ command. IfSome files (λ f. (refusal : Refusal) → (work (Some f) command).refuses refusal → (LoadRose command c → ⊥) → (FirstRose command c → ⊥) → IsOrMemory result Refused))
 refuses_stop decided None files c stop result is ends = tt
 refuses_stop decided (Some command) None c stop result is ends = tt
-refuses_stop decided (Some command) (Some f) c stop result is ends = λ refusal first no_load. refused_stops decided f command c stop result refusal first no_load is ends
+refuses_stop decided (Some command) (Some f) c stop result is ends = λ refusal first no_load no_first. refused_stops decided f command c stop result refusal first no_load no_first is ends
 
 pub refuses_done : WorksAreDecided → (words : Option Command) (files : Option Files) (c : Counts) (old new : Seen) (differs : Bool) (result : Status) → IfSome words (λ command. IsDone (work files command) old new differs)
-    → IfSome words (λ command. IfSome files (λ f. (refusal : Refusal) → (work (Some f) command).refuses refusal → (LoadRose command c → ⊥) → IsOrMemory result Refused))
+    → IfSome words (λ command. IfSome files (λ f. (refusal : Refusal) → (work (Some f) command).refuses refusal → (LoadRose command c → ⊥) → (FirstRose command c → ⊥) → IsOrMemory result Refused))
 refuses_done decided None files c old new differs result done = tt
 refuses_done decided (Some command) None c old new differs result done = tt
-refuses_done decided (Some command) (Some f) c old new differs result done = λ refusal first no_load. absurd ((decided f command).apart done.leaves refusal done.given first)
+refuses_done decided (Some command) (Some f) c old new differs result done = λ refusal first no_load no_first. absurd ((decided f command).apart done.leaves refusal done.given first)
 
 -- one status for each verdict
 verdict_is : (a b : Bool) → status_if a ≡ status_if b → a ≡ b
@@ -100,8 +103,9 @@ none_rose : (names : List (List ℕ)) (before now : List ℕ → ℕ) → ((name
 none_rose [] before now none some = some
 none_rose (name ∷ names) before now none some = elim some [ inl own ↦ none name own | inr later ↦ none_rose names before now none later ]
 
-pub refuses_sure : (words : Option Command) (f : Files) (c : Counts) (result : Status) → ((name : List ℕ) → Rose (c.load name) (c.load_now name) → ⊥)
-    → IfTold words (Some f) (λ command files. (refusal : Refusal) → (work (Some files) command).refuses refusal → (LoadRose command c → ⊥) → IsOrMemory result Refused)
+pub refuses_sure : (words : Option Command) (f : Files) (c : Counts) (result : Status) → ((name : List ℕ) → Rose (c.load name) (c.load_now name) → ⊥) → ((name : List ℕ) → Rose (c.store name) (c.store_now name) → ⊥)
+    → IfTold words (Some f) (λ command files. (refusal : Refusal) → (work (Some files) command).refuses refusal → (LoadRose command c → ⊥) → (FirstRose command c → ⊥) → IsOrMemory result Refused)
     → IfSome words (λ command. (refusal : Refusal) → (work (Some f) command).refuses refusal → IsOrMemory result Refused)
-refuses_sure None f c result none told = tt
-refuses_sure (Some command) f c result none told = λ refusal first. told refusal first (none_rose (names_of (loads command)) c.load c.load_now none)
+refuses_sure None f c result none never told = tt
+refuses_sure (Some command) f c result none never told =
+    λ refusal first. told refusal first (none_rose (names_of (loads command)) c.load c.load_now none) (none_rose (first_writes command) c.store c.store_now never)

@@ -1,11 +1,11 @@
 -- What it means that an audit says yes; and what it says of the text that is compiled of the same files.
-use Rattle.std.specs.Prelude.{◌≡◌, ℕ, Bool, false, List, Option, Some}
+use Rattle.std.specs.Prelude.{◌≡◌, ℕ, false, List, Option, Some}
 use Rattle.ij_io.specs.Files.{Files, bytes_of}
 use Rattle.instruments.specs.Machine.{Machine, whole_log}
 use Rattle.net_bench.specs.Bench.{fault_free}
 use Rattle.audit_law.specs.Law.{DoesAll}
 use Rattle.svf_audit.specs.Audit.{Reading, Yes}
-use Rattle.ijtag_work.specs.Command.{Command, Compiles, Plays, Directs, Runs, Migrates, Audit, Audits, own_compile, audit_loads}
+use Rattle.ijtag_work.specs.Command.{Command, Compiles, Plays, Directs, Runs, Makes, Migrates, Audit, Audits, own_compile, audit_loads}
 use Rattle.ijtag_work.specs.Order.{SeenAuditable, loaded, auditable, verdict_of, filed, told, work}
 
 -- the texts are accepted as commands of SVF and a procedure, and these commands, played clock by clock from power-up, do what
@@ -26,6 +26,7 @@ IfAudits (Compiles c) P = Unit {0}
 IfAudits (Plays p) P = Unit {0}
 IfAudits (Directs d) P = Unit {0}
 IfAudits (Runs r) P = Unit {0}
+IfAudits (Makes m) P = Unit {0}
 IfAudits (Migrates m) P = Unit {0}
 
 -- the audited file holds the text that a compile of the same procedure writes to it

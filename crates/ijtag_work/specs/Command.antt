@@ -1,10 +1,13 @@
 -- The words that the program is called with, and the files that a command loads and writes.
-use Rattle.std.specs.Prelude.{◌≡◌, ◌≢◌, ◌⊎◌, ℕ, Bool, true, false, List, [], ◌∷◌, Option, Some, None, map, codes}
+use Rattle.std.specs.Prelude.{◌≡◌, ◌≢◌, ◌⊎◌, ℕ, ◌==◌, nat_lt, Bool, true, false, ◌&&◌, ◌||◌, not, cond, List, [], ◌∷◌, ◌++◌, length, Option, Some, None, map, codes}
+use Rattle.std.specs.Char.{is_ascii_digit}
+use Rattle.std.specs.List.{list_all}
 use Rattle.std.specs.Option.{option_map_or}
 use Rattle.std.specs.Str.{bytes_eq}
 use Rattle.std.specs.String.{string_bytes}
 use Rattle.std.specs.declared.string.String.{String}
 use Rattle.std.specs.declared.alloc.Global.{Global}
+use Rattle.ij_text.specs.Numbers.{decimal_from}
 
 -- `compile ICL PDL DEVICE TOP PROC SVF`: four file names, the top module and the procedure
 pub record Compile : Type 0 where
@@ -46,6 +49,12 @@ pub record Run : Type 0 where
 abbrev pub run_procedure : Run → Direct
 run_procedure r = record { icl = r.icl; pdl = r.pdl; device = r.device; tables = r.tables; top = r.top; procedure = r.procedure }
 
+-- `make SEED SIZE STEM`: two numbers, and what the names of the files begin with
+pub record Make : Type 0 where
+  pub seed : ℕ
+  pub size : ℕ
+  pub stem : List ℕ
+
 -- `migrate TABLES NEW`: the file of tables, and the file that is written
 pub record Migrate : Type 0 where
   pub tables : List ℕ
@@ -69,11 +78,25 @@ pub data Command : Type 0 where
   Plays : (words : Play) → Command
   Directs : (words : Direct) → Command
   Runs : (words : Run) → Command
+  Makes : (words : Make) → Command
   Migrates : (words : Migrate) → Command
   Audits : (words : Audit) → Command
 
--- exactly seven words, of which the first is `compile`, `direct` or `audit`; eight, of which it is `run`; six, of which it is `play`; or three, of
--- which it is `migrate`
+-- a decimal number of 1 to 19 digits, of which the first is 0 in `0` alone
+abbrev pub is_number : List ℕ → Bool
+is_number [] = false
+is_number (b ∷ bs) = is_ascii_digit b && list_all is_ascii_digit bs && nat_lt (length bs) 19 && (not (b == 48) || length bs == 0)
+
+abbrev pub number_of : List ℕ → Option ℕ
+number_of text = cond (is_number text) (Some (decimal_from 0 text)) None
+
+abbrev pub make_of : Option ℕ → Option ℕ → List ℕ → Option Command
+make_of (Some seed) (Some size) stem = Some (Makes (record { seed = seed; size = size; stem = stem }))
+make_of (Some seed) None stem = None
+make_of None size stem = None
+
+-- exactly seven words, of which the first is `compile`, `direct` or `audit`; eight, of which it is `run`; six, of which it is `play`; four, of
+-- which it is `make` and the next two are numbers; or three, of which it is `migrate`
 abbrev pub command_of : List (List ℕ) → Option Command
 command_of (word ∷ icl ∷ pdl ∷ device ∷ top ∷ procedure ∷ svf ∷ []) =
     elim (bytes_eq word (codes "compile")) [
@@ -87,6 +110,8 @@ command_of (word ∷ icl ∷ pdl ∷ device ∷ tables ∷ top ∷ procedure ∷
     elim (bytes_eq word (codes "run")) [ true ↦ Some (Runs (record { icl = icl; pdl = pdl; device = device; tables = tables; top = top; procedure = procedure; svf = svf })) | false ↦ None ]
 command_of (word ∷ svf ∷ icl ∷ device ∷ tables ∷ top ∷ []) =
     elim (bytes_eq word (codes "play")) [ true ↦ Some (Plays (record { svf = svf; icl = icl; device = device; tables = tables; top = top })) | false ↦ None ]
+command_of (word ∷ seed ∷ size ∷ stem ∷ []) =
+    elim (bytes_eq word (codes "make")) [ true ↦ make_of (number_of seed) (number_of size) stem | false ↦ None ]
 command_of (word ∷ tables ∷ written ∷ []) =
     elim (bytes_eq word (codes "migrate")) [ true ↦ Some (Migrates (record { tables = tables; written = written })) | false ↦ None ]
 command_of _ = None
@@ -130,6 +155,7 @@ loads (Compiles c) = compile_loads c
 loads (Plays p) = play_loads p
 loads (Directs d) = direct_loads d
 loads (Runs r) = direct_loads (run_procedure r)
+loads (Makes m) = []
 loads (Migrates m) = migrate_loads m
 loads (Audits a) = audit_loads a
 
@@ -139,12 +165,31 @@ names_of (load ∷ loads) = load.name ∷ names_of loads
 
 -- ---- what is written
 
+-- the four files of a made design
+abbrev pub made_names : List ℕ → List (List ℕ)
+made_names stem = (stem ++ codes ".icl") ∷ (stem ++ codes ".pdl") ∷ (stem ++ codes ".dev") ∷ (stem ++ codes ".tab") ∷ []
+
+-- and that of its procedure's SVF
+abbrev pub made_svf : List ℕ → List ℕ
+made_svf stem = stem ++ codes ".svf"
+
+-- the files that are written before any text is accepted: those of a made design
+abbrev pub first_writes : Command → List (List ℕ)
+first_writes (Compiles c) = []
+first_writes (Plays p) = []
+first_writes (Directs d) = []
+first_writes (Runs r) = []
+first_writes (Makes m) = made_names m.stem
+first_writes (Migrates m) = []
+first_writes (Audits a) = []
+
 -- the files that are written, in this order
 abbrev pub writes : Command → List (List ℕ)
 writes (Compiles c) = c.svf ∷ []
 writes (Plays p) = []
 writes (Directs d) = []
 writes (Runs r) = r.svf ∷ []
+writes (Makes m) = made_names m.stem ++ made_svf m.stem ∷ []
 writes (Migrates m) = m.written ∷ []
 writes (Audits a) = []
 
@@ -154,6 +199,7 @@ prints (Compiles c) = false
 prints (Plays p) = true
 prints (Directs d) = true
 prints (Runs r) = true
+prints (Makes m) = true
 prints (Migrates m) = false
 prints (Audits a) = true
 

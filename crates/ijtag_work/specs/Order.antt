@@ -1,5 +1,5 @@
 -- The order of work of each command: the lines of a `do` block are done in turn, and the first that refuses decides.
-use Rattle.std.specs.Prelude.{◌≡◌, ◌<◌, ◌≤◌, ℕ, Bool, true, false, List, [], ◌∷◌, length, Option, IfSome, Ok, codes}
+use Rattle.std.specs.Prelude.{◌≡◌, ◌⊎◌, ◌<◌, ◌≤◌, ◌++◌, ℕ, Bool, true, false, List, [], ◌∷◌, length, Option, IfSome, Ok, codes}
 use Rattle.ij_io.specs.Files.{Files, bytes_of}
 use Rattle.icl_syntax.specs.Values.{SeenModule}
 use Rattle.instruments.specs.Seen.{SeenModel}
@@ -12,15 +12,19 @@ use Rattle.net_bench.specs.Playing.{Compare}
 use Rattle.bench_report.specs.Report.{differs_of, play_report}
 use Rattle.run_report.specs.Report.{IsRunReport}
 use Rattle.svf_reader.specs.Meaning.{svf}
+use Rattle.design_maker.specs.Tables.{device_text as made_device}
+use Rattle.design_maker.specs.Texts.{made_icl, made_pdl, made_tables}
 use Rattle.direct_report.specs.Report.{direct_report, direct_differs}
-use Rattle.group_scans.specs.Retargeting.{PlannedStep, IsRetargeted as DoSteps}
+use Rattle.made_report.specs.MadeReport.{made_report}
+use Rattle.pdl_targets.specs.Laws.{rounds_in}
+use Rattle.group_scans.specs.Retargeting.{IsRetargeted as DoSteps}
 use Rattle.ijtag_stages.specs.Work.{give, never, ◌>>=◌}
 use Rattle.bench_file.specs.Written.{tables_text as written_tables}
 use Rattle.svf_audit.specs.Audit.{Verdict, audit as audit_commands}
 use Rattle.audit_report.specs.Report.{audit_text, says_no}
-use Rattle.ijtag_work.specs.Command.{Command, Compile, Compiles, Play, Plays, Direct, Directs, Run, Runs, run_procedure, Migrate, Migrates, Audit, Audits, own_compile, Load, loads}
-use Rattle.ijtag_stages.specs.Refusals.{Part, refused_name}
-use Rattle.ijtag_work.specs.Leaves.{Leaves}
+use Rattle.ijtag_work.specs.Command.{Command, Compile, Compiles, Play, Plays, Direct, Directs, Run, Runs, Make, Makes, made_names, made_svf, Migrate, Migrates, Audit, Audits, own_compile, Load, loads}
+use Rattle.ijtag_stages.specs.Refusals.{Part, refused_name, refused_number}
+use Rattle.ijtag_work.specs.Leaves.{Leaves, Written}
 use Rattle.ijtag_stages.specs.DeviceText.{device_text}
 use Rattle.ijtag_stages.specs.Fitted.{models_of}
 use Rattle.ijtag_stages.specs.IclText.{icl_text}
@@ -29,7 +33,7 @@ use Rattle.ijtag_stages.specs.PdlText.{pdl_text}
 use Rattle.ijtag_stages.specs.Procedure.{procedure}
 use Rattle.ijtag_stages.specs.SvfText.{svf_text}
 use Rattle.ijtag_stages.specs.TablesText.{tables_text}
-use Rattle.ijtag_stages.specs.declared.refusal.Stage.TheVariants.{File}
+use Rattle.ijtag_stages.specs.declared.refusal.Stage.TheVariants.{File, Make as MakeStage}
 
 -- ---- loads: where the files aren't told, a load may give any text that is short enough, or find any file too long
 
@@ -239,6 +243,65 @@ run r texts = do
   it ← runnable r.top r.procedure texts
   run_of r.svf it
 
+-- ---- make: the size, then four files are written; their texts are accepted as those of a run, and of its play the totals are printed
+
+-- the four texts of a made design
+abbrev pub made_texts : Make → List (List ℕ)
+made_texts m = made_icl m.seed m.size ∷ made_pdl m.seed m.size ∷ made_device ∷ made_tables m.seed m.size ∷ []
+
+-- names with their texts
+abbrev pub written_as : List (List ℕ) → List (List ℕ) → List Written
+written_as [] texts = []
+written_as (name ∷ names) [] = []
+written_as (name ∷ names) (text ∷ texts) = record { name = name; bytes = text } ∷ written_as names texts
+
+-- the four files, of 1 to 64 instruments
+unfoldable pub made_files : Make → Part (List Written)
+made_files m = record {
+  gives = λ ws. (1 ≤ m.size) × (m.size ≤ 64) × (ws ≡ written_as (made_names m.stem) (made_texts m));
+  refuses = λ r. ((m.size < 1) ⊎ (64 < m.size)) × (r ≡ refused_number MakeStage (codes "BadSize") m.size);
+}
+
+-- a text that was written, as it is read: it may be no longer than a file may be
+unfoldable pub taken_one : Written → Part (List ℕ)
+taken_one w = record {
+  gives = λ text. (length w.bytes ≤ 16777216) × (text ≡ w.bytes);
+  refuses = λ r. (16777216 < length w.bytes) × (r ≡ refused_name File (codes "Long") w.name);
+}
+
+abbrev pub taken : List Written → Part (List (List ℕ))
+taken [] = give []
+taken (w ∷ ws) = do
+  text ← taken_one w
+  texts ← taken ws
+  give (text ∷ texts)
+
+-- what they are accepted as
+unfoldable pub accepted_made : List Written → Part SeenRunnable
+accepted_made ws = do
+  texts ← taken ws
+  runnable (codes "chip") (codes "p") texts
+
+-- the files are there, and the totals are printed
+abbrev pub made : List Written → List ℕ → List ℕ → List ℕ → Bool → Leaves
+made files svf bytes text differs = record { files = files ++ record { name = svf; bytes = bytes } ∷ []; printed = text; differs = differs }
+
+-- the line of the design: the groups of its procedure are the rounds of all its iApplys
+unfoldable pub made_totals : SeenRunnable → List SeenCommand → List ℕ
+made_totals it commands = made_report it.network.net it.device it.models commands (rounds_in it.steps)
+
+unfoldable pub made_of : List Written → List ℕ → SeenRunnable → Part Leaves
+made_of files svf it = do
+  bytes ← written_text (compilable_of it)
+  commands ← commands_of bytes
+  give (made files svf bytes (made_totals it commands) (run_differs it commands))
+
+abbrev pub make : Make → Part Leaves
+make m = do
+  files ← made_files m
+  it ← accepted_made files
+  made_of files (made_svf m.stem) it
+
 -- ---- migrate: the tables, which are written once more
 
 abbrev pub read_tables_of : List (List ℕ) → Part (List SeenTable)
@@ -293,8 +356,19 @@ work_on (Compiles c) texts = compile c texts
 work_on (Plays p) texts = play p texts
 work_on (Directs d) texts = direct d texts
 work_on (Runs r) texts = run r texts
+work_on (Makes m) texts = make m
 work_on (Migrates m) texts = migrate m texts
 work_on (Audits a) texts = audit a texts
+
+-- the files that a command writes before any text is accepted
+abbrev pub begins : Command → Part (List Written)
+begins (Compiles c) = never
+begins (Plays p) = never
+begins (Directs d) = never
+begins (Runs r) = never
+begins (Makes m) = made_files m
+begins (Migrates m) = never
+begins (Audits a) = never
 
 abbrev pub work : Option Files → Command → Part Leaves
 work files command = do

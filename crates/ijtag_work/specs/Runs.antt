@@ -4,10 +4,10 @@ use Rattle.std.specs.Option.{option_map}
 use Rattle.ij_io.specs.Bytes.{Adds, AddsPart}
 use Rattle.ij_io.specs.Causes.{Rose}
 use Rattle.ij_io.specs.Files.{Files, file_at}
-use Rattle.ijtag_work.specs.Command.{Command, Load, loads, names_of, writes, prints, IsOneOf, IsNoneOf}
+use Rattle.ijtag_work.specs.Command.{Command, Compiles, Plays, Directs, Runs, Makes, Migrates, Audits, Load, loads, names_of, writes, first_writes, made_names, prints, IsOneOf, IsNoneOf}
 use Rattle.ijtag_stages.specs.Work.{IsDecided}
 use Rattle.ijtag_work.specs.Leaves.{Leaves, Written}
-use Rattle.ijtag_work.specs.Order.{loaded_one, work}
+use Rattle.ijtag_work.specs.Order.{begins, loaded_one, made_files, work}
 use Rattle.ijtag_stages.specs.Refusals.{Part}
 use Rattle.ijtag_work.specs.Stops.{Stop, Usage, Refuses, ReadFault, WriteFault, OutputFault, NoMemory, IsUsage}
 use Rattle.ijtag_work.specs.declared.status.Status.{Status}
@@ -25,10 +25,21 @@ abbrev pub HoldsPart : Option Files → Option Files → List ℕ → List ℕ �
 HoldsPart old new name bytes =
     (file_at new name ≡ file_at old name) ⊎ ((count : ℕ) × (file_at new name ≡ option_map (λ _. Some (take count bytes)) old))
 
--- each of these files does
-abbrev pub EachHoldsPart : List Written → Option Files → Option Files → Type 0
-EachHoldsPart [] old new = Unit {0}
-EachHoldsPart (w ∷ ws) old new = HoldsPart old new w.name w.bytes × EachHoldsPart ws old new
+-- each of these files is as before
+abbrev pub AllStay : List Written → Option Files → Option Files → Type 0
+AllStay [] old new = Unit {0}
+AllStay (w ∷ ws) old new = (file_at new w.name ≡ file_at old w.name) × AllStay ws old new
+
+-- files that are written in turn: those in front are whole, one is as before or holds some first bytes, and those behind it are as before
+abbrev pub HoldInTurn : List Written → Option Files → Option Files → Type 0
+HoldInTurn [] old new = Unit {0}
+HoldInTurn (w ∷ ws) old new =
+    ((file_at new w.name ≡ option_map (λ _. Some w.bytes) old) × HoldInTurn ws old new) ⊎ (HoldsPart old new w.name w.bytes × AllStay ws old new)
+
+-- no file changes but these
+abbrev pub OnlyTheseChange : List (List ℕ) → Option Files → Option Files → Type 0
+OnlyTheseChange [] old new = new ≡ old
+OnlyTheseChange (name ∷ names) old new = (other : List ℕ) → IsNoneOf (name ∷ names) other → file_at new other ≡ file_at old other
 
 -- what is seen of files and of an output
 pub record Seen : Type 0 where
@@ -46,21 +57,47 @@ pub record IsDone (work : Part Leaves) (old new : Seen) (differs : Bool) : Type 
   pub printed : Adds old.printed new.printed leaves.printed
   pub verdict : differs ≡ leaves.differs
 
--- nothing is, or a first part of it: the files come first, and nothing is printed before they are whole
+-- nothing is, or a first part of it: the files come first, in their order, and nothing is printed before they are whole
 pub record IsBegun (work : Part Leaves) (old new : Seen) : Type 0 where
   pub leaves : Leaves
   pub given : work.gives leaves
-  pub files : EachHoldsPart leaves.files old.files new.files
+  pub files : HoldInTurn leaves.files old.files new.files
   pub printed : AddsPart old.printed new.printed leaves.printed
   pub in_order : (new.printed ≡ old.printed) ⊎ AllHold leaves.files old.files new.files
 
-abbrev pub IsPartDone : Part Leaves → Seen → Seen → Type 0
-IsPartDone work old new = ((new.files ≡ old.files) × (new.printed ≡ old.printed)) ⊎ IsBegun work old new
+-- a first part of the files that are written before the texts are accepted, which have these names, and of no other file
+pub record IsFirstBegun (first : Part (List Written)) (names : List (List ℕ)) (old new : Seen) : Type 0 where
+  pub written : List Written
+  pub given : first.gives written
+  pub files : HoldInTurn written old.files new.files
+  pub others : OnlyTheseChange names old.files new.files
+  pub printed : new.printed ≡ old.printed
 
--- no file changes but these
-abbrev pub OnlyTheseChange : List (List ℕ) → Option Files → Option Files → Type 0
-OnlyTheseChange [] old new = new ≡ old
-OnlyTheseChange (name ∷ names) old new = (other : List ℕ) → IsNoneOf (name ∷ names) other → file_at new other ≡ file_at old other
+abbrev pub IsUnchanged : Seen → Seen → Type 0
+IsUnchanged old new = (new.files ≡ old.files) × (new.printed ≡ old.printed)
+
+abbrev pub IsPartDone : Option Files → Command → Seen → Seen → Type 0
+IsPartDone files command old new = IsUnchanged old new ⊎ (IsBegun (work files command) old new ⊎ IsFirstBegun (begins command) (first_writes command) old new)
+
+-- where a text is refused, the files that are written before, which have these names, stand whole, and no other file changes; where there
+-- are none, nothing changes
+pub record AreFirstWritten (first : Part (List Written)) (names : List (List ℕ)) (old new : Option Files) : Type 0 where
+  pub whole : (written : List Written) → first.gives written → AllHold written old new
+  pub others : OnlyTheseChange names old new
+  pub same : ((written : List Written) → first.gives written → ⊥) → new ≡ old
+
+abbrev pub IsKept : Command → Option Files → Option Files → Type 0
+IsKept (Compiles c) old new = new ≡ old
+IsKept (Plays p) old new = new ≡ old
+IsKept (Directs d) old new = new ≡ old
+IsKept (Runs r) old new = new ≡ old
+IsKept (Makes m) old new = AreFirstWritten (made_files m) (made_names m.stem) old new
+IsKept (Migrates m) old new = new ≡ old
+IsKept (Audits a) old new = new ≡ old
+
+abbrev pub AreKept : Option Command → Option Files → Option Files → Type 0
+AreKept None old new = new ≡ old
+AreKept (Some command) old new = IsKept command old new
 
 -- no count changes but those of these names
 abbrev pub OnlyTheseRise : List (List ℕ) → (List ℕ → ℕ) → (List ℕ → ℕ) → Type 0
@@ -97,6 +134,10 @@ SomeRose (name ∷ names) before now = Rose (before name) (now name) ⊎ SomeRos
 abbrev pub LoadRose : Command → Counts → Type 0
 LoadRose command c = SomeRose (names_of (loads command)) c.load c.load_now
 
+-- of a file that is written before the texts are accepted
+abbrev pub FirstRose : Command → Counts → Type 0
+FirstRose command c = SomeRose (first_writes command) c.store c.store_now
+
 abbrev pub WriteRose : Command → Counts → Type 0
 WriteRose command c = SomeRose (writes command) c.store c.store_now ⊎ (IsTrue (prints command) × Rose c.output c.output_now)
 
@@ -104,6 +145,14 @@ WriteRose command c = SomeRose (writes command) c.store c.store_now ⊎ (IsTrue 
 
 abbrev pub IsAccepted : Option Files → Command → Type 0
 IsAccepted files command = (leaves : Leaves) × (work files command).gives leaves
+
+-- the files that are written before may be given
+abbrev pub CanBegin : Command → Type 0
+CanBegin command = (written : List Written) × (begins command).gives written
+
+-- a file is written only where all is accepted, or where it is one of those that are written before
+abbrev pub CanWrite : Option Files → Command → List ℕ → Type 0
+CanWrite files command name = IsAccepted files command ⊎ (CanBegin command × IsOneOf (first_writes command) name)
 
 -- this file is one of those that are loaded in this order, and those before it may be given
 abbrev pub IsReached : Option Files → List Load → List ℕ → Type 0
@@ -123,11 +172,11 @@ IsWriteStop command c (Refuses refusal) = ⊥
 IsWriteStop command c (ReadFault name) = ⊥
 IsWriteStop command c NoMemory = ⊥
 
--- the first refusal of the command's work; or a load failed that was come to; or all was accepted, and a write failed
+-- the first refusal of the command's work; or a load failed that was come to; or a write failed of what could be written
 abbrev pub IsStop : Option Files → Command → Counts → Stop → Type 0
 IsStop files command c (Refuses refusal) = (work files command).refuses refusal
 IsStop files command c (ReadFault name) = IsReadFault files (loads command) c.load c.load_now name
-IsStop files command c (WriteFault name) = IsAccepted files command × IsWriteStop command c (WriteFault name)
+IsStop files command c (WriteFault name) = CanWrite files command name × IsWriteStop command c (WriteFault name)
 IsStop files command c OutputFault = IsAccepted files command × IsWriteStop command c OutputFault
 IsStop files command c NoMemory = Unit {0}
 IsStop files command c Usage = ⊥
@@ -148,7 +197,7 @@ status_if true = Differs
 abbrev pub IsOrMemory : Status → Status → Type 0
 IsOrMemory result status = (result ≡ status) ⊎ (result ≡ OutOfMemory)
 
--- nothing was begun
+-- nothing was begun but the files that a command writes first
 abbrev pub IsEarlyStatus : Status → Type 0
 IsEarlyStatus Good = ⊥
 IsEarlyStatus Differs = ⊥

@@ -1,5 +1,5 @@
 -- Words, stops, verdicts and what is accepted as contracts see them: with plain lists.
-use Rattle.std.specs.Prelude.{◌≡◌, ◌<◌, ◌≤◌, ◌^◌, ℕ, Bool, true, false, List, length, map, None}
+use Rattle.std.specs.Prelude.{◌≡◌, ◌<◌, ◌≤◌, ◌^◌, ◌++◌, ℕ, Bool, true, false, List, length, map, None}
 use Rattle.bit_steps.specs.BitSteps.{bit_steps}
 use Rattle.ij_text.specs.Numbering.{AreDistinct}
 use Rattle.instruments.specs.Seen.{seen_model}
@@ -15,7 +15,7 @@ use Rattle.ijtag_stages.specs.Nested.{IsNested}
 use Rattle.ijtag_stages.specs.Seen.{seen_network, seen_refusal}
 use Rattle.ijtag_stages.specs.declared.refusal.StageFault.{StageFault}
 use Rattle.ijtag_stages.specs.declared.refusal.StageFault.TheVariants.{Refused as RefusedStage, OutOfMemory as MemoryStage}
-use Rattle.ijtag_work.specs.Command.{Command, Compile, Play, Direct, Run, Migrate, Audit, Compiles, Plays, Directs, Runs, Migrates, Audits, Load, source, svf_file}
+use Rattle.ijtag_work.specs.Command.{Command, Compile, Play, Direct, Run, Make, Migrate, Audit, Compiles, Plays, Directs, Runs, Makes, Migrates, Audits, Load, source, svf_file}
 use Rattle.table_file.specs.Answers.{seen_tables}
 use Rattle.ijtag_work.specs.Order.{SeenCompilable, SeenFiles, SeenPlayable, SeenRunnable, FittedNet, SeenAuditable}
 use Rattle.ijtag_work.specs.Stops.{Stop, Usage, Refuses, ReadFault, WriteFault, OutputFault, NoMemory}
@@ -23,16 +23,18 @@ use Rattle.ijtag_work.specs.declared.words.CompileWords.{CompileWords}
 use Rattle.ijtag_work.specs.declared.words.PlayWords.{PlayWords}
 use Rattle.ijtag_work.specs.declared.words.DirectWords.{DirectWords}
 use Rattle.ijtag_work.specs.declared.words.RunWords.{RunWords}
+use Rattle.ijtag_work.specs.declared.words.MakeWords.{MakeWords}
 use Rattle.ijtag_work.specs.declared.words.MigrateWords.{MigrateWords}
 use Rattle.ijtag_work.specs.declared.words.AuditWords.{AuditWords}
 use Rattle.ijtag_work.specs.declared.words.CommandWords.{CommandWords}
-use Rattle.ijtag_work.specs.declared.words.CommandWords.TheVariants.{Compile as CompileCommand, Play as PlayCommand, Direct as DirectCommand, Run as RunCommand, Migrate as MigrateCommand, Audit as AuditCommand}
+use Rattle.ijtag_work.specs.declared.words.CommandWords.TheVariants.{Compile as CompileCommand, Play as PlayCommand, Direct as DirectCommand, Run as RunCommand, Make as MakeCommand, Migrate as MigrateCommand, Audit as AuditCommand}
 use Rattle.ijtag_work.specs.declared.load.Load.{Load as LoadWords}
 use Rattle.ijtag_work.specs.declared.load.Load.TheVariants.{Source as SourceLoad, Svf as SvfLoad}
+use Rattle.ijtag_work.specs.declared.names.MadeName.{MadeName}
 use Rattle.ijtag_work.specs.declared.status.Verdict.{Verdict}
 use Rattle.ijtag_work.specs.declared.status.Verdict.TheVariants.{Agrees as Agreeing, Differs as Differing}
 use Rattle.ijtag_work.specs.declared.stop.Stop.{Stop as RustStop}
-use Rattle.ijtag_work.specs.declared.stop.Stop.TheVariants.{Usage as UsageStop, Refused as RefusedStop, ReadFault as ReadStop, WriteFault as WriteStop, OutputFault as OutputStop, OutOfMemory as MemoryStop}
+use Rattle.ijtag_work.specs.declared.stop.Stop.TheVariants.{Usage as UsageStop, Refused as RefusedStop, ReadFault as ReadStop, WriteFault as WriteStop, WriteMade as WriteMadeStop, OutputFault as OutputStop, OutOfMemory as MemoryStop}
 use Rattle.ijtag_work.specs.declared.accepted.Auditable.{Auditable}
 use Rattle.ijtag_work.specs.declared.accepted.Compilable.{Compilable}
 use Rattle.ijtag_work.specs.declared.accepted.Instrumented.{Instrumented}
@@ -56,6 +58,9 @@ abbrev pub seen_run : RunWords → Run
 seen_run words =
     record { icl = words.icl.now; pdl = words.pdl.now; device = words.device.now; tables = words.tables.now; top = words.top.now; procedure = words.procedure.now; svf = words.svf.now }
 
+abbrev pub seen_make : MakeWords → Make
+seen_make words = record { seed = words.seed; size = words.size; stem = words.stem.now }
+
 abbrev pub seen_migrate : MigrateWords → Migrate
 seen_migrate words = record { tables = words.tables.now; written = words.written.now }
 
@@ -68,6 +73,7 @@ seen_command (CompileCommand words) = Compiles (seen_compile words)
 seen_command (PlayCommand words) = Plays (seen_play words)
 seen_command (DirectCommand words) = Directs (seen_direct words)
 seen_command (RunCommand words) = Runs (seen_run words)
+seen_command (MakeCommand words) = Makes (seen_make words)
 seen_command (MigrateCommand words) = Migrates (seen_migrate words)
 seen_command (AuditCommand words) = Audits (seen_audit words)
 
@@ -75,11 +81,15 @@ abbrev pub seen_load : LoadWords → Load
 seen_load (SourceLoad name) = source name.now
 seen_load (SvfLoad name) = svf_file name.now
 
+abbrev pub seen_made_name : MadeName → List ℕ
+seen_made_name name = name.stem.now ++ name.ending.now
+
 abbrev pub seen_stop : RustStop → Stop
 seen_stop UsageStop = Usage
 seen_stop (RefusedStop refusal) = Refuses (seen_refusal refusal)
 seen_stop (ReadStop name) = ReadFault name.now
 seen_stop (WriteStop name) = WriteFault name.now
+seen_stop (WriteMadeStop name) = WriteFault (seen_made_name name)
 seen_stop OutputStop = OutputFault
 seen_stop MemoryStop = NoMemory
 

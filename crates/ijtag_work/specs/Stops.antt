@@ -34,14 +34,14 @@ named_line text name = concat (text ∷ name ∷ codes "\n" ∷ [])
 
 -- the line that tells a stop
 unfoldable pub stop_text : Stop → List ℕ
-stop_text Usage = codes "usage: ijtag compile|play|run|direct|migrate|audit\n"
+stop_text Usage = codes "usage: ijtag compile|play|run|direct|make|migrate|audit\n"
 stop_text (Refuses refusal) = refusal_text refusal
 stop_text (ReadFault name) = named_line (codes "read fault ") name
 stop_text (WriteFault name) = named_line (codes "write fault ") name
 stop_text OutputFault = codes "write fault output\n"
 stop_text NoMemory = codes "out of memory\n"
 
--- a stop that comes only before something is written
+-- a stop that comes only before something is written but the files that a command writes first
 abbrev pub IsEarly : Stop → Type 0
 IsEarly Usage = Unit {0}
 IsEarly (Refuses refusal) = Unit {0}

@@ -7,6 +7,8 @@ mod audited;
 mod decided;
 mod follow;
 mod load;
+mod names;
+mod number;
 mod status;
 mod stop;
 mod words;
@@ -17,10 +19,11 @@ pub use audited::own_texts_pass;
 pub use decided::works_are_decided;
 pub use follow::steps_again;
 pub use load::{Load, load_all};
+pub use names::MadeName;
 pub use status::{Status, Verdict};
 pub use stop::{Stop, report};
 pub use words::{
-    AuditWords, CommandWords, CompileWords, DirectWords, MigrateWords, PlayWords, RunWords,
-    read_words,
+    AuditWords, CommandWords, CompileWords, DirectWords, MakeWords, MigrateWords, PlayWords,
+    RunWords, read_words,
 };
 pub use write::write_file;

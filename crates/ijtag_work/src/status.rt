@@ -13,7 +13,7 @@ pub enum Status {
     Differs,
     /// The words are no command.
     Usage,
-    /// A file or a text was refused, and no file was begun.
+    /// A file, a text or a size was refused. No file was begun, but the four of a `make` whose texts are refused, which stand whole.
     Refused,
     /// A file could not be read, and no file was begun.
     ReadFault,

@@ -1,12 +1,13 @@
 // Why a run stops short.
-ghost use Rattle.std.specs.Prelude.{◌≡◌, ◌⊎◌, OnOk, OnErr};
+ghost use Rattle.std.specs.Prelude.{◌≡◌, ◌⊎◌, OnOk, OnErr, codes};
 ghost use Rattle.ij_io.specs.Bytes.{Adds, AddsPart};
 ghost use Rattle.ij_io.specs.Causes.{HasCause};
 ghost use Rattle.ijtag_work.specs.Runs.{IsOrMemory, Tells};
-ghost use Rattle.ijtag_work.specs.Seen.{seen_stop, stop_from};
+ghost use Rattle.ijtag_work.specs.Seen.{seen_made_name, seen_stop, stop_from};
 ghost use Rattle.ijtag_work.specs.declared.stop.Stop.TheVariants as stops;
 ghost use Rattle.ijtag_work.specs.Stops.{status_of, stop_text, named_line};
 
+use crate::names::MadeName;
 use crate::status::Status;
 use ij_bits::OutOfMemory;
 use ij_io::{Sink, StoreFault, Word, put_words};
@@ -24,6 +25,8 @@ pub enum Stop<'a> {
     ReadFault(&'a str),
     /// A store under this name failed.
     WriteFault(&'a str),
+    /// A store under this name of a made design's file failed.
+    WriteMade(MadeName<'a>),
     /// A write of the output failed.
     OutputFault,
     /// There was no memory.
@@ -67,6 +70,7 @@ impl Stop<'_> {
             Stop::Refused(_) => Status::Refused,
             Stop::ReadFault(_) => Status::ReadFault,
             Stop::WriteFault(_) => Status::WriteFault,
+            Stop::WriteMade(_) => Status::WriteFault,
             Stop::OutputFault => Status::WriteFault,
             Stop::OutOfMemory => Status::OutOfMemory,
         }
@@ -90,6 +94,24 @@ fn put_named<'a, K: Sink>(text: &'a [u8], name: &'a str, k: &mut K) -> Result<()
     )
 }
 
+/// Prints the line of a store that failed under the name of a made design's file.
+#[tactic(auto, unfolding(ij_io::specs::Words::words_text))]
+fn put_write_made<K: Sink>(name: &MadeName<'_>, k: &mut K) -> Result<(), StoreFault>
+    ensures whole { OnOk result (Adds (K.taken k.old) (K.taken k.new) (named_line (codes "write fault ") (seen_made_name name.now))) }
+    ensures part { OnErr result (AddsPart (K.taken k.old) (K.taken k.new) (named_line (codes "write fault ") (seen_made_name name.now))) }
+    ensures cause { HasCause (K.faults k.old) (K.faults k.new) result StoreFault.Failed }
+{
+    put_words(
+        k,
+        &[
+            Word::Text(b"write fault "),
+            Word::Text(name.stem.as_bytes()),
+            Word::Text(name.ending.as_bytes()),
+            Word::Text(b"\n"),
+        ],
+    )
+}
+
 /// Prints the line of a stop.
 #[tactic(auto, unfolding(crate::specs::Stops::stop_text))]
 fn put_stop<K: Sink>(stop: &Stop<'_>, k: &mut K) -> Result<(), StoreFault>
@@ -98,10 +120,11 @@ fn put_stop<K: Sink>(stop: &Stop<'_>, k: &mut K) -> Result<(), StoreFault>
     ensures cause { HasCause (K.faults k.old) (K.faults k.new) result StoreFault.Failed }
 {
     match stop {
-        Stop::Usage => k.write(b"usage: ijtag compile|play|run|direct|migrate|audit\n"),
+        Stop::Usage => k.write(b"usage: ijtag compile|play|run|direct|make|migrate|audit\n"),
         Stop::Refused(refusal) => put_refusal(refusal, k),
         Stop::ReadFault(name) => put_named(b"read fault ", name, k),
         Stop::WriteFault(name) => put_named(b"write fault ", name, k),
+        Stop::WriteMade(name) => put_write_made(name, k),
         Stop::OutputFault => k.write(b"write fault output\n"),
         Stop::OutOfMemory => k.write(b"out of memory\n"),
     }

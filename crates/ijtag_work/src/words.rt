@@ -1,9 +1,10 @@
 // The words that the program is called with.
-ghost use Rattle.std.specs.Prelude.{◌≡◌, map, option_map};
-ghost use Rattle.ijtag_work.specs.Command.{command_in, compile_loads, play_loads, direct_loads, migrate_loads, audit_loads, own_compile};
+ghost use Rattle.std.specs.Prelude.{◌≡◌, [], ◌∷◌, map, option_map};
+ghost use Rattle.ijtag_work.specs.Command.{command_in, command_of, make_of, number_of, compile_loads, play_loads, direct_loads, migrate_loads, audit_loads, own_compile};
 ghost use Rattle.ijtag_work.specs.Seen.{seen_command, seen_compile, seen_play, seen_direct, seen_migrate, seen_audit, seen_load};
 
 use crate::load::Load;
+use crate::number::read_number;
 
 /// The words of `compile ICL PDL DEVICE TOP PROC SVF`.
 #[derive(Clone, Copy)]
@@ -114,6 +115,17 @@ pub struct RunWords<'a> {
     pub svf: &'a str,
 }
 
+/// The words of `make SEED SIZE STEM`.
+#[derive(Clone, Copy)]
+pub struct MakeWords<'a> {
+    /// The number that the design is drawn from.
+    pub seed: u64,
+    /// How many instruments the design has.
+    pub size: u64,
+    /// What the names of the files begin with.
+    pub stem: &'a str,
+}
+
 /// The words of `migrate TABLES NEW`.
 #[derive(Clone, Copy)]
 pub struct MigrateWords<'a> {
@@ -184,8 +196,144 @@ pub enum CommandWords<'a> {
     Play(PlayWords<'a>),
     Direct(DirectWords<'a>),
     Run(RunWords<'a>),
+    Make(MakeWords<'a>),
     Migrate(MigrateWords<'a>),
     Audit(AuditWords<'a>),
+}
+
+/// The command `make` of its words, where the first two are numbers.
+fn make_words<'a>(seed: &str, size: &str, stem: &'a str) -> Option<CommandWords<'a>>
+    ensures { option_map seen_command result ≡ make_of (number_of seed.now) (number_of size.now) stem.now }
+{
+    let seed = read_number(seed)?;
+    let size = read_number(size)?;
+    Some(CommandWords::Make(MakeWords { seed, size, stem }))
+}
+
+/// The command of three words.
+fn three_words<'a>(command: &str, first: &'a str, second: &'a str) -> Option<CommandWords<'a>>
+    ensures { option_map seen_command result ≡ command_of (command.now ∷ first.now ∷ second.now ∷ []) }
+{
+    if command == "migrate" {
+        Some(CommandWords::Migrate(MigrateWords {
+            tables: first,
+            written: second,
+        }))
+    } else {
+        None
+    }
+}
+
+/// The command of four words.
+fn four_words<'a>(
+    command: &str,
+    first: &str,
+    second: &str,
+    third: &'a str,
+) -> Option<CommandWords<'a>>
+    ensures { option_map seen_command result ≡ command_of (command.now ∷ first.now ∷ second.now ∷ third.now ∷ []) }
+{
+    if command == "make" {
+        make_words(first, second, third)
+    } else {
+        None
+    }
+}
+
+/// The command of six words.
+fn six_words<'a>(
+    command: &str,
+    first: &'a str,
+    second: &'a str,
+    third: &'a str,
+    fourth: &'a str,
+    fifth: &'a str,
+) -> Option<CommandWords<'a>>
+    ensures { option_map seen_command result ≡ command_of (command.now ∷ first.now ∷ second.now ∷ third.now ∷ fourth.now ∷ fifth.now ∷ []) }
+{
+    if command == "play" {
+        Some(CommandWords::Play(PlayWords {
+            svf: first,
+            icl: second,
+            device: third,
+            tables: fourth,
+            top: fifth,
+        }))
+    } else {
+        None
+    }
+}
+
+/// The command of seven words.
+fn seven_words<'a>(
+    command: &str,
+    first: &'a str,
+    second: &'a str,
+    third: &'a str,
+    fourth: &'a str,
+    fifth: &'a str,
+    sixth: &'a str,
+) -> Option<CommandWords<'a>>
+    ensures { option_map seen_command result ≡ command_of (command.now ∷ first.now ∷ second.now ∷ third.now ∷ fourth.now ∷ fifth.now ∷ sixth.now ∷ []) }
+{
+    if command == "compile" {
+        Some(CommandWords::Compile(CompileWords {
+            icl: first,
+            pdl: second,
+            device: third,
+            top: fourth,
+            procedure: fifth,
+            svf: sixth,
+        }))
+    } else if command == "direct" {
+        Some(CommandWords::Direct(DirectWords {
+            icl: first,
+            pdl: second,
+            device: third,
+            tables: fourth,
+            top: fifth,
+            procedure: sixth,
+        }))
+    } else if command == "audit" {
+        Some(CommandWords::Audit(AuditWords {
+            svf: first,
+            icl: second,
+            pdl: third,
+            device: fourth,
+            top: fifth,
+            procedure: sixth,
+        }))
+    } else {
+        None
+    }
+}
+
+/// The command of eight words.
+fn eight_words<'a>(
+    command: &str,
+    first: &'a str,
+    second: &'a str,
+    third: &'a str,
+    fourth: &'a str,
+    fifth: &'a str,
+    sixth: &'a str,
+    seventh: &'a str,
+) -> Option<CommandWords<'a>>
+    ensures { option_map seen_command result ≡ command_of (command.now ∷ first.now ∷ second.now ∷ third.now ∷ fourth.now ∷ fifth.now ∷ sixth.now ∷ seventh.now ∷ []) }
+{
+    if command == "run" {
+        Some(CommandWords::Run(RunWords {
+            icl: first,
+            pdl: second,
+            device: third,
+            tables: fourth,
+            top: fifth,
+            procedure: sixth,
+            svf: seventh,
+        }))
+    } else {
+        None
+    }
 }
 
 /// The command of the words, `None` where they are no command. It takes no memory.
@@ -193,62 +341,37 @@ pub fn read_words(words: &Vec<String>) -> Option<CommandWords<'_>>
     ensures { option_map seen_command result ≡ command_in words.now.items }
 {
     match words.as_slice() {
-        [command, icl, pdl, device, top, procedure, svf] if command.as_str() == "compile" => {
-            Some(CommandWords::Compile(CompileWords {
-                icl: icl.as_str(),
-                pdl: pdl.as_str(),
-                device: device.as_str(),
-                top: top.as_str(),
-                procedure: procedure.as_str(),
-                svf: svf.as_str(),
-            }))
-        }
-        [command, icl, pdl, device, tables, top, procedure] if command.as_str() == "direct" => {
-            Some(CommandWords::Direct(DirectWords {
-                icl: icl.as_str(),
-                pdl: pdl.as_str(),
-                device: device.as_str(),
-                tables: tables.as_str(),
-                top: top.as_str(),
-                procedure: procedure.as_str(),
-            }))
-        }
-        [command, icl, pdl, device, tables, top, procedure, svf] if command.as_str() == "run" => {
-            Some(CommandWords::Run(RunWords {
-                icl: icl.as_str(),
-                pdl: pdl.as_str(),
-                device: device.as_str(),
-                tables: tables.as_str(),
-                top: top.as_str(),
-                procedure: procedure.as_str(),
-                svf: svf.as_str(),
-            }))
-        }
-        [command, svf, icl, device, tables, top] if command.as_str() == "play" => {
-            Some(CommandWords::Play(PlayWords {
-                svf: svf.as_str(),
-                icl: icl.as_str(),
-                device: device.as_str(),
-                tables: tables.as_str(),
-                top: top.as_str(),
-            }))
-        }
-        [command, tables, written] if command.as_str() == "migrate" => {
-            Some(CommandWords::Migrate(MigrateWords {
-                tables: tables.as_str(),
-                written: written.as_str(),
-            }))
-        }
-        [command, svf, icl, pdl, device, top, procedure] if command.as_str() == "audit" => {
-            Some(CommandWords::Audit(AuditWords {
-                svf: svf.as_str(),
-                icl: icl.as_str(),
-                pdl: pdl.as_str(),
-                device: device.as_str(),
-                top: top.as_str(),
-                procedure: procedure.as_str(),
-            }))
-        }
-        _ => None,
+        [command, a, b] => three_words(command.as_str(), a.as_str(), b.as_str()),
+        [command, a, b, c] => four_words(command.as_str(), a.as_str(), b.as_str(), c.as_str()),
+        [command, a, b, c, d, e] => six_words(
+            command.as_str(),
+            a.as_str(),
+            b.as_str(),
+            c.as_str(),
+            d.as_str(),
+            e.as_str(),
+        ),
+        [command, a, b, c, d, e, f] => seven_words(
+            command.as_str(),
+            a.as_str(),
+            b.as_str(),
+            c.as_str(),
+            d.as_str(),
+            e.as_str(),
+            f.as_str(),
+        ),
+        [command, a, b, c, d, e, f, g] => eight_words(
+            command.as_str(),
+            a.as_str(),
+            b.as_str(),
+            c.as_str(),
+            d.as_str(),
+            e.as_str(),
+            f.as_str(),
+            g.as_str(),
+        ),
+        [] | [_] | [_, _] => None,
+        [_, _, _, _, _] => None,
+        [_, _, _, _, _, _, _, _, _, ..] => None,
     }
 }

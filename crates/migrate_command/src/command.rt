@@ -54,7 +54,7 @@ pub fn migrate<'a, S: Shelf, O: Sink>(
     ensures stop { IfErr result (λ stop. IsStop (S.files shelf.old) (Migrates (seen_migrate words.now))
         (counts S.load_faults S.store_faults O.faults shelf.old shelf.new _out.old _out.new) (seen_stop stop)) }
     ensures early { IfErr result (λ stop. IsEarly (seen_stop stop) → S.files shelf.new ≡ S.files shelf.old) }
-    ensures part { OnErr result (IsPartDone (work (S.files shelf.old) (Migrates (seen_migrate words.now)))
+    ensures part { OnErr result (IsPartDone (S.files shelf.old) (Migrates (seen_migrate words.now))
         (seen S.files O.taken shelf.old _out.old) (seen S.files O.taken shelf.new _out.new)) }
     ensures files { OnlyTheseChange (words.now.written.now ∷ []) (S.files shelf.old) (S.files shelf.new) }
     ensures out { _out.new ≡ _out.old }

@@ -12,38 +12,23 @@ ghost use Rattle.tap_machine.specs.Play.{pins, scans_in};
 ghost use Rattle.ijtag_work.specs.Command.{Runs, direct_loads, run_procedure, names_of};
 ghost use Rattle.ijtag_work.specs.Filed.{IsFiled};
 ghost use Rattle.ijtag_work.specs.Headline.{IsRunRetargeted};
-ghost use Rattle.ijtag_work.specs.Late.{IsLateStop};
-ghost use Rattle.ijtag_work.specs.Order.{commands_of, compilable_of, reads_differ, run_differs, run_of, run_report, work, written_text};
+ghost use Rattle.ijtag_work.specs.Late.{IsLateStop, IsPartOf};
+ghost use Rattle.ijtag_work.specs.Order.{compilable_of, reads_differ, run_differs, run_of, run_report, work, written_text};
 ghost use Rattle.ijtag_work.specs.Runs.{IsDone, IsPartDone, IsStop, OnlyTheseChange, OnlyTheseRise, counts, seen};
 ghost use Rattle.ijtag_work.specs.Seen.{IsRunnable, seen_run, seen_runnable, seen_stop, differing};
 ghost use Rattle.ijtag_work.specs.Stops.{IsEarly};
 
 use bit_steps::{bit_steps_are_few, bit_steps_are_of_the_network};
-use compile_command::make_svf;
+use compile_command::{make_svf, read_commands};
 use direct_command::accept;
 use group_scans::procedures_are_plannable;
 use ij_bits::OutOfMemory;
 use ij_io::{Shelf, Sink, StoreFault};
-use ijtag_stages::read_svf;
 use ijtag_work::{DirectWords, RunWords, Runnable, Stop, Verdict, load_all, write_file};
 use run_law::runs_are_meant;
 use run_report::put_run;
 use std::alloc::Global;
 use svf_writer::Commands;
-
-/// The commands of a written SVF text, in which a reader finds some.
-#[tactic(auto, unfolding(ijtag_work::specs::Order::commands_of))]
-fn read_commands(alloc: Global, bytes: &[u8]) -> Result<Commands, OutOfMemory>
-    requires { length bytes.now ≤ 134217728 }
-    ensures given { IfOk result (λ commands. (commands_of bytes.now).gives commands) }
-    ensures clocks { IfOk result (λ commands. length (pins InReset 0 commands) ≤ 1000000000) }
-    ensures scans { IfOk result (λ commands. scans_in commands ≤ 1000000000) }
-{
-    match read_svf(alloc, bytes) {
-        Ok(commands) => Ok(commands),
-        Err(_) => Err(OutOfMemory),
-    }
-}
 
 /// An accepted procedure can be retargeted, whatever its bit steps are.
 #[tactic(auto, unfolding(ijtag_work::specs::Seen::IsRunnable))]
@@ -136,7 +121,7 @@ fn write_and_play<'a, S: Shelf, O: Sink>(
     ensures alike { IfOk result (λ verdict. differing verdict ≡ reads_differ (seen_runnable words.now.procedure.now it.now)) }
     ensures stop { IfErr result (λ stop. IsLateStop (run_of words.now.svf.now (seen_runnable words.now.procedure.now it.now)) (Runs (seen_run words.now))
         (counts S.load_faults S.store_faults O.faults shelf.old shelf.new out.old out.new) (seen_stop stop)) }
-    ensures part { OnErr result (IsPartDone (run_of words.now.svf.now (seen_runnable words.now.procedure.now it.now))
+    ensures part { OnErr result (IsPartOf (run_of words.now.svf.now (seen_runnable words.now.procedure.now it.now))
         (seen S.files O.taken shelf.old out.old) (seen S.files O.taken shelf.new out.new)) }
     ensures others { OthersStay (S.files shelf.old) (S.files shelf.new) words.now.svf.now }
     ensures loads { SameCounts (S.load_faults shelf.old) (S.load_faults shelf.new) }
@@ -178,7 +163,7 @@ pub fn run<'a, S: Shelf, O: Sink>(
         (counts S.load_faults S.store_faults O.faults shelf.old shelf.new out.old out.new) (seen_stop stop)) }
     ensures early { IfErr result (λ stop. IsEarly (seen_stop stop) → S.files shelf.new ≡ S.files shelf.old) }
     ensures silent { IfErr result (λ stop. IsEarly (seen_stop stop) → out.new ≡ out.old) }
-    ensures part { OnErr result (IsPartDone (work (S.files shelf.old) (Runs (seen_run words.now)))
+    ensures part { OnErr result (IsPartDone (S.files shelf.old) (Runs (seen_run words.now))
         (seen S.files O.taken shelf.old out.old) (seen S.files O.taken shelf.new out.new)) }
     ensures files { OnlyTheseChange (words.now.svf.now ∷ []) (S.files shelf.old) (S.files shelf.new) }
     ensures loads { OnlyTheseRise (names_of (direct_loads (run_procedure (seen_run words.now)))) (S.load_faults shelf.old) (S.load_faults shelf.new) }

@@ -58,7 +58,7 @@ returns-in-Err-Failed-clause-part g c =
     let is : (auditable words texts).gives it = subst (λ ts. (auditable words (seen_texts ts)).gives it) c.deref.ensures.value c.in_ok-it.ensures.follows in
     let old : Option (List ℕ) = g.O.Sink.taken c.args.out.now in
     let new : Option (List ℕ) = g.O.Sink.taken c.put_report.new.out in
-    subst (λ (fs : Option Files). IsPartDone (work files (Audits words)) (record { files = files; printed = old }) (record { files = fs; printed = new })) (sym c.in_ok-texts.ensures.files)
+    subst (λ (fs : Option Files). IsPartDone files (Audits words) (record { files = files; printed = old }) (record { files = fs; printed = new })) (sym c.in_ok-texts.ensures.files)
     (told_part files old new (Audits words) (line_of it) (says_no (verdict_of it)) (audit_given files words texts it read is) c.in-Err-Failed.ensures.part)
 
 pub returns-clause-part : goal.returns-clause-part
@@ -71,5 +71,5 @@ returns-clause-part g c =
     let is : (auditable words texts).gives it = subst (λ ts. (auditable words (seen_texts ts)).gives it) c.deref.ensures.value c.in_ok-it.ensures.follows in
     let old : Option (List ℕ) = g.O.Sink.taken c.args.out.now in
     let new : Option (List ℕ) = g.O.Sink.taken c.put_report.new.out in
-    subst (λ (fs : Option Files). IsPartDone (work files (Audits words)) (record { files = files; printed = old }) (record { files = fs; printed = new })) (sym c.in_ok-texts.ensures.files)
+    subst (λ (fs : Option Files). IsPartDone files (Audits words) (record { files = files; printed = old }) (record { files = fs; printed = new })) (sym c.in_ok-texts.ensures.files)
     (told_part files old new (Audits words) (line_of it) (says_no (verdict_of it)) (audit_given files words texts it read is) c.in-Err-OutOfMemory.ensures.part)

@@ -1,9 +1,9 @@
 use Rattle.std.specs.Prelude.{IfErr, IfOk, IfSome, Some}
 use Rattle.std.proofs.Common.{◌≡◌, rules, subst, Option}
-use Rattle.ijtag_work.specs.Command.{Command, Compiles, Runs, command_in}
+use Rattle.ijtag_work.specs.Command.{Command, Compiles, Makes, Runs, command_in}
 use Rattle.ijtag_work.specs.Order.{work}
 use Rattle.ijtag_work.specs.Runs.{IsDone, IsRunStop, counts, seen}
-use Rattle.ijtag_work.specs.Seen.{seen_compile, seen_run, seen_stop, differing}
+use Rattle.ijtag_work.specs.Seen.{seen_compile, seen_make, seen_run, seen_stop, differing}
 use Rattle.ijtag_core.proofs.run.run.Goals as goal
 
 pub returns-in-Some-Compile-clause-done : goal.returns-in-Some-Compile-clause-done
@@ -29,3 +29,9 @@ returns-in-Some-Run-clause-stop g c =
     let is : Some (Runs (seen_run c.in-Some-Run.words)) ≡ command_in c.args.words.now.items = search rules in
     subst (λ (w : Option Command). IfErr c.run.result (λ stop. IsRunStop w (g.S.Shelf.files c.args.shelf.now)
     (counts g.S.Shelf.load_faults g.S.Shelf.store_faults g.O.Sink.faults c.args.shelf.now c.run.new.shelf c.args.out.now c.run.new.out) (seen_stop stop))) is c.run.ensures.stop
+
+pub returns-in-Some-Make-clause-stop : goal.returns-in-Some-Make-clause-stop
+returns-in-Some-Make-clause-stop g c =
+    let is : Some (Makes (seen_make c.in-Some-Make.words)) ≡ command_in c.args.words.now.items = search rules in
+    subst (λ (w : Option Command). IfErr c.make.result (λ stop. IsRunStop w (g.S.Shelf.files c.args.shelf.now)
+    (counts g.S.Shelf.load_faults g.S.Shelf.store_faults g.O.Sink.faults c.args.shelf.now c.make.new.shelf c.args.out.now c.make.new.out) (seen_stop stop))) is c.make.ensures.stop

@@ -45,7 +45,7 @@ returns-in-Err-Failed-clause-part g c =
     let is : (playable words texts).gives it = subst (λ ts. (playable words (seen_texts ts)).gives it) c.deref.ensures.value c.in_ok-it.ensures.follows in
     let old : Option (List ℕ) = g.O.Sink.taken c.args.out.now in
     let new : Option (List ℕ) = g.O.Sink.taken c.put_report.new.out in
-    subst (λ (fs : Option Files). IsPartDone (work files (Plays words)) (record { files = files; printed = old }) (record { files = fs; printed = new })) (sym c.in_ok-texts.ensures.files)
+    subst (λ (fs : Option Files). IsPartDone files (Plays words) (record { files = files; printed = old }) (record { files = fs; printed = new })) (sym c.in_ok-texts.ensures.files)
     (told_part files old new (Plays words) (report_of it) (any_differs (differs_at it)) (play_given files words texts it read is) c.in-Err-Failed.ensures.part)
 
 pub returns-clause-part : goal.returns-clause-part
@@ -58,5 +58,5 @@ returns-clause-part g c =
     let is : (playable words texts).gives it = subst (λ ts. (playable words (seen_texts ts)).gives it) c.deref.ensures.value c.in_ok-it.ensures.follows in
     let old : Option (List ℕ) = g.O.Sink.taken c.args.out.now in
     let new : Option (List ℕ) = g.O.Sink.taken c.put_report.new.out in
-    subst (λ (fs : Option Files). IsPartDone (work files (Plays words)) (record { files = files; printed = old }) (record { files = fs; printed = new })) (sym c.in_ok-texts.ensures.files)
+    subst (λ (fs : Option Files). IsPartDone files (Plays words) (record { files = files; printed = old }) (record { files = fs; printed = new })) (sym c.in_ok-texts.ensures.files)
     (told_part files old new (Plays words) (report_of it) (any_differs (differs_at it)) (play_given files words texts it read is) c.in-Err-OutOfMemory.ensures.part)

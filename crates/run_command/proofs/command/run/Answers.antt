@@ -24,7 +24,7 @@ returns-in-Ok-clause-done g c =
     let old_printed : Option (List ℕ) = g.O.Sink.taken c.args.out.now in
     let now : Seen = record { files = new; printed = g.O.Sink.taken c.write_and_play.new.out } in
     subst (λ (fs : Option Files). IsDone (work files (Runs r)) (record { files = fs; printed = old_printed }) now (differing c.in-Ok.verdict)) same
-    (done_in (run_of r.svf it) (work files (Runs r)) (run_given files r texts it read is) (record { files = mid; printed = old_printed }) now (differing c.in-Ok.verdict) c.in-Ok.ensures.done)
+    (done_in files (Runs r) (run_of r.svf it) (run_given files r texts it read is) (record { files = mid; printed = old_printed }) now (differing c.in-Ok.verdict) c.in-Ok.ensures.done)
 
 pub returns-in-Ok-clause-headline : goal.returns-in-Ok-clause-headline
 returns-in-Ok-clause-headline g c =
@@ -77,5 +77,5 @@ returns-clause-part g c =
     let same : mid ≡ files = c.in_ok-texts.ensures.files in
     let old_printed : Option (List ℕ) = g.O.Sink.taken c.args.out.now in
     let now : Seen = record { files = new; printed = g.O.Sink.taken c.write_and_play.new.out } in
-    subst (λ (fs : Option Files). IsPartDone (work files (Runs r)) (record { files = fs; printed = old_printed }) now) same
-    (begun_in (run_of r.svf it) (work files (Runs r)) (run_given files r texts it read is) (record { files = mid; printed = old_printed }) now c.in-Err.ensures.part)
+    subst (λ (fs : Option Files). IsPartDone files (Runs r) (record { files = fs; printed = old_printed }) now) same
+    (begun_in files (Runs r) (run_of r.svf it) (run_given files r texts it read is) (record { files = mid; printed = old_printed }) now c.in-Err.ensures.part)

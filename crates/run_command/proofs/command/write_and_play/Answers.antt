@@ -7,7 +7,7 @@ use Rattle.ijtag_work.specs.Filed.{HasPlans}
 use Rattle.ijtag_work.specs.Order.{SeenRunnable, compilable_of, commands_of, written_text}
 use Rattle.ijtag_work.specs.Runs.{Seen}
 use Rattle.ijtag_work.specs.Seen.{IsCompilable, IsRunnable, seen_runnable, differing}
-use Rattle.ijtag_work.proofs.Running.{short, told, can_run, write_part, silent_part, print_part, ran_done, ran_alike, report}
+use Rattle.ijtag_work.proofs.Running.{can_run, found, print_part, ran_alike, ran_done, report, short, silent_part, told, write_part}
 use Rattle.run_command.proofs.command.write_and_play.Goals as goal
 
 pub make_svf-requires : goal.make_svf-requires
@@ -21,7 +21,7 @@ read_commands-requires g c =
     let it : SeenRunnable = seen_runnable c.args.words.now.procedure.now c.args.it.now in
     let bytes : List ℕ = c.bytes-bytes.result.now in
     let written : (written_text (compilable_of it)).gives bytes = subst (λ (b : List ℕ). (written_text (compilable_of it)).gives b) (sym c.bytes-bytes.ensures) c.in_ok-svf.ensures.text in
-    short name it bytes written
+    record { short = short name it bytes written; written = found name it bytes written }
 
 pub returns-in-Err-Failed-clause-stop : goal.returns-in-Err-Failed-clause-stop
 returns-in-Err-Failed-clause-stop g c =

@@ -11,3 +11,6 @@ mod migrations;
 mod program_runs;
 #[cfg(test)]
 mod refusals;
+
+/// It does nothing: the tests are run, and not the program.
+fn main() {}

@@ -4,6 +4,8 @@
 #[cfg(test)]
 mod audits;
 #[cfg(test)]
+mod makes;
+#[cfg(test)]
 mod memories;
 #[cfg(test)]
 mod merges;
@@ -11,3 +13,6 @@ mod merges;
 mod program;
 #[cfg(test)]
 mod runs;
+
+/// It does nothing: the tests are run, and not the program.
+fn main() {}

@@ -1,0 +1,3 @@
+-- how the code goes
+pub mod Files
+pub mod Svf

@@ -1,0 +1,56 @@
+// How many rounds a procedure has.
+ghost use Rattle.std.specs.Prelude.{◌≡◌, ◌≤◌, [], ◌∷◌, MatchOption, IfOk};
+ghost use Rattle.bit_steps.specs.BitSteps.{given_first_bit, nothing_left};
+ghost use Rattle.net_graph.specs.SeenSteps.{seen_step};
+ghost use Rattle.pdl_targets.specs.Laws.{rounds_in};
+ghost use Rattle.ijtag_work.specs.Seen.{IsRunnable, seen_runnable};
+
+use bit_steps::{BitSteps, bit_steps_are_few};
+use ij_bits::OutOfMemory;
+use ijtag_work::{Runnable, steps_again};
+use net_graph::BitStep;
+use std::alloc::Global;
+
+/// The next bit step of a procedure that ends in no fault: all that it refuses by is want of memory.
+fn next_step(steps: &mut BitSteps<'_>) -> Result<Option<BitStep>, OutOfMemory>
+    ensures { IfOk result (λ o. MatchOption o (steps.old ≡ nothing_left) (λ s. steps.old ≡ given_first_bit (seen_step s) steps.new)) }
+{
+    match steps.next() {
+        Ok(step) => Ok(step),
+        Err(_) => Err(OutOfMemory),
+    }
+}
+
+/// The number of rounds that a bit step has.
+fn rounds_of(step: &BitStep) -> usize
+    ensures { result ≡ rounds_in (seen_step step.now ∷ []) }
+{
+    match step {
+        BitStep::Apply(rounds) => rounds.len(),
+        BitStep::Run(_) => 0,
+        BitStep::Reset => 0,
+    }
+}
+
+/// The number of rounds of all bit steps that are left.
+fn count_rounds(steps: &mut BitSteps<'_>) -> Result<u32, OutOfMemory>
+    requires { rounds_in steps.old.steps ≤ 4096 }
+    ensures { IfOk result (λ n. n ≡ rounds_in steps.old.steps) }
+{
+    let mut rounds = 0;
+    while let Some(step) = next_step(steps)? {
+        rounds += rounds_of(&step);
+    }
+    Ok(rounds as u32)
+}
+
+/// The number of rounds of all iApply commands of an accepted procedure.
+#[tactic(auto, unfolding(ijtag_work::specs::Seen::IsRunnable))]
+pub(crate) fn round_count(alloc: Global, it: &Runnable, procedure: &str) -> Result<u32, OutOfMemory>
+    requires { IsRunnable procedure.now it.now }
+    ensures { IfOk result (λ n. n ≡ rounds_in (seen_runnable procedure.now it.now).steps) }
+{
+    bit_steps_are_few();
+    let mut steps = steps_again(alloc, &it.procs, &it.on.network, procedure)?;
+    count_rounds(&mut steps)
+}
