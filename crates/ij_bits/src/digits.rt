@@ -1,24 +1,6 @@
-// Hexadecimal digits of bits.
-ghost use Rattle.ij_bits.specs.BitLists.{number_of};
+// Hexadecimal digits.
 ghost use Rattle.ij_bits.specs.Hex.{hex_code};
-ghost use Rattle.std.specs.Prelude.{◌≡◌, ◌+◌, ◌<◌, ◌≤◌, length, slice_range};
-
-use crate::Bits;
-
-/// The number of at most four bits, the first of them the lowest.
-pub(crate) fn number(bits: &Bits, from: u32, to: u32) -> u8
-    requires order { from ≤ to }
-    requires within { to ≤ length bits.now.items }
-    requires few { to ≤ from + 4 }
-    ensures value { result ≡ number_of (slice_range bits.now.items from to) }
-    ensures small { result < 16 }
-{
-    let mut value = 0u8;
-    for i in (from..to).rev() {
-        value = 2 * value + u8::from(bits.get(i));
-    }
-    value
-}
+ghost use Rattle.std.specs.Prelude.{◌≡◌, ◌<◌, ◌≤◌, ◌-◌, ◌*◌, ◌/◌, ◌%◌, ◌^◌, ℕ, length, slice_index};
 
 /// The upper-case ASCII digit of a number below 16. Takes no memory.
 pub fn hex_digit_of(value: u8) -> u8
@@ -29,5 +11,16 @@ pub fn hex_digit_of(value: u8) -> u8
         b'0' + value
     } else {
         b'A' + (value - 10)
+    }
+}
+
+/// Writes the 16 digits of a number so that the lowest of them stands in front of `end`, as far as there is room.
+pub(crate) fn put_digits(value: u64, to: &mut [u8], end: usize)
+    requires { end ≤ length to.old }
+    ensures at { (i : ℕ) → i < 16 → i < end → slice_index to.new (end - 1 - i) ≡ hex_code (value / 2 ^ (4 * i) % 16) }
+    ensures behind { (k : ℕ) → end ≤ k → slice_index to.new k ≡ slice_index to.old k }
+{
+    for i in 0..end.min(16) {
+        to[end - 1 - i] = hex_digit_of(((value >> (4 * i)) % 16) as u8);
     }
 }
