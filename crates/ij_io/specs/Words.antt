@@ -1,5 +1,5 @@
 -- Written words: bytes, decimal numbers and bits in hexadecimal digits.
-use Rattle.std.specs.Prelude.{ℕ, zero, suc, ◌+◌, ◌/◌, ◌==◌, Bool, true, false, List, [], ◌∷◌, ◌++◌, length, decimal}
+use Rattle.std.specs.Prelude.{ℕ, zero, suc, ◌+◌, ◌/◌, ◌==◌, Bool, true, false, List, [], ◌∷◌, ◌++◌, length, drop, decimal}
 use Rattle.std.specs.List.{flat_map}
 use Rattle.ij_bits.specs.Hex.{hex_digit}
 use Rattle.ij_io.specs.declared.words.Word.{Word}
@@ -20,6 +20,16 @@ hex_lines bits (suc d) column = digit_piece (hex_digit bits d) column ++ hex_lin
 -- a digit for each four bits, position 0 in the rightmost one, 64 digits to a line
 unfoldable pub hex_text : List Bool → List ℕ
 hex_text bits = hex_lines bits ((length bits + 3) / 4) 0
+
+-- the digits of positions below 4d, at most n of them, the highest first
+abbrev pub hex_row : List Bool → ℕ → ℕ → List ℕ
+hex_row bits zero n = []
+hex_row bits (suc d) zero = []
+hex_row bits (suc d) (suc n) = hex_digit bits d ∷ hex_row bits d n
+
+-- a line of at most 64 of the lowest d digits, behind a line feed unless one byte is skipped
+unfoldable pub hex_line : List Bool → ℕ → ℕ → List ℕ
+hex_line bits d skip = drop skip (10 ∷ hex_row bits d 64)
 
 -- a word as it is written
 abbrev pub word_text : Word → List ℕ
