@@ -2,3 +2,4 @@ pub mod Numbering
 pub mod Numbers
 pub mod Widths
 pub mod Behind
+pub mod OpenDigits

@@ -1,10 +1,15 @@
 -- Numbers in a width.
-use Rattle.std.proofs.Common.{◌≡◌, ◌↔◌, ◌+◌, ◌-◌, ◌*◌, ◌/◌, ◌%◌, ◌^◌, ◌<◌, ◌≤◌, ◌==◌, ℕ, zero, suc, Bool, true, false, not, cond, nat_eq, IsTrue, List, [], ◌∷◌, ◌++◌, length, map, get_or, Option, Some, None, refl, sym, ap, ◌∙◌, arith, append_assoc}
-use Rattle.std.proofs.Math.Nat.{le-div_iff_mul-le}
+use Rattle.std.proofs.Common.{◌≡◌, ◌↔◌, ◌+◌, ◌-◌, ◌*◌, ◌/◌, ◌%◌, ◌^◌, ◌<◌, ◌≤◌, ◌==◌, ℕ, zero, suc, Bool, true, false, not, cond, nat_eq, IsTrue, List, [], ◌∷◌, ◌++◌, length, get_or, Option, Some, None, min, refl, sym, ap, ◌∙◌, arith, inl, inr, append_assoc, append-nil}
+use Rattle.std.proofs.Math.Nat.{le-div_iff_mul-le, div-one, div-div-eq-div-mul, pow-succ'}
 use Rattle.std.proofs.Math.Pow.{pow_mono}
 use Rattle.std.proofs.lemmas.Nat.{pow_pos}
 use Rattle.std.proofs.lemmas.Bool.Decides.{nat_tests}
+use Rattle.std.specs.Int.{bit_at}
+use Rattle.std.proofs.lemmas.Bool.{cases_lt}
+use Rattle.std.proofs.lemmas.Nat.Bits.{bit_at_cat_low}
+use Rattle.std.proofs.lemmas.List.{ext_get_or}
 use Rattle.ij_bits.specs.BitLists.{bits_of}
+use Rattle.ij_bits.proofs.WordBits.{get_or-bits_of, length-bits_of}
 use Rattle.ij_text.specs.Numbers.{open_bits}
 
 -- ---- decimals
@@ -26,14 +31,45 @@ shifted n w =
 pub beyond : (n w : ℕ) → n < 2 ^ 128 → 128 ≤ w → 2 ^ w ≤ n → ⊥
 beyond n w short le h = let k : 2 ^ 128 ≤ 2 ^ w = pow_mono le in omega (arith, short, h, k)
 
--- one bit of a decimal
-pub bit_more : (bits : List (Option Bool)) (w i n : ℕ) (all : List (Option Bool)) → i < w → bits ++ map (λ bit. Some bit) (bits_of (w - i) n) ≡ all
-    → (bits ++ Some ((n % 2) == 1) ∷ []) ++ map (λ bit. Some bit) (bits_of (w - (i + 1)) (n / 2)) ≡ all
-bit_more bits w i n all lt h =
-    let next : w - i ≡ suc (w - (i + 1)) = omega (arith, lt) in
-    append_assoc bits (Some ((n % 2) == 1) ∷ []) (map (λ bit. Some bit) (bits_of (w - (i + 1)) (n / 2)))
-    ∙ ap (λ k. bits ++ map (λ bit. Some bit) (bits_of k n)) (sym next)
-    ∙ h
+-- the bits of a number are the lower ones and the others
+bits_split : (a b n : ℕ) → bits_of (a + b) n ≡ bits_of a n ++ bits_of b (n / 2 ^ a)
+bits_split zero b n =
+    let all : 0 + b ≡ b = omega arith in ap (λ k. bits_of k n) all ∙ ap (bits_of b) (sym (div-one n))
+bits_split (suc a) b n =
+    let next : suc a + b ≡ suc (a + b) = omega arith in
+    let rest : n / 2 / 2 ^ a ≡ n / 2 ^ suc a = div-div-eq-div-mul n 2 (2 ^ a) ∙ ap (λ m. n / m) (sym (pow-succ' 2 a)) in
+    ap (λ k. bits_of k n) next ∙ ap (λ (l : List Bool). ((n % 2) == 1) ∷ l) (bits_split a b (n / 2) ∙ ap (λ x. bits_of a (n / 2) ++ bits_of b x) rest)
+
+-- a word has the lower bits
+low_bit : (x k : ℕ) → k < 64 → bit_at (x % 18446744073709551616) k ≡ bit_at x k
+low_bit x k low =
+    let whole : x ≡ x / 18446744073709551616 * 2 ^ 64 + x % 18446744073709551616 = omega arith in
+    sym (ap (λ n. bit_at n k) whole ∙ bit_at_cat_low (x / 18446744073709551616) 64 (x % 18446744073709551616) k low)
+
+bits_low : (k x : ℕ) → k ≤ 64 → bits_of k (x % 18446744073709551616) ≡ bits_of k x
+bits_low k x few =
+    ext_get_or false (bits_of k (x % 18446744073709551616)) (bits_of k x) (length-bits_of k (x % 18446744073709551616) ∙ sym (length-bits_of k x))
+    (λ i within.
+    let low : i < k = omega (arith, length-bits_of k (x % 18446744073709551616)) in
+    get_or-bits_of k (x % 18446744073709551616) i low ∙ ap (λ b. b == 1) (low_bit x i (omega arith)) ∙ sym (get_or-bits_of k x i low))
+
+-- one word of a decimal
+pub word_more : (bits : List Bool) (w m b x : ℕ) (all : List Bool) → m ≡ min w 64 → b ≡ w - 64 → bits ++ bits_of w x ≡ all → (bits ++ bits_of m (x % 18446744073709551616)) ++ bits_of b (x / 18446744073709551616) ≡ all
+word_more bits w m b x all size left h =
+    let rest : ℕ = x / 18446744073709551616 in
+    let both : bits_of m (x % 18446744073709551616) ++ bits_of b rest ≡ bits_of w x =
+    ap (λ (l : List Bool). l ++ bits_of b rest) (bits_low m x (omega arith))
+    ∙ elim (cases_lt w 64) [
+      | inl short ↦
+          let none : b ≡ 0 = omega arith in
+          let own : m ≡ w = omega arith in
+          ap (λ k. bits_of m x ++ bits_of k rest) none ∙ append-nil (bits_of m x) ∙ ap (λ k. bits_of k x) own
+      | inr long ↦
+          let word : 64 ≡ m = omega arith in
+          let whole : m + b ≡ w = omega arith in
+          ap (λ k. bits_of m x ++ bits_of b (x / 2 ^ k)) word ∙ sym (bits_split m b x) ∙ ap (λ k. bits_of k x) whole
+    ] in
+    append_assoc bits (bits_of m (x % 18446744073709551616)) (bits_of b rest) ∙ ap (λ (l : List Bool). bits ++ l) both ∙ h
 
 -- ---- open bits
 

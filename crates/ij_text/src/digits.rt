@@ -89,24 +89,12 @@ pub fn hex_value(b: u8) -> u8
     }
 }
 
-/// The lowest bit of a digit's value, or of what is left of it, if it isn't open.
-fn lowest(is_open: bool, value: u8) -> Option<bool>
-    ensures { result ≡ cond is_open None (Some (value % 2 == 1)) }
-{
-    if is_open { None } else { Some(value % 2 == 1) }
-}
-
 /// Adds the bits of a hexadecimal digit.
 fn put_hex(bits: &mut OpenBits, b: u8) -> Result<(), OutOfMemory>
     requires { length bits.old + 4 < 2 ^ 32 }
     ensures { OnOk result (bits.new ≡ bits.old ++ digit_bits Radix.Sixteen b) }
 {
-    let is_open = b == b'x';
-    let value = hex_value(b);
-    bits.push(lowest(is_open, value))?;
-    bits.push(lowest(is_open, value / 2))?;
-    bits.push(lowest(is_open, value / 2 / 2))?;
-    bits.push(lowest(is_open, value / 2 / 2 / 2))
+    bits.push_digit(u64::from(hex_value(b)), 4, b == b'x')
 }
 
 /// Adds the bits of a digit.

@@ -5,8 +5,7 @@ ghost use Rattle.ij_text.specs.Numbers.{InBits, IsWide, bits_in, seen, tern_bits
 ghost use Rattle.ij_text.specs.declared.number.FitFault.{FitFault};
 
 use crate::number::{FitFault, Number};
-use crate::open_bits::OpenBits;
-use ij_bits::{OutOfMemory, Tern};
+use ij_bits::{Bits, OutOfMemory, Tern};
 use std::alloc::Global;
 
 /// Whether a decimal has a 1 at the width or above.
@@ -16,17 +15,19 @@ fn is_wide_decimal(n: u128, width: u32) -> bool
     width < 128 && n >> width != 0
 }
 
-/// The bits of a decimal below a width.
-fn decimal_in(alloc: Global, n: u128, width: u32) -> Result<OpenBits, OutOfMemory>
-    ensures { IfOk result (λ bits. bits ≡ map (λ bit. Some bit) (bits_of width n)) }
+/// A decimal in a width, without what stands above.
+fn decimal_in(alloc: Global, n: u128, width: u32) -> Result<Tern, OutOfMemory>
+    ensures { IfOk result (λ t. tern_bits t ≡ map (λ bit. Some bit) (bits_of width n)) }
 {
-    let mut bits = OpenBits::new(alloc)?;
+    let mut value = Bits::with_room(alloc, width)?;
     let mut rest = n;
-    for _i in 0..width {
-        bits.push(Some(rest % 2 == 1))?;
-        rest /= 2;
+    for i in 0..width.div_ceil(64) {
+        value.append_number_reserved((rest % (1 << 64)) as u64, (width - 64 * i).min(64));
+        rest >>= 64;
     }
-    Ok(bits)
+    let mut care = Bits::zeros(alloc, width)?;
+    care.fill(true);
+    Ok(Tern { value, care })
 }
 
 /// A bit of a number, 0 past its end.
@@ -48,15 +49,18 @@ fn is_wide_tern(t: &Tern, width: u32) -> bool
     false
 }
 
-/// The bits of a number below a width.
-fn tern_in(alloc: Global, t: &Tern, width: u32) -> Result<OpenBits, OutOfMemory>
-    ensures { IfOk result (λ bits. bits ≡ bits_in width (InBits (tern_bits t.now))) }
+/// A number in a width, without what stands above.
+fn tern_in(alloc: Global, t: &Tern, width: u32) -> Result<Tern, OutOfMemory>
+    ensures { IfOk result (λ u. tern_bits u ≡ bits_in width (InBits (tern_bits t.now))) }
 {
-    let mut bits = OpenBits::new(alloc)?;
-    for i in 0..width {
-        bits.push(bit_at(t, i))?;
-    }
-    Ok(bits)
+    let n = t.len().min(width);
+    let mut above = Bits::zeros(alloc, width - n)?;
+    let mut value = t.value.slice(alloc, 0, n)?;
+    value.append(&above)?;
+    above.fill(true);
+    let mut care = t.care.slice(alloc, 0, n)?;
+    care.append(&above)?;
+    Ok(Tern { value, care })
 }
 
 /// A number in `width` bits, with zeros added on the left. Position 0 is the lowest bit.
@@ -67,19 +71,18 @@ pub fn fit(alloc: Global, number: &Number, width: u32) -> Result<Tern, FitFault>
     ensures ok { IfOk result (λ t. tern_bits t ≡ bits_in width (seen number.now)) }
     ensures wide { IsErrOf result FitFault.Wide ↔ IsWide width (seen number.now) }
 {
-    let bits = match number {
+    match number {
         Number::Decimal(n) => {
             if is_wide_decimal(*n, width) {
                 return Err(FitFault::Wide);
             }
-            decimal_in(alloc, *n, width)?
+            Ok(decimal_in(alloc, *n, width)?)
         }
         Number::Digits(t) => {
             if is_wide_tern(t, width) {
                 return Err(FitFault::Wide);
             }
-            tern_in(alloc, t, width)?
+            Ok(tern_in(alloc, t, width)?)
         }
-    };
-    Ok(bits.into_tern())
+    }
 }

@@ -1,5 +1,6 @@
-// Bits of which some are open, one by one.
-ghost use Rattle.std.specs.Prelude.{◌≡◌, ◌+◌, ◌^◌, ◌<◌, ◌++◌, ◌∷◌, [], length, OnOk, OnErr, IfOk};
+// Bits of which some are open, added one by one or a digit at a time.
+ghost use Rattle.std.specs.Prelude.{◌≡◌, ◌+◌, ◌^◌, ◌<◌, ◌≤◌, ◌++◌, ◌∷◌, [], cond, length, map, None, Some, OnOk, OnErr, IfOk};
+ghost use Rattle.ij_bits.specs.BitLists.{bits_of};
 ghost use Rattle.ij_text.specs.Numbers.{open_bits};
 
 use ij_bits::{Bits, OutOfMemory, Tern};
@@ -25,6 +26,13 @@ impl Model for OpenBits {
     ghost invariant = { λ b. (length b.value.items ≡ length b.care.items) × ((k : ℕ) → slice_index_or b.care.items k false ≡ false → slice_index_or b.value.items k false ≡ false) };
 }
 
+/// A number, or 0 for open bits.
+fn unless_open(is_open: bool, value: u64) -> u64
+    ensures { result ≡ cond is_open 0 value }
+{
+    if is_open { 0 } else { value }
+}
+
 impl OpenBits {
     /// No bits.
     pub fn new(alloc: Global) -> Result<Self, OutOfMemory>
@@ -45,6 +53,22 @@ impl OpenBits {
         self.care.reserve(1)?;
         self.value.push_reserved(bit == Some(true));
         self.care.push_reserved(bit.is_some());
+        Ok(())
+    }
+
+    /// Adds the `n` lowest bits of a value at the far end, the lowest first, or so many open bits.
+    pub fn push_digit(&mut self, value: u64, n: u32, is_open: bool) -> Result<(), OutOfMemory>
+        requires short { length self.old + n < 2 ^ 32 }
+        requires word { n ≤ 64 }
+        ensures ok { OnOk result (self.new ≡ self.old ++ map (λ bit. cond is_open None (Some bit)) (bits_of n value)) }
+        ensures err { OnErr result (self.new ≡ self.old) }
+    {
+        self.value.reserve(n)?;
+        self.care.reserve(n)?;
+        self.value
+            .append_number_reserved(unless_open(is_open, value), n);
+        self.care
+            .append_number_reserved(unless_open(is_open, u64::MAX), n);
         Ok(())
     }
 

@@ -1,9 +1,10 @@
-use Rattle.std.proofs.Common.{◌≡◌, ◌-◌, ◌++◌, length, map, Some}
+use Rattle.std.proofs.Common.{◌≡◌, ◌≤◌, ◌-◌, ◌+◌, ◌*◌, ◌++◌, length, min}
 use Rattle.ij_bits.specs.BitLists.{bits_of}
 use Rattle.ij_text.proofs.fitting.decimal_in.Given as goal
 
 abbrev pub invariant-loop-i : goal.invariant-loop-i
 invariant-loop-i l = record {
-  long : length l.bits ≡ l._i;
-  so_far : l.bits ++ map (λ bit. Some bit) (bits_of (l.width - l._i) l.rest) ≡ map (λ bit. Some bit) (bits_of l.width l.fn.n);
+  room : l.width ≤ length l.value.items + l.value.spare;
+  long : length l.value.items ≡ min (64 * l.i) l.width;
+  so_far : l.value.items ++ bits_of (l.width - 64 * l.i) l.rest ≡ bits_of l.width l.fn.n;
 }

@@ -1,16 +1,33 @@
-use Rattle.std.proofs.Common.{◌++◌, ◌∷◌, [], length, get_or, Option, Bool, List, Some, false, arith, ap, sym, ◌∙◌}
-use Rattle.std.proofs.lemmas.List.FromFn.{map-range_with_len_more, length-map-range_with_len}
-use Rattle.ij_text.specs.Numbers.{InBits, bits_in, tern_bits}
+use Rattle.std.proofs.Common.{◌≡◌, ◌-◌, ◌++◌, Bool, List, true, false, length, get_or, replicate, take, arith, ap, sym, ◌∙◌}
+use Rattle.std.proofs.Math.ListN.{length-replicate}
+use Rattle.std.proofs.lemmas.Slice.{between_from_start}
+use Rattle.ij_text.specs.Numbers.{open_bits}
+use Rattle.ij_text.proofs.OpenDigits.{in_width, in_width_zero, in_width_length}
 use Rattle.ij_text.proofs.fitting.tern_in.Goals as goal
 
-pub push-requires : goal.push-requires
-push-requires c =
-    let long = ap length c.loop-i.invariant ∙ length-map-range_with_len (λ k. get_or (tern_bits c.args.t.now) k (Some false)) 0 c.loop-i.i in
-    omega (arith, long, c.loop-i-test.true, c.ranges.width.fits)
+pub returns : goal.returns
+returns c =
+    let t = c.args.t.now in
+    let w = c.args.width in
+    let n = c.min-n.result in
+    let value = c.in_ok-append.ensures.ok ∙ ap (λ (l : List Bool). l ++ c.in_ok-above.above.items) (c.in_ok-value.ensures ∙ between_from_start t.value.items n) ∙ ap (λ (l : List Bool). take n t.value.items ++ l) c.in_ok-above.ensures in
+    let care = c.in_ok-append-2.ensures.ok ∙ ap (λ (l : List Bool). l ++ c.fill.new.self.items) (c.in_ok-care.ensures ∙ between_from_start t.care.items n)
+    ∙ ap (λ (l : List Bool). take n t.care.items ++ l) (c.fill.ensures.items ∙ ap (λ k. replicate k true) (ap length c.in_ok-above.ensures ∙ length-replicate (w - n) false)) in
+    ap (λ (l : List Bool). open_bits l c.append-2.new.self.items) value ∙ ap (open_bits (take n t.value.items ++ replicate (w - n) false)) care
+    ∙ in_width t.value.items t.care.items n w t.same_length (omega arith)
 
-pub loop-i-preserved : goal.loop-i-preserved
-loop-i-preserved c =
-    c.in_ok-push.ensures.ok
-    ∙ ap (λ (l : List (Option Bool)). l ++ c.bit_at.result ∷ []) c.loop-i.invariant
-    ∙ ap (λ (b : Option Bool). bits_in c.loop-i.i (InBits (tern_bits c.args.t.now)) ++ b ∷ []) c.bit_at.ensures
-    ∙ sym (map-range_with_len_more (λ k. get_or (tern_bits c.args.t.now) k (Some false)) 0 c.loop-i.i c.loop-i.i (omega arith))
+pub invariant_of-result : goal.invariant_of-result
+invariant_of-result c =
+    let t = c.args.t.now in
+    let w = c.args.width in
+    let n = c.min-n.result in
+    let value : c.append.new.self.items ≡ take n t.value.items ++ replicate (w - n) false =
+    c.in_ok-append.ensures.ok ∙ ap (λ (l : List Bool). l ++ c.in_ok-above.above.items) (c.in_ok-value.ensures ∙ between_from_start t.value.items n) ∙ ap (λ (l : List Bool). take n t.value.items ++ l) c.in_ok-above.ensures in
+    let care : c.append-2.new.self.items ≡ take n t.care.items ++ replicate (w - n) true =
+    c.in_ok-append-2.ensures.ok ∙ ap (λ (l : List Bool). l ++ c.fill.new.self.items) (c.in_ok-care.ensures ∙ between_from_start t.care.items n)
+    ∙ ap (λ (l : List Bool). take n t.care.items ++ l) (c.fill.ensures.items ∙ ap (λ k. replicate k true) (ap length c.in_ok-above.ensures ∙ length-replicate (w - n) false)) in
+    record {
+      same_length = ap length value ∙ in_width_length t.value.items t.care.items n w t.same_length (omega arith) ∙ sym (ap length care);
+      open_is_zero = λ k e. ap (λ (l : List Bool). get_or l k false) value
+          ∙ in_width_zero t.value.items t.care.items n w t.same_length (omega arith) t.open_is_zero k (sym (ap (λ (l : List Bool). get_or l k false) care) ∙ e);
+    }
