@@ -1,18 +1,21 @@
 -- Rows whose muxes are done: they write nothing more.
 use Rattle.std.proofs.Common.{◌≡◌, ℕ, zero, suc, ◌<◌, Bool, true, false, List, [], ◌∷◌, ◌++◌, length, refl, sym, ap, ◌∙◌, subst, arith}
-use Rattle.std.specs.Prelude.{All, slice_set, Result, Ok, Err, OnOk}
+use Rattle.std.specs.Prelude.{All, slice_set}
 use Rattle.std.proofs.lemmas.List.{get_or-set_same, length-set, set-get_or}
 use Rattle.std.proofs.lemmas.List.Elements.{All-head, All-tail}
 use Rattle.ij_bits.specs.BitLists.{bit}
-use Rattle.ij_bits.specs.declared.memory.OutOfMemory.{OutOfMemory}
 use Rattle.net_graph.specs.declared.branch.Branch.{Branch}
 use Rattle.net_graph.specs.declared.net.Net.{Net}
 use Rattle.net_graph.specs.declared.step.WriteBit.{WriteBit}
 use Rattle.net_graph.specs.Signals.{Holds}
-use Rattle.path_planner.specs.Collecting.{AreDone, all_done, row_writes, settle_writes}
+use Rattle.path_planner.specs.Collecting.{all_done, row_writes, settle_writes}
 use Rattle.path_planner.specs.Planning.{IsBranchOf}
 
-all_cons : {A : Type 0} (P : A → Type 0) (x : A) (xs : List A) → P x → All P xs → All P (x ∷ xs)
+-- the muxes of some rows are done
+abbrev pub AreDone : List Bool → List Branch → Type 0
+AreDone done bs = All (λ b. bit done b.mux ≡ true) bs
+
+pub all_cons : {A : Type 0} (P : A → Type 0) (x : A) (xs : List A) → P x → All P xs → All P (x ∷ xs)
 all_cons P x xs h k zero d l = h
 all_cons P x xs h k (suc i) d l = k i d (omega (arith, l))
 
@@ -40,10 +43,6 @@ now_done net bs done now h long e =
     let P : List Bool → Type 0 = λ l. AreDone l bs in
     subst P (sym e) (marked_done bs done (λ k d l. let t = (h k d l).mux in omega (arith, t, long)))
 
-pub ok_done : (net : Net) (bs : List Branch) (done now : List Bool) (r : Result (Unit {0}) OutOfMemory) → All (IsBranchOf net) bs → length done ≡ length net.muxes.items → OnOk r (now ≡ all_done done bs) → OnOk r (AreDone now bs)
-ok_done net bs done now (Ok u) h long e = now_done net bs done now h long e
-ok_done net bs done now (Err x) h long e = tt
-
 -- one more time they change nothing
 same_set : (done : List Bool) (m : ℕ) → bit done m ≡ true → slice_set done m true ≡ done
 same_set done m e = ap (slice_set done m) (sym e) ∙ set-get_or done m false
@@ -58,17 +57,10 @@ module _ (net : Net) (before : Holds) (path : List ℕ) where
   abbrev first : Bool → Branch → List WriteBit
   first d b = elim d [ true ↦ [] | false ↦ row_writes net before path b ]
 
-  none_again : (bs : List Branch) (done : List Bool) → AreDone done bs → settle_writes net before path done bs ≡ []
+  pub none_again : (bs : List Branch) (done : List Bool) → AreDone done bs → settle_writes net before path done bs ≡ []
   none_again [] done h = refl
   none_again (b ∷ bs) done h =
       let is : bit done b.mux ≡ true = All-head (λ c. bit done c.mux ≡ true) b bs h in
       ap (λ d. first d b ++ settle_writes net before path (slice_set done b.mux true) bs) is
       ∙ ap (λ l. settle_writes net before path l bs) (same_set done b.mux is)
       ∙ none_again bs done (All-tail (λ c. bit done c.mux ≡ true) b bs h)
-
-  pub writes_again : (bs : List Branch) (done : List Bool) (ws : List WriteBit) → AreDone done bs → ws ≡ ws ++ settle_writes net before path done bs
-  writes_again bs done ws h = sym (ap (λ l. ws ++ l) (none_again bs done h) ∙ nothing_more ws)
-    where
-      nothing_more : (ws : List WriteBit) → ws ++ [] ≡ ws
-      nothing_more [] = refl
-      nothing_more (w ∷ ws) = ap (λ l. w ∷ l) (nothing_more ws)

@@ -17,8 +17,9 @@ pub mod Collecting
 pub mod Settled
 pub mod Choosing
 pub mod Joining
-pub mod Needing
 pub mod PlanSteps
 pub mod Depth
 pub mod RowOpening
 pub mod Again
+pub mod Repeats
+pub mod FirstRows

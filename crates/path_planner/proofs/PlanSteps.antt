@@ -1,13 +1,13 @@
 -- The steps of a planner: each plan settles what is needed, and as many as the group is deep bring its registers onto the
 -- path.
 use Rattle.std.proofs.Common.{◌≡◌, ⊎_elim, ℕ, suc, ◌-◌, ◌<◌, Bool, true, false, List, [], ◌∷◌, ◌++◌, length, Some, None, refl, sym, ap, ◌∙◌, subst, arith, append_assoc, length-append}
-use Rattle.std.specs.Prelude.{map, reverse, option_map, IsTrue, IsFalse, All, ◌&&◌, replicate}
+use Rattle.std.specs.Prelude.{map, flat_map, reverse, option_map, IsTrue, IsFalse, All, ◌&&◌, replicate}
 use Rattle.std.specs.List.{list_all}
 use Rattle.std.proofs.lemmas.Bool.{true≢false, cases_Bool, cases_lt}
 use Rattle.std.proofs.lemmas.List.{map-append}
 use Rattle.net_graph.specs.declared.branch.Branch.{Branch}
 use Rattle.net_graph.specs.declared.net.Net.{Net}
-use Rattle.net_graph.specs.declared.net.Point.TheVariants.{Mux as FromMux}
+use Rattle.net_graph.specs.declared.net.Point.TheVariants.{Mux as FromMux, Reg as FromReg}
 use Rattle.net_graph.specs.Groups.{registers_of, IsEmpty}
 use Rattle.net_graph.specs.declared.net.BitId.{BitId}
 use Rattle.net_graph.specs.Named.{IsBitOf}
@@ -21,16 +21,20 @@ use Rattle.net_tree.specs.Form.{Items, Describes}
 use Rattle.net_tree.specs.Needs.{needs, group_depth}
 use Rattle.net_tree.specs.Places.{place_of}
 use Rattle.net_tree.specs.declared.plan.ScanPlan.{ScanPlan}
-use Rattle.path_planner.specs.Collecting.{settle_writes}
+use Rattle.path_planner.specs.Collecting.{row_writes, settle_writes}
+use Rattle.path_planner.specs.FirstRows.{first_rows}
 use Rattle.net_tree.specs.ScanPlans.{seen_plan}
 use Rattle.path_planner.specs.Opening.{CanOpen}
 use Rattle.path_planner.specs.Plans.{Settles, ArePlans}
 use Rattle.path_planner.specs.Scannable.{IsScannable}
+use Rattle.path_planner.specs.Registers.{add_registers}
 use Rattle.path_planner.specs.Settling.{is_on, path_or_none, all_on}
 use Rattle.path_planner.proofs.Among.{Among, all_among, among_all}
 use Rattle.path_planner.proofs.Apart.{in_part}
+use Rattle.path_planner.proofs.FirstRows.{first_writes}
 use Rattle.path_planner.proofs.Opening.{all_open, is_needed, deeper}
 use Rattle.path_planner.proofs.Plans.{at, plan_unseen}
+use Rattle.path_planner.proofs.Repeats.{same_all, same_writes}
 use Rattle.path_planner.proofs.Settled.{on_scan_path, settles}
 use Rattle.path_planner.proofs.Step.{is_there, selected}
 use Rattle.path_planner.proofs.Values.{select_there}
@@ -50,7 +54,7 @@ AreOpen net form g h q =
 
 module _ (net : Net) (form : Items) (g : SeenGroup) where
   -- the registers of a group are on the path from scan-in to scan-out where they are on the traced one
-  pub all_on_path : (holds : Holds) (p : List ℕ) (t : Bool) → scan_path net holds ≡ Some p → t ≡ list_all (is_on p) (registers_of g) → all_on net (registers_of g) holds ≡ t
+  all_on_path : (holds : Holds) (p : List ℕ) (t : Bool) → scan_path net holds ≡ Some p → t ≡ list_all (is_on p) (registers_of g) → all_on net (registers_of g) holds ≡ t
   all_on_path holds p t e f = same (registers_of g) ∙ sym f
     where
       same : (rs : List ℕ) → list_all (is_on (path_or_none net holds)) rs ≡ list_all (is_on p) rs
@@ -74,10 +78,15 @@ module _ (net : Net) (form : Items) (g : SeenGroup) where
     more_open q o =
         subst (λ h. AreOpen net form g h (suc q)) (sym s.settled) (deeper net form c.well_formed c.describes c.lawful (needs form g) (is_needed net form g holds c) holds q c.listed o)
 
+  -- its registers are, where those that were collected are
+  pub asked_on : (holds : Holds) (path p regs : List ℕ) (t : Bool) → scan_path net holds ≡ Some path → p ≡ path → regs ≡ add_registers [] (registers_of g) → t ≡ list_all (is_on p) regs → all_on net (registers_of g) holds ≡ t
+  asked_on holds path p regs t e f n a =
+      all_on_path holds path t e (subst (λ z. t ≡ list_all (is_on z) (registers_of g)) f (a ∙ same_all (is_on p) regs (registers_of g) n))
+
   -- the plan made in a step
-  pub opening_plan : (now : Holds) (path p q : List ℕ) (t : Bool) (plan : SeenGroup) → CanOpen net form g now → scan_path net now ≡ Some path → p ≡ path → q ≡ path → t ≡ list_all (is_on p) (registers_of g) → t ≡ false → plan.writes ≡ settle_writes net now q (replicate (length net.muxes.items) false) (needs form g) → plan.reads ≡ [] → Settles net form g now plan
-  opening_plan now path p q t plan c e f h a o w r =
-      settles net form g now c path plan (all_on_path now path t e (subst (λ z. t ≡ list_all (is_on z) (registers_of g)) f a) ∙ o) e (subst (λ z. plan.writes ≡ settle_writes net now z (replicate (length net.muxes.items) false) (needs form g)) h w) r
+  pub opening_plan : (now : Holds) (path p q asked regs : List ℕ) (rows : List Branch) (t : Bool) (plan : SeenGroup) → CanOpen net form g now → scan_path net now ≡ Some path → p ≡ path → q ≡ path → asked ≡ add_registers [] (registers_of g) → regs ≡ add_registers [] (registers_of g) → t ≡ list_all (is_on p) asked → t ≡ false → rows ≡ first_rows (replicate (length net.muxes.items) false) (flat_map (λ r. place_of form (FromReg r)) regs) → plan.writes ≡ flat_map (row_writes net now q) rows → plan.reads ≡ [] → Settles net form g now plan
+  opening_plan now path p q asked regs rows t plan c e f h n m a o k w r =
+      settles net form g now c path plan (asked_on now path p asked t e f n a ∙ o) e (subst (λ z. plan.writes ≡ settle_writes net now z (replicate (length net.muxes.items) false) (needs form g)) h (w ∙ ap (flat_map (row_writes net now q)) k ∙ first_writes net now q (flat_map (λ r. place_of form (FromReg r)) regs) (replicate (length net.muxes.items) false) ∙ same_writes net form g now c now q regs m)) r
 
   -- its bits are there
   pub plan_held : (now : Holds) (plan : SeenGroup) → CanOpen net form g now → Settles net form g now plan → All (λ w. IsHeld now w.bit) plan.writes
@@ -108,6 +117,6 @@ module _ (net : Net) (form : Items) (g : SeenGroup) where
     fewer_left o t = omega (arith, one_more, not_deep now (length plans) c o t)
 
   -- the group itself comes last
-  pub last_plan : (first now : Holds) (path p : List ℕ) (t : Bool) (plans more : List ScanPlan) (plan : ScanPlan) → ¬ IsEmpty g → scan_path net now ≡ Some path → p ≡ path → t ≡ list_all (is_on p) (registers_of g) → t ≡ true → ((p : SeenGroup) (ps : List SeenGroup) → ArePlans net form g now (p ∷ ps) → ArePlans net form g first (map seen_plan plans ++ p ∷ ps)) → seen_plan plan ≡ g → more ≡ plans ++ plan ∷ [] → ArePlans net form g first (map seen_plan more)
-  last_plan first now path p t plans more plan some e f a o h i j =
-      subst (ArePlans net form g first) (sym (ap (map seen_plan) j ∙ map-append seen_plan plans (plan ∷ []))) (h (seen_plan plan) [] (some, i, all_on_path now path t e (subst (λ z. t ≡ list_all (is_on z) (registers_of g)) f a) ∙ o))
+  pub last_plan : (first now : Holds) (path p regs : List ℕ) (t : Bool) (plans more : List ScanPlan) (plan : ScanPlan) → ¬ IsEmpty g → scan_path net now ≡ Some path → p ≡ path → regs ≡ add_registers [] (registers_of g) → t ≡ list_all (is_on p) regs → t ≡ true → ((p : SeenGroup) (ps : List SeenGroup) → ArePlans net form g now (p ∷ ps) → ArePlans net form g first (map seen_plan plans ++ p ∷ ps)) → seen_plan plan ≡ g → more ≡ plans ++ plan ∷ [] → ArePlans net form g first (map seen_plan more)
+  last_plan first now path p regs t plans more plan some e f n a o h i j =
+      subst (ArePlans net form g first) (sym (ap (map seen_plan) j ∙ map-append seen_plan plans (plan ∷ []))) (h (seen_plan plan) [] (some, i, asked_on now path p regs t e f n a ∙ o))
