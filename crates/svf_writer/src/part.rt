@@ -1,7 +1,7 @@
 // The bits of a part of a scan.
-ghost use Rattle.std.specs.Prelude.{◌==◌, ◌≡◌, ◌↔◌, ◌^◌, ◌<◌, ◌≤◌, false, [], length, slice_index_or, unwrap_or, None, Some, IfOk, IsSome, IsTrue};
+ghost use Rattle.std.specs.Prelude.{◌==◌, ◌≡◌, ◌↔◌, ◌+◌, ◌^◌, ◌<◌, ◌≤◌, ℕ, false, [], length, slice_index_or, slice_range, unwrap_or, None, Some, IfOk, IsSome, IsTrue};
 ghost use Rattle.std.specs.Int.{bit_at};
-ghost use Rattle.ij_bits.specs.BitLists.{bits_of};
+ghost use Rattle.ij_bits.specs.BitLists.{bits_of, number_of};
 
 use ij_bits::{Bits, OutOfMemory};
 use std::alloc::Global;
@@ -46,6 +46,18 @@ fn bit_of_number(n: u64, k: u32) -> bool
     ensures { result ≡ (bit_at n k == 1) }
 {
     (n >> k) & 1 == 1
+}
+
+/// The `n` bits of a number from a place on.
+fn bits_of_number(number: u64, from: u32, n: u32) -> u64
+    requires { from + n ≤ 64 }
+    ensures bits { (k : ℕ) → k < n → (bit_at result k == 1) ≡ (bit_at number (from + k) == 1) }
+    ensures small { result < 2 ^ n }
+{
+    if n == 0 {
+        return 0;
+    }
+    (number >> from) & (u64::MAX >> (64 - n))
 }
 
 impl Part {
@@ -99,6 +111,20 @@ impl Part {
             Stored::Absent => false,
             Stored::Word { bits, .. } => bit_of_number(*bits, k),
             Stored::List(bits) => bits.get(k),
+        }
+    }
+
+    /// The number of the `n` bits from position `from` on, the first of them the lowest. It reads one or two words. Takes no
+    /// memory.
+    pub fn number(&self, from: u32, n: u32) -> u64
+        requires few { n ≤ 64 }
+        requires within { from + n ≤ length (unwrap_or self.now []) }
+        ensures { result ≡ number_of (slice_range (unwrap_or self.now []) from (from + n)) }
+    {
+        match &self.stored {
+            Stored::Absent => 0,
+            Stored::Word { bits, .. } => bits_of_number(*bits, from, n),
+            Stored::List(bits) => bits.number(from, n),
         }
     }
 
