@@ -155,6 +155,15 @@ def chains():
         Run(['compile', 'a.icl', 'a.pdl', 'a.dev', 'chip', 'p', 'a.svf'], holds={'a.svf': full('<PREFACE>') + '! apply 1\n' + scans}))
 
 
+def pieces():
+    """A text of more than 64 KiB is added to its file piece by piece."""
+    pdl = ''.join(f'  iWrite net.R {n % 16}\n  iApply\n' for n in range(1, 4097))
+    svf = ''.join(f'! apply {n}\nSDR 4 TDI ({n % 16:X});\n' for n in range(1, 4097))
+    return Case(
+        'a text of several pieces', ('a.icl', full('<FLAT>')), ('a.pdl', f'iProcsForModule chip\niProc p {{}} {{\n{pdl}}}\n'), ('a.dev', full('<DEVICE>')),
+        Run(['compile', 'a.icl', 'a.pdl', 'a.dev', 'chip', 'p', 'a.svf'], holds={'a.svf': full('<PREFACE>') + svf}))
+
+
 def longest_scan():
     """A scan of 65,536 bits through a register of four: TDO has what went in four clocks before, and is compared where MASK has a 1."""
     digits = '8' + '0123456789abcde' * 1092 + '123'
@@ -225,7 +234,7 @@ def wrong(case):
 
 topics = [case for path in sorted(pathlib.Path('.ci/answers').glob('*.txt')) for case in read_topic(path)]
 cases = [of_row(case, row) for case in topics for row in case.rows or [()]]
-cases += [*hierarchies(), *chains(), longest_scan(), *made_designs()]
+cases += [*hierarchies(), *chains(), pieces(), longest_scan(), *made_designs()]
 with concurrent.futures.ThreadPoolExecutor(os.cpu_count() or 1) as workers:
     failed = [lines for lines in workers.map(wrong, cases) if lines]
 for lines in failed:
