@@ -1,9 +1,10 @@
 // Files and streams, in memory and of the host: that each call succeeds where there is memory, and that slow streams are
 // written and read whole. Expected bytes are written out by hand.
 
+use crate::calls::{append, begin, flush, load, write};
 use ij_io::{
-    HostSink, LoadFault, MemShelf, MemSink, Shelf, ShelfFile, Sink, StoreFault, SureShelf,
-    SureSink, Word, put_words, read_up_to,
+    HostSink, LoadFault, MemShelf, MemSink, Shelf, ShelfFile, StoreFault, SureShelf, SureSink,
+    Word, put_words, read_up_to,
 };
 use std::alloc::Global;
 use std::io;
@@ -11,31 +12,34 @@ use std::io::{BufWriter, ErrorKind, Read, Write};
 use std::process::Abort;
 use std::test::Fail;
 
-// Copies the file `a` of three bytes behind `ab` into `b`, piece by piece, and reads it back.
+/// Copies the file `a` of three bytes behind `ab` into `b`, piece by piece, and reads it back.
 fn copied<S: Shelf>(alloc: Global, shelf: &mut S) -> Result<Vec<u8>, Fail> {
-    let bytes = shelf.load(alloc, "a", 3)?;
-    shelf.begin("b")?;
-    shelf.append("b", b"ab")?;
-    let mut file = ShelfFile {
-        shelf: &mut *shelf,
-        name: "b",
-    };
-    put_words(
-        &mut file,
-        &[
-            Word::Text(bytes.as_slice()),
-            Word::Text(b""),
-            Word::Text(b"xy"),
-        ],
-    )?;
-    file.write(b"z")?;
-    Ok(shelf.load(alloc, "b", 8)?)
+    let bytes = load(alloc, shelf, "a", 3)?;
+    begin(shelf, "b")?;
+    append(shelf, "b", b"ab")?;
+    put_behind(shelf, bytes.as_slice())?;
+    Ok(load(alloc, shelf, "b", 8)?)
 }
 
-// One byte below the length of `b` is too little, and the file stays.
-fn long_is_refused<S: Shelf>(rt: &impl Abort, alloc: Global, shelf: &mut S) {
-    let refused = shelf.load(alloc, "b", 7);
+/// Writes bytes to `b` as a stream does, and `xyz` behind them.
+fn put_behind<S: Shelf>(shelf: &mut S, bytes: &[u8]) -> Result<(), StoreFault> {
+    let mut file = ShelfFile { shelf, name: "b" };
+    put_words(
+        &mut file,
+        &[Word::Text(bytes), Word::Text(b""), Word::Text(b"xy")],
+    )?;
+    write(&mut file, b"z")
+}
+
+/// One byte below the length of `b` is too little, and the file stays.
+fn check_copy<S: Shelf>(rt: &impl Abort, alloc: Global, shelf: &mut S) -> Result<(), Fail> {
+    let copy = copied(alloc, shelf)?;
+    assert_eq!(rt; copy.as_slice(), b"ababcxyz".as_slice());
+    let refused = load(alloc, shelf, "b", 7);
     assert!(rt; matches!(refused, Err(LoadFault::Long)));
+    let kept = load(alloc, shelf, "b", 8)?;
+    assert_eq!(rt; kept.as_slice(), b"ababcxyz".as_slice());
+    Ok(())
 }
 
 #[test]
@@ -43,38 +47,23 @@ fn a_file_is_copied_at_both_shelves(rt: HostRuntime) -> Result<(), Fail> {
     let alloc = rt.alloc();
     let mut named = MemShelf::new(alloc);
     named.put_file("a", b"abc")?;
+    check_copy(&rt, alloc, &mut named)?;
     let mut sure = SureShelf::new(alloc);
     sure.put_file("a", b"abc")?;
-
-    let at_named = copied(alloc, &mut named)?;
-    assert_eq!(rt; at_named.as_slice(), b"ababcxyz".as_slice());
-    let at_sure = copied(alloc, &mut sure)?;
-    assert_eq!(rt; at_sure.as_slice(), b"ababcxyz".as_slice());
-    long_is_refused(&rt, alloc, &mut named);
-    long_is_refused(&rt, alloc, &mut sure);
-    assert_eq!(rt; sure.file("b").unwrap_or(b""), b"ababcxyz".as_slice());
-    sure.append("c", b"new")?;
-    assert_eq!(rt; sure.file("c").unwrap_or(b""), b"new".as_slice());
-    let missing = sure.load(alloc, "none", 0)?;
+    check_copy(&rt, alloc, &mut sure)?;
+    append(&mut sure, "c", b"new")?;
+    assert_eq!(rt; sure.file("c"), Some(b"new".as_slice()));
+    let missing = load(alloc, &mut sure, "none", 0)?;
     assert_eq!(rt; missing.len(), 0);
     Ok(())
 }
 
+/// The second call fails alone, and a call that is refused leaves all as it was.
 #[test]
-fn the_named_calls_fail_and_change_nothing(rt: HostRuntime) -> Result<(), Fail> {
+fn the_named_calls_fail(rt: HostRuntime) -> Result<(), Fail> {
     let alloc = rt.alloc();
     let mut shelf = MemShelf::new(alloc);
-    shelf.put_file("a", b"abc")?;
-    shelf.fail_at(&[2, 4, 6])?;
-    assert!(rt; shelf.load(alloc, "a", 3).is_ok());
-    assert!(rt; matches!(shelf.load(alloc, "a", 3), Err(LoadFault::Failed)));
-    assert!(rt; shelf.begin("b").is_ok());
-    assert_eq!(rt; shelf.append("b", b"x"), Err(StoreFault::Failed));
-    assert_eq!(rt; shelf.append("b", b"yz"), Ok(()));
-    assert_eq!(rt; shelf.begin("b"), Err(StoreFault::Failed));
-    assert_eq!(rt; shelf.file("b").unwrap_or(b""), b"yz".as_slice());
-    assert!(rt; matches!(shelf.load(alloc, "none", 3), Err(LoadFault::Failed)));
-
+    shelf.fail_at(&[2])?;
     let mut sink = MemSink::new(alloc);
     sink.fail_at(&[2])?;
     for (piece, want) in [
@@ -82,16 +71,23 @@ fn the_named_calls_fail_and_change_nothing(rt: HostRuntime) -> Result<(), Fail> 
         (b"cd", Err(StoreFault::Failed)),
         (b"ef", Ok(())),
     ] {
-        assert_eq!(rt; sink.write(piece), want);
-        assert_eq!(rt; sink.flush(), Ok(()));
+        assert_eq!(rt; append(&mut shelf, "b", piece), want);
+        assert_eq!(rt; write(&mut sink, piece), want);
+        assert_eq!(rt; flush(&mut sink), Ok(()));
     }
+    assert_eq!(rt; shelf.file("b"), Some(b"abef".as_slice()));
     assert_eq!(rt; sink.bytes(), b"abef".as_slice());
-    let mut sure = SureSink::new(alloc);
+    Ok(())
+}
+
+#[test]
+fn words_are_texts_and_decimal_numbers(rt: HostRuntime) -> Result<(), Fail> {
+    let mut sink = SureSink::new(rt.alloc());
     put_words(
-        &mut sure,
+        &mut sink,
         &[Word::Text(b"ab"), Word::Number(0), Word::Text(b"c")],
     )?;
-    assert_eq!(rt; sure.bytes(), b"ab0c".as_slice());
+    assert_eq!(rt; sink.bytes(), b"ab0c".as_slice());
     Ok(())
 }
 
@@ -164,10 +160,10 @@ fn a_slow_stream_gets_each_byte_once(rt: HostRuntime) -> Result<(), Fail> {
             interrupted: false,
         };
         let mut sink = HostSink::new(&mut stream);
-        assert_eq!(rt; sink.write(b"abcde"), Ok(()));
-        assert_eq!(rt; sink.flush(), Ok(()));
-        assert_eq!(rt; sink.write(last), written);
-        assert_eq!(rt; sink.flush(), flushed);
+        assert_eq!(rt; write(&mut sink, b"abcde"), Ok(()));
+        assert_eq!(rt; flush(&mut sink), Ok(()));
+        assert_eq!(rt; write(&mut sink, last), written);
+        assert_eq!(rt; flush(&mut sink), flushed);
         assert_eq!(rt; stream.taken.as_slice(), b"abcdefgh".as_slice());
     }
     Ok(())
@@ -231,8 +227,8 @@ fn a_buffer_is_handed_on_by_flush(rt: HostRuntime) -> Result<(), Fail> {
             interrupted: false,
         };
         let mut sink = HostSink::new(BufWriter::with_capacity(alloc, 64, &mut stream)?);
-        assert_eq!(rt; sink.write(text), Ok(()));
-        assert_eq!(rt; sink.flush(), flushed);
+        assert_eq!(rt; write(&mut sink, text), Ok(()));
+        assert_eq!(rt; flush(&mut sink), flushed);
         drop(sink);
         assert_eq!(rt; stream.taken.as_slice(), b"abcdefgh".as_slice());
     }

@@ -1,6 +1,7 @@
 // Files of the host: what its shelf does with them, of which no clause can speak.
 
-use ij_io::{HostShelf, LoadFault, Shelf, StoreFault};
+use crate::calls::{append, begin, load};
+use ij_io::{HostShelf, LoadFault, StoreFault};
 use std::test::Fail;
 use std::{env, fs, process};
 
@@ -17,16 +18,16 @@ fn a_begun_file_is_empty_and_grows_at_its_end(rt: HostRuntime) -> Result<(), Fai
     let added = format!(in alloc; "{stem}.added")?;
     fs::write(&rt, stem.as_str(), b"a longer text that is there already")?;
     let mut shelf = HostShelf::new(&rt, alloc);
-    shelf.begin(stem.as_str())?;
+    begin(&mut shelf, stem.as_str())?;
     let begun = fs::read(&rt, stem.as_str())?;
     for piece in [b"ab".as_slice(), b"", b"c\n"] {
-        shelf.append(stem.as_str(), piece)?;
+        append(&mut shelf, stem.as_str(), piece)?;
     }
     let grown = fs::read(&rt, stem.as_str())?;
-    shelf.begin(stem.as_str())?;
-    shelf.append(stem.as_str(), b"d")?;
+    begin(&mut shelf, stem.as_str())?;
+    append(&mut shelf, stem.as_str(), b"d")?;
     let again = fs::read(&rt, stem.as_str())?;
-    shelf.append(added.as_str(), b"new")?;
+    append(&mut shelf, added.as_str(), b"new")?;
     let new = fs::read(&rt, added.as_str())?;
     fs::remove_file(&rt, stem.as_str())?;
     fs::remove_file(&rt, added.as_str())?;
@@ -34,30 +35,6 @@ fn a_begun_file_is_empty_and_grows_at_its_end(rt: HostRuntime) -> Result<(), Fai
     assert_eq!(rt; grown.as_slice(), b"abc\n".as_slice());
     assert_eq!(rt; again.as_slice(), b"d".as_slice());
     assert_eq!(rt; new.as_slice(), b"new".as_slice());
-    Ok(())
-}
-
-/// A file of so many bytes is loaded whole where the limit is at least that, and else it is `Long`.
-#[test]
-fn a_file_is_loaded_up_to_its_limit(rt: HostRuntime) -> Result<(), Fail> {
-    let alloc = rt.alloc();
-    let folder = env::temp_dir(&rt)?;
-    let name = format!(in alloc;
-        "{}/ijtag-loaded-{}",
-        folder.as_path().display(),
-        process::id(rt.process())
-    )?;
-    let mut bytes = vec![in alloc; b'a'; 8191]?;
-    bytes.push(b'b')?;
-    fs::write(&rt, name.as_str(), bytes.as_slice())?;
-    let mut shelf = HostShelf::new(&rt, alloc);
-    let whole = shelf.load(alloc, name.as_str(), 8192);
-    let long = shelf.load(alloc, name.as_str(), 8191);
-    let never = shelf.load(alloc, name.as_str(), 0);
-    fs::remove_file(&rt, name.as_str())?;
-    assert_eq!(rt; whole?.as_slice(), bytes.as_slice());
-    assert!(rt; matches!(long, Err(LoadFault::Long)));
-    assert!(rt; matches!(never, Err(LoadFault::Long)));
     Ok(())
 }
 
@@ -73,12 +50,12 @@ fn what_is_no_file_is_a_failed_call(rt: HostRuntime) -> Result<(), Fail> {
     fs::write(&rt, file.as_str(), b"a")?;
     let mut shelf = HostShelf::new(&rt, alloc);
     for name in [missing.as_str(), folder.as_str(), below.as_str()] {
-        let loaded = shelf.load(alloc, name, 100);
+        let loaded = load(alloc, &mut shelf, name, 100);
         assert!(rt; matches!(loaded, Err(LoadFault::Failed)));
     }
     for name in [folder.as_str(), below.as_str()] {
-        assert_eq!(rt; shelf.begin(name), Err(StoreFault::Failed));
-        assert_eq!(rt; shelf.append(name, b"b"), Err(StoreFault::Failed));
+        assert_eq!(rt; begin(&mut shelf, name), Err(StoreFault::Failed));
+        assert_eq!(rt; append(&mut shelf, name, b"b"), Err(StoreFault::Failed));
     }
     let kept = fs::read(&rt, file.as_str())?;
     fs::remove_file(&rt, file.as_str())?;

@@ -2,6 +2,8 @@
 #![tactic(auto)]
 
 #[cfg(test)]
+mod calls;
+#[cfg(test)]
 mod files_and_streams;
 #[cfg(test)]
 mod host_files;

@@ -1,71 +1,13 @@
-// The hierarchies of designs, and their limits.
+// The hierarchies of designs.
 
-use icl_elab::{Body, Cell, ElabFault, Hier, Part, Ref, elaborate};
-use icl_lexer::lex;
-use icl_parser::parse;
-use icl_syntax::Design;
+use crate::texts::{read, word};
+use icl_elab::{Body, Cell, Hier, Part, Ref, elaborate};
 use ij_bits::{List, Tern};
-use ij_text::{Name, Place, Which, name_of};
+use ij_text::name_of;
 use std::alloc::{AllocError, Global};
 use std::test::Fail;
 
 // ---- texts
-
-/// The bytes of a name as a text.
-fn word(alloc: Global, name: &Name) -> Result<String, AllocError> {
-    let mut told = String::new(alloc);
-    for b in name.as_slice() {
-        told.push(char::from(*b))?;
-    }
-    Ok(told)
-}
-
-fn placed(alloc: Global, variant: &str, at: Place) -> Result<String, AllocError> {
-    format!(in alloc; "{variant} {}:{}", at.line, at.col)
-}
-
-fn named(alloc: Global, variant: &str, at: Place, name: &Name) -> Result<String, AllocError> {
-    let name = word(alloc, name)?;
-    format!(in alloc; "{variant} {}:{} {name}", at.line, at.col)
-}
-
-fn limit(which: Which) -> &'static str {
-    match which {
-        Which::Hierarchy => "Hierarchy",
-        Which::Cells => "Cells",
-        Which::ScanBits => "ScanBits",
-        Which::Muxes => "Muxes",
-        Which::Instruments => "Instruments",
-        Which::Ports => "Ports",
-        Which::PortBits => "PortBits",
-        Which::Width => "Width",
-        _ => "another",
-    }
-}
-
-/// A refusal: its variant, its place and its name, as far as it has them.
-fn refusal(alloc: Global, fault: &ElabFault) -> Result<String, AllocError> {
-    match fault {
-        ElabFault::OutOfMemory => format!(in alloc; "OutOfMemory"),
-        ElabFault::NoModule { name } => {
-            let name = word(alloc, name)?;
-            format!(in alloc; "NoModule {name}")
-        }
-        ElabFault::NoName { at, name } => named(alloc, "NoName", *at, name),
-        ElabFault::DoubleName { at, name } => named(alloc, "DoubleName", *at, name),
-        ElabFault::NoParameter { at, name } => named(alloc, "NoParameter", *at, name),
-        ElabFault::DivideByZero { at } => placed(alloc, "DivideByZero", *at),
-        ElabFault::BadNumber { at } => placed(alloc, "BadNumber", *at),
-        ElabFault::BadRange { at } => placed(alloc, "BadRange", *at),
-        ElabFault::WidthDiffers { at } => placed(alloc, "WidthDiffers", *at),
-        ElabFault::WrongKind { at } => placed(alloc, "WrongKind", *at),
-        ElabFault::RowsOverlap { at } => placed(alloc, "RowsOverlap", *at),
-        ElabFault::InstanceLoop { at } => placed(alloc, "InstanceLoop", *at),
-        ElabFault::Limit { which, number } => {
-            format!(in alloc; "Limit {} {number}", limit(*which))
-        }
-    }
-}
 
 /// A bit: its cell, part and position, behind `~` where it is inverted; or its value.
 fn put_ref(told: &mut String, alloc: Global, r: Ref) -> Result<(), AllocError> {
@@ -231,33 +173,15 @@ fn cells_text(alloc: Global, cells: &[Cell]) -> Result<String, AllocError> {
 
 // ---- designs
 
-/// The design of a text.
-fn read(alloc: Global, text: &[u8]) -> Result<Design, Fail> {
-    if text.len() > 1_000_000 {
-        return Err(Fail::new("the text is too long"));
-    }
-    let Ok(tokens) = lex(alloc, text) else {
-        return Err(Fail::new("the text is not cut"));
-    };
-    match parse(alloc, text, &tokens) {
-        Ok(design) => Ok(design),
-        Err(_) => Err(Fail::new("the text is no design")),
-    }
-}
-
-fn below(alloc: Global, text: &[u8], top: &[u8]) -> Result<Result<Hier, ElabFault>, Fail> {
-    let design = read(alloc, text)?;
-    let Ok(top) = name_of(alloc, top) else {
+/// The hierarchy of a text below a module.
+fn below(alloc: Global, text: &str, top: &str) -> Result<Hier, Fail> {
+    let design = read(alloc, text.as_bytes())?;
+    let Ok(top) = name_of(alloc, top.as_bytes()) else {
         return Err(Fail::new("no memory"));
     };
-    Ok(elaborate(alloc, &design, &top))
-}
-
-/// The cells of a text, or its refusal.
-fn outcome(alloc: Global, text: &str, top: &str) -> Result<String, Fail> {
-    match below(alloc, text.as_bytes(), top.as_bytes())? {
-        Ok(hier) => Ok(cells_text(alloc, hier.cells.as_slice())?),
-        Err(fault) => Ok(refusal(alloc, &fault)?),
+    match elaborate(alloc, &design, &top) {
+        Ok(hier) => Ok(hier),
+        Err(_) => Err(Fail::new("the design has no hierarchy")),
     }
 }
 
@@ -266,28 +190,19 @@ fn outcome(alloc: Global, text: &str, top: &str) -> Result<String, Fail> {
 const FRONT: &str =
     "Module Ins { DataInPort d[3:0]; DataOutPort q[3:0]; } Module Seg { ScanInPort SI; ScanOutPort SO { Source S; } ScanRegister S[1:0] { ScanInSource SI; } ScanInterface client { Port SI; Port SO; } } Module Par { Parameter P = 1; LocalParameter L = 2; DataInPort p[$P+$L:0]; } Module chip { ScanInPort SI; DataInPort D[3:0]; ScanRegister R[3:0] { ScanInSource SI; } Instance s Of Seg { InputPort SI = R; } Instance i Of Ins; SelectPort En;";
 
-/// A part of the design with these items, or its refusal.
-pub(crate) fn part_with(
-    alloc: Global,
-    items: &str,
-    cell: usize,
-    part: usize,
-) -> Result<String, Fail> {
+/// A part of the design with these items.
+fn part_with(alloc: Global, items: &str, cell: usize, part: usize) -> Result<String, Fail> {
     let text = format!(in alloc; "{FRONT}\n{items}\n}}")?;
-    match below(alloc, text.as_bytes(), b"chip")? {
-        Ok(hier) => {
-            let cells = hier.cells.as_slice();
-            if cell >= cells.len() {
-                return Err(Fail::new("no such cell"));
-            }
-            let parts = cells[cell].parts.as_slice();
-            if part >= parts.len() {
-                return Err(Fail::new("no such part"));
-            }
-            Ok(part_text(alloc, &parts[part])?)
-        }
-        Err(fault) => Ok(refusal(alloc, &fault)?),
+    let hier = below(alloc, text.as_str(), "chip")?;
+    let cells = hier.cells.as_slice();
+    if cell >= cells.len() {
+        return Err(Fail::new("no such cell"));
     }
+    let parts = cells[cell].parts.as_slice();
+    if part >= parts.len() {
+        return Err(Fail::new("no such part"));
+    }
+    Ok(part_text(alloc, &parts[part])?)
 }
 
 // ---- tests
@@ -295,7 +210,7 @@ pub(crate) fn part_with(
 #[test]
 fn instances_are_cells_in_preorder(rt: HostRuntime) -> Result<(), Fail> {
     let alloc = rt.alloc();
-    let rows: [(&str, &str, &str); 12] = [
+    let rows: [(&str, &str, &str); 4] = [
         ("Module chip { }", "chip", ":chip"),
         (
             "Module a { Instance x Of b; Instance y Of c; } Module b { Instance z Of c; } Module c { }",
@@ -303,44 +218,6 @@ fn instances_are_cells_in_preorder(rt: HostRuntime) -> Result<(), Fail> {
             ":a x:b<0 z:c<1 y:c<0",
         ),
         ("Module a { Instance x Of b; } Module b { }", "b", ":b"),
-        ("Module a { }", "b", "NoModule b"),
-        (
-            "Module a { Instance x Of b; }\nModule a { }",
-            "b",
-            "DoubleName 2:1 a",
-        ),
-        (
-            "Module chip { LocalParameter Z = 4 / 0; }",
-            "chip",
-            "DivideByZero 1:36",
-        ),
-        (
-            "Module chip { Instance a Of chip; }",
-            "chip",
-            "InstanceLoop 1:15",
-        ),
-        (
-            "Module a { Instance x Of b; }\nModule b { Instance y Of c; }\nModule c { Instance z Of b; }",
-            "a",
-            "InstanceLoop 3:12",
-        ),
-        (
-            "Module chip { ScanRegister R[$V:0] { ScanInSource SI; } }",
-            "chip",
-            "NoParameter 1:30 V",
-        ),
-        // The second pass comes behind the first one over all cells.
-        (
-            "Module a { ScanOutPort SO { Source x; } Instance b Of b; }\nModule b { Parameter p = 1 % 0; }",
-            "a",
-            "DivideByZero 2:28",
-        ),
-        // A cell comes before those in it.
-        (
-            "Module a { Instance b Of b; ScanOutPort SO { Source x; } }\nModule b { ScanOutPort SO { Source y; } }",
-            "a",
-            "NoName 1:53 x",
-        ),
         (
             "Module a { Instance b Of b { Parameter P = 2; } } Module b { Parameter P = 1 / 0; DataInPort d[1 / ($P - 1):0]; }",
             "a",
@@ -348,7 +225,9 @@ fn instances_are_cells_in_preorder(rt: HostRuntime) -> Result<(), Fail> {
         ),
     ];
     for (text, top, wanted) in rows {
-        assert_eq!(rt; outcome(alloc, text, top)?.as_str(), wanted);
+        let hier = below(alloc, text, top)?;
+        let cells = cells_text(alloc, hier.cells.as_slice())?;
+        assert_eq!(rt; cells.as_str(), wanted);
     }
     Ok(())
 }
@@ -472,99 +351,6 @@ fn signals_and_values_are_bits(rt: HostRuntime) -> Result<(), Fail> {
     ];
     for (items, cell, part, wanted) in rows {
         assert_eq!(rt; part_with(alloc, items, cell, part)?.as_str(), wanted);
-    }
-    Ok(())
-}
-
-/// Modules `m0` up to `m70`: `m0` has these items, and each other one so many instances of the one before it.
-fn nested(alloc: Global, items: &str, instances: usize) -> Result<String, Fail> {
-    let mut text = format!(in alloc; "Module m0 {{ {items} }}\n")?;
-    for k in 1..71usize {
-        let mut inside = String::new(alloc);
-        for i in 0..instances {
-            let instance = format!(in alloc; " Instance i{i} Of m{};", k - 1)?;
-            inside.push_str(instance.as_str())?;
-        }
-        let module_text = format!(in alloc; "Module m{k} {{{inside} }}\n")?;
-        text.push_str(module_text.as_str())?;
-    }
-    Ok(text)
-}
-
-/// How many cells there are, or the refusal.
-fn count(alloc: Global, text: &str, top: &str) -> Result<String, Fail> {
-    match below(alloc, text.as_bytes(), top.as_bytes())? {
-        Ok(hier) => Ok(format!(in alloc; "{}", hier.cells.len())?),
-        Err(fault) => Ok(refusal(alloc, &fault)?),
-    }
-}
-
-/// Each limit is accepted, and the next number is refused.
-#[test]
-fn limits_are_the_last_that_are_taken(rt: HostRuntime) -> Result<(), Fail> {
-    let alloc = rt.alloc();
-    let rows: [(&str, usize, &str, &str); 10] = [
-        ("", 1, "m64", "65"),
-        ("", 1, "m65", "Limit Hierarchy 64"),
-        ("", 2, "m12", "8191"),
-        ("", 2, "m13", "Limit Cells 8192"),
-        ("DataInPort d;", 2, "m8", "511"),
-        ("DataInPort d;", 2, "m9", "Limit Instruments 256"),
-        (
-            "ScanInPort i; ScanMux m SelectedBy 1'b0 { 0 : i; }",
-            2,
-            "m10",
-            "2047",
-        ),
-        (
-            "ScanInPort i; ScanMux m SelectedBy 1'b0 { 0 : i; }",
-            2,
-            "m11",
-            "Limit Muxes 1024",
-        ),
-        (
-            "ScanInPort i; ScanRegister r[31:0] { ScanInSource i; }",
-            2,
-            "m7",
-            "255",
-        ),
-        (
-            "ScanInPort i; ScanRegister r[31:0] { ScanInSource i; }",
-            2,
-            "m8",
-            "Limit ScanBits 4096",
-        ),
-    ];
-    for (items, instances, top, wanted) in rows {
-        let text = nested(alloc, items, instances)?;
-        assert_eq!(rt; count(alloc, text.as_str(), top)?.as_str(), wanted);
-    }
-    Ok(())
-}
-
-/// The ports of an instrument, of which the top is none.
-#[test]
-fn instruments_have_few_ports(rt: HostRuntime) -> Result<(), Fail> {
-    let alloc = rt.alloc();
-    let rows: [(&str, &str, &str); 6] = [
-        ("DataInPort d[63:0];", "c", "2"),
-        ("DataInPort d[64:0];", "c", "Limit PortBits 64"),
-        ("DataInPort d[64:0];", "i", "1"),
-        ("DataOutPort d[1:65];", "c", "Limit PortBits 64"),
-        (
-            "DataInPort a; DataInPort b; DataInPort c; DataInPort d; DataInPort e; DataInPort f; DataInPort g; DataInPort h; DataInPort i; DataInPort j; DataInPort k; DataInPort l; DataInPort m; DataInPort n; DataInPort o; DataInPort p; DataOutPort q;",
-            "c",
-            "2",
-        ),
-        (
-            "DataInPort a; DataInPort b; DataInPort c; DataInPort d; DataInPort e; DataInPort f; DataInPort g; DataInPort h; DataInPort i; DataInPort j; DataInPort k; DataInPort l; DataInPort m; DataInPort n; DataInPort o; DataInPort p; DataInPort q[64:0];",
-            "c",
-            "Limit Ports 16",
-        ),
-    ];
-    for (items, top, wanted) in rows {
-        let text = format!(in alloc; "Module i {{ {items} }} Module c {{ Instance i Of i; }}")?;
-        assert_eq!(rt; count(alloc, text.as_str(), top)?.as_str(), wanted);
     }
     Ok(())
 }

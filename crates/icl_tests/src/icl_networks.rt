@@ -1,43 +1,14 @@
-// The networks of designs, and the refusals of hierarchies that have none.
+// The networks of designs.
 
+use crate::texts::read;
 use icl_elab::elaborate;
-use icl_lexer::lex;
-use icl_parser::parse;
-use icl_signals::{ConnectFault, connect};
-use ij_text::{Name, Place, name_of};
+use icl_signals::connect;
+use ij_text::name_of;
 use net_graph::{Inst, Mux, Net, Point, Reg, Sig};
 use std::alloc::{AllocError, Global};
 use std::test::Fail;
 
 // ---- texts
-
-/// The bytes of a name as a text.
-fn word(alloc: Global, name: &Name) -> Result<String, AllocError> {
-    let mut told = String::new(alloc);
-    for b in name.as_slice() {
-        told.push(char::from(*b))?;
-    }
-    Ok(told)
-}
-
-fn placed(alloc: Global, variant: &str, at: Place) -> Result<String, AllocError> {
-    format!(in alloc; "{variant} {}:{}", at.line, at.col)
-}
-
-fn refusal(alloc: Global, fault: &ConnectFault) -> Result<String, AllocError> {
-    match fault {
-        ConnectFault::OutOfMemory => format!(in alloc; "OutOfMemory"),
-        ConnectFault::NoLink { link, instr } => {
-            let link = word(alloc, link)?;
-            let instr = word(alloc, instr)?;
-            format!(in alloc; "NoLink {link} {instr}")
-        }
-        ConnectFault::Undriven { at } => placed(alloc, "Undriven", *at),
-        ConnectFault::SignalLoop { at } => placed(alloc, "SignalLoop", *at),
-        ConnectFault::BadSelect { at } => placed(alloc, "BadSelect", *at),
-        ConnectFault::InstrumentChain { at } => placed(alloc, "InstrumentChain", *at),
-    }
-}
 
 fn put_point(told: &mut String, alloc: Global, point: Point) -> Result<(), AllocError> {
     let text = match point {
@@ -124,21 +95,13 @@ fn network_text(alloc: Global, net: &Net) -> Result<String, AllocError> {
 
 // ---- designs
 
-/// The network of a text at its link `tap` and an instruction, or its refusal.
-fn outcome(alloc: Global, text: &[u8], instr: &str) -> Result<String, Fail> {
-    if text.len() > 1_000_000 {
-        return Err(Fail::new("the text is too long"));
-    }
-    let Ok(tokens) = lex(alloc, text) else {
-        return Err(Fail::new("the text is not cut"));
-    };
-    let Ok(design) = parse(alloc, text, &tokens) else {
-        return Err(Fail::new("the text is no design"));
-    };
+/// The network of a text at its link `tap`.
+fn network_of(alloc: Global, text: &[u8]) -> Result<String, Fail> {
+    let design = read(alloc, text)?;
     let (Ok(top), Ok(link), Ok(instr)) = (
         name_of(alloc, b"chip"),
         name_of(alloc, b"tap"),
-        name_of(alloc, instr.as_bytes()),
+        name_of(alloc, b"IJTAG"),
     ) else {
         return Err(Fail::new("no memory"));
     };
@@ -147,7 +110,7 @@ fn outcome(alloc: Global, text: &[u8], instr: &str) -> Result<String, Fail> {
     };
     match connect(alloc, &hier, &link, &instr) {
         Ok(net) => Ok(network_text(alloc, &net)?),
-        Err(fault) => Ok(refusal(alloc, &fault)?),
+        Err(_) => Err(Fail::new("the hierarchy has no network")),
     }
 }
 
@@ -166,32 +129,19 @@ const PORTS: &str =
 /// The network of a design with these parts of `Net`, and these of the top.
 fn network(alloc: Global, parts: &str, top: &str) -> Result<String, Fail> {
     let text = format!(in alloc; "{FRONT}\n{PORTS}\n{parts} }}\nModule chip {{ {top}\n{BACK}")?;
-    outcome(alloc, text.as_bytes(), "IJTAG")
+    network_of(alloc, text.as_bytes())
 }
+
+/// An instrument whose input is inverted, and an alias over two registers.
+const ALIAS: &[u8] =
+    b"Module Bit { DataInPort d; DataOutPort q; } Module Mix { ScanInPort SI; ScanOutPort SO { Source Q[0]; } ScanInterface client { Port SI; Port SO; } ScanRegister R[1:0] { ScanInSource SI; CaptureSource R; ResetValue 2'b00; } ScanRegister Q[1:0] { ScanInSource R[0]; CaptureSource ins.q, ins.q; ResetValue 2'b00; } Enum e { on = 4'b1001; off = 4'b0000; } Alias a[3:0] = R[1:0], Q[1:0] { RefEnum e; } Instance ins Of Bit { InputPort d = ~R[0]; } } Module chip { Instance net Of Mix; AccessLink tap Of STD_1149_1_2001 { BSDLEntity chip; IJTAG { ScanInterface { net.client; } } } }";
 
 // ---- tests
 
 #[test]
-fn an_instrument_and_an_alias(rt: HostRuntime) -> Result<(), Fail> {
-    let alloc = rt.alloc();
-    let text =
-        b"Module Bit { DataInPort d; DataOutPort q; } Module Mix { ScanInPort SI; ScanOutPort SO { Source Q[0]; } ScanInterface client { Port SI; Port SO; } ScanRegister R[1:0] { ScanInSource SI; CaptureSource R; ResetValue 2'b00; } ScanRegister Q[1:0] { ScanInSource R[0]; CaptureSource ins.q, ins.q; ResetValue 2'b00; } Enum e { on = 4'b1001; off = 4'b0000; } Alias a[3:0] = R[1:0], Q[1:0] { RefEnum e; } Instance ins Of Bit { InputPort d = ~R[0]; } } Module chip { Instance net Of Mix; AccessLink tap Of STD_1149_1_2001 { BSDLEntity chip; IJTAG { ScanInterface { net.client; } } } }";
-    let wanted = "R in : 0.0 0.1; R r0 : i0.0.0 i0.0.0; I : ~0.0; out r1";
-    assert_eq!(rt; outcome(alloc, text, "IJTAG")?.as_str(), wanted);
-    assert_eq!(rt;
-        outcome(alloc, text, "EXTEST")?.as_str(),
-        "NoLink tap EXTEST"
-    );
-    let undriven =
-        b"Module Net {\n  DataInPort x[3:0]; ScanInPort SI; ScanOutPort SO { Source R[0]; }\n  ScanInterface client { Port SI; Port SO; }\n  ScanRegister R[3:0] { ScanInSource SI; CaptureSource x; ResetValue 4'b0; }\n}\nModule chip {\n  Instance net Of Net;\n  AccessLink tap Of STD_1149_1_2001 {\n    BSDLEntity chip; IJTAG { ScanInterface { net.client; } }\n  }\n}\n";
-    assert_eq!(rt; outcome(alloc, undriven, "IJTAG")?.as_str(), "Undriven 4:3");
-    Ok(())
-}
-
-#[test]
 fn signals_are_followed(rt: HostRuntime) -> Result<(), Fail> {
     let alloc = rt.alloc();
-    let rows: [(&str, &str, &str); 13] = [
+    let rows: [(&str, &str, &str); 7] = [
         // A concatenation begins at the left, and position 0 is on the right.
         (
             "; ScanOutPort SO { Source R; } ScanRegister R[3:0] { ScanInSource SI; CaptureSource R[1:0], 2'b01; }",
@@ -228,48 +178,20 @@ fn signals_are_followed(rt: HostRuntime) -> Result<(), Fail> {
             "Instance net Of Net;",
             "R r0 : -; out r0",
         ),
-        // Ports that drive each other.
-        (
-            "; ScanOutPort SO { Source R; }\n ScanRegister R { ScanInSource a.SO; } Instance a Of Wire { InputPort SI = b.SO; } Instance b Of Wire { InputPort SI = a.SO; }",
-            "Instance net Of Net;",
-            "SignalLoop 4:2",
-        ),
-        (
-            "; ScanOutPort SO { Source R; }\n ScanRegister R[1:0] { ScanInSource SI; CaptureSource d; }",
-            "Instance p Of Pass { InputPort i = ~q.o; } Instance q Of Pass { InputPort i = p.o; } Instance net Of Net { InputPort d = p.o, q.o; }",
-            "SignalLoop 4:2",
-        ),
-        // The output's source comes first.
-        (
-            ";\n ScanOutPort SO; ScanRegister R { ScanInSource SI; CaptureSource d[0]; }",
-            "Instance net Of Net;",
-            "Undriven 4:2",
-        ),
-        // What selects is a register bit, as it is.
-        (
-            "; ScanOutPort SO { Source M; } ScanRegister S { ScanInSource SI; }\n ScanMux M SelectedBy ~S { 1'b1 : SI; 1'b0 : S; }",
-            "Instance net Of Net;",
-            "BadSelect 4:2",
-        ),
-        (
-            "; ScanOutPort SO { Source M; } ScanRegister S { ScanInSource SI; }\n ScanMux M SelectedBy 1'b0 { 1'b1 : SI; 1'b0 : S; }",
-            "Instance net Of Net;",
-            "BadSelect 4:2",
-        ),
-        // An instrument's input, position 0 first, and its output; and one that drives another one.
+        // An instrument's input, position 0 first, and its output.
         (
             "{ Source R; } ScanOutPort SO { Source R; } ScanRegister R[1:0] { ScanInSource SI; CaptureSource d; }",
             "Instance ins Of Ins { InputPort d = net.s[1]; } Instance net Of Net { InputPort d = ~ins.q; }",
             "R in : ~i0.0.0 ~i0.0.1; I : 0.1; out r0",
         ),
-        (
-            "; ScanOutPort SO { Source R; } ScanRegister R { ScanInSource SI; }",
-            "Instance net Of Net; Instance a Of Ins { InputPort d = b.q[0]; } Instance b Of Ins { InputPort d = net.s[0]; }",
-            "InstrumentChain 1:228",
-        ),
     ];
     for (parts, top, wanted) in rows {
         assert_eq!(rt; network(alloc, parts, top)?.as_str(), wanted);
     }
+    let is = network_of(alloc, ALIAS)?;
+    assert_eq!(rt;
+        is.as_str(),
+        "R in : 0.0 0.1; R r0 : i0.0.0 i0.0.0; I : ~0.0; out r1"
+    );
     Ok(())
 }

@@ -1,7 +1,6 @@
 // ICL texts, and the texts that are printed of their designs.
 
-use icl_lexer::lex;
-use icl_parser::parse;
+use crate::texts::read;
 use icl_printer::put_design;
 use ij_io::SureSink;
 use std::alloc::Global;
@@ -9,15 +8,7 @@ use std::test::Fail;
 
 /// The text that is printed of the design of a text.
 fn printed(alloc: Global, text: &[u8]) -> Result<SureSink, Fail> {
-    if text.len() > 1000 {
-        return Err(Fail::new("the text is too long"));
-    }
-    let Ok(tokens) = lex(alloc, text) else {
-        return Err(Fail::new("the text is not cut"));
-    };
-    let Ok(design) = parse(alloc, text, &tokens) else {
-        return Err(Fail::new("the text is refused"));
-    };
+    let design = read(alloc, text)?;
     let mut sink = SureSink::new(alloc);
     put_design(&design, &mut sink)?;
     Ok(sink)

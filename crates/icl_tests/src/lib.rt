@@ -10,6 +10,6 @@ mod icl_networks;
 #[cfg(test)]
 mod icl_printed;
 #[cfg(test)]
-mod icl_refusals;
-#[cfg(test)]
 mod icl_tokens;
+#[cfg(test)]
+mod texts;

@@ -1,16 +1,15 @@
-//! Tests of the program: on texts that stand in tables, on files in memory and on real files.
+//! Tests of the program where a call of a file or of a stream fails: what it says then, and what stands. What it answers to texts is told by
+//! the cases of `.ci/answers.py`.
 #![tactic(auto)]
 
 #[cfg(test)]
-mod examples;
+mod commands;
 #[cfg(test)]
-mod meanings;
+mod failing_files;
 #[cfg(test)]
-mod migrations;
+mod failing_makes;
 #[cfg(test)]
-mod program_runs;
-#[cfg(test)]
-mod refusals;
+mod failing_streams;
 
 /// It does nothing: the tests are run, and not the program.
 fn main() {}

@@ -1,15 +1,9 @@
-//! Tests of the readers of procedures, devices, tables and SVF, on texts that stand in tables, and of all readers at the largest sizes.
+//! Tests of the readers of procedures and SVF, and of what writes SVF, on texts that stand in tables.
 #![tactic(auto)]
 
-#[cfg(test)]
-mod device_files;
-#[cfg(test)]
-mod largest;
 #[cfg(test)]
 mod pdl_texts;
 #[cfg(test)]
 mod svf_texts;
-#[cfg(test)]
-mod table_files;
 #[cfg(test)]
 mod written_svf;

@@ -12,7 +12,7 @@ use icl_signals::connect;
 use icl_syntax::Design;
 use ij_text::name_of;
 use net_graph::Net;
-use std::alloc::{AllocError, Global};
+use std::alloc::Global;
 use std::test::Fail;
 
 /// The design of a text.
@@ -68,23 +68,4 @@ pub fn network_of(alloc: Global, source: &str, parts: &str) -> Result<Net, Fail>
 {
     let text = format!(in alloc; "{FRONT} {source}; }}\n{parts} {BACK}")?;
     connected(alloc, text.as_bytes())
-}
-
-/// The parts of a network of so many multiplexers inside one another. The register `S0` selects the outermost one, whose row
-/// 1 has the register `S1` behind the next one, and so on; the innermost row has the register `S` of the last number alone.
-/// Each register has one bit, which is 0 at reset.
-pub fn chain_of(alloc: Global, muxes: u32) -> Result<String, AllocError> {
-    let mut parts = String::new(alloc);
-    for k in 0..muxes {
-        let next = k + 1;
-        let part = format!(in alloc;
-            "ScanMux m{k} SelectedBy S{k} {{ 1'b0 : SI; 1'b1 : S{next}; }} ScanRegister S{k} {{ ScanInSource m{k}; CaptureSource S{k}; ResetValue 1'b0; }}\n"
-        )?;
-        parts.push_str(part.as_str())?;
-    }
-    let last = format!(in alloc;
-        "ScanRegister S{muxes} {{ ScanInSource SI; CaptureSource S{muxes}; ResetValue 1'b0; }}"
-    )?;
-    parts.push_str(last.as_str())?;
-    Ok(parts)
 }

@@ -1,0 +1,243 @@
+#!/usr/bin/env python3
+"""Hands texts to the program and compares what it answers: answers.py PROGRAM, run at the top of a checkout.
+
+Each file of .ci/answers/ has cases of one topic, in these lines:
+
+    text NAME = TEXT       a text that any case names as <NAME>
+    case TITLE             begins a case, in an empty folder of its own
+      file NAME = TEXT     a file of that folder
+      run WORDS            a call of the program, and then what is wanted of it:
+      status N             0, where no such line stands
+      out = TEXT           what it prints, and err = TEXT on the error stream: nothing, where no such line stands
+      holds NAME = TEXT    a file that it wrote; without TEXT, whatever it holds. All other files stay as they were
+      row A => B           the case is run for each row, whose texts are <1>, <2>
+
+Where nothing stands behind `=`, the text is the lines below that are indented by two blanks more, each with a line feed, but for a line that is
+<NAME> alone; else it has no line feed at its end. \\n, \\t, \\r, \\xNN and \\\\ are bytes, <7 * ab> is seven times `ab`, and # begins a comment."""
+import concurrent.futures
+import os
+import pathlib
+import re
+import subprocess
+import sys
+import tempfile
+
+ANY = None
+ESCAPES = {'n': '\n', 't': '\t', 'r': '\r', '\\': '\\'}
+MADE = ('t.icl', 't.pdl', 't.dev', 't.tab', 't.svf')
+program = os.path.abspath(sys.argv[1])
+texts = {}
+
+
+class Run:
+    """A call of the program, and what is wanted of it; the output may be a function that tells whether it is right."""
+
+    def __init__(self, words, status=0, out='', err='', holds=None):
+        self.words, self.status, self.out, self.err, self.holds = words, status, out, err, holds or {}
+
+
+class Case:
+    """Files, as names and texts, and runs, in their order."""
+
+    def __init__(self, title, *steps):
+        self.title, self.steps, self.rows = title, list(steps), []
+
+
+# ---- the files of cases
+
+def block(lines, indent):
+    """Takes the lines that are indented so far."""
+    text = ''
+    while lines and lines[0].startswith(indent):
+        line = lines.pop(0)[len(indent):]
+        text += line if re.fullmatch(r'<[A-Z]+>', line) else line + '\\n'
+    return text
+
+
+def read_topic(path):
+    """The cases of a file, with their rows; its texts are added to the others."""
+    lines, cases = path.read_text().splitlines(), []
+    while lines:
+        line = lines.pop(0)
+        indent = len(line) - len(line.lstrip())
+        kind, _, rest = line[indent:].partition(' ')
+        if kind == 'row':
+            cases[-1].rows.append(rest.split(' => '))
+        elif kind == 'case':
+            cases.append(Case(f'{path.stem}: {rest}'))
+        elif kind == 'run':
+            cases[-1].steps.append(Run(rest.split()))
+        elif kind == 'status':
+            cases[-1].steps[-1].status = int(rest)
+        elif kind and not kind.startswith('#'):
+            name, equals, text = rest.partition('=')
+            text = ANY if not equals else text[1:] or block(lines, ' ' * (indent + 2))
+            put(cases, kind, name.strip(), text)
+    return cases
+
+
+def put(cases, kind, name, text):
+    if kind == 'text':
+        texts[name] = text
+    elif kind == 'file':
+        cases[-1].steps.append((name, text))
+    elif kind == 'holds':
+        cases[-1].steps[-1].holds[name] = text
+    elif kind in ('out', 'err'):
+        setattr(cases[-1].steps[-1], kind, text)
+    else:
+        sys.exit(f'answers: a line begins with {kind}')
+
+
+def full(text, row=()):
+    """The bytes of a text, with those that it names in their places."""
+    def named(it):
+        count, times, piece = it[1].partition(' * ')
+        return piece * int(count) if times else filled(row[int(count) - 1] if count.isdigit() else texts[count])
+
+    def filled(part):
+        return re.sub(r'<([^>]*)>', named, part)
+
+    def escaped(it):
+        return ESCAPES.get(it[1]) or chr(int(it[1][1:], 16))
+    return re.sub(r'\\(x[0-9a-f]{2}|.)', escaped, filled(text))
+
+
+def of_row(case, row):
+    """A case with the texts of a row."""
+    made = Case(f'{case.title}: {" => ".join(row)}' if row else case.title)
+    for step in case.steps:
+        if isinstance(step, Run):
+            holds = {name: text if text is ANY else full(text, row) for name, text in step.holds.items()}
+            made.steps.append(Run([full(word, row) for word in step.words], step.status, full(step.out, row), full(step.err, row), holds))
+        else:
+            made.steps.append((full(step[0], row), full(step[1], row)))
+    return made
+
+
+# ---- cases whose texts are computed
+
+def refused(title, icl, top, line):
+    files = ('a.icl', icl), ('a.pdl', full('<WRITE>')), ('a.dev', full('<DEVICE>'))
+    return Case(title, *files, Run(['compile', 'a.icl', 'a.pdl', 'a.dev', top, 'p', 'a.svf'], 3, '', f'refused {line}\n'))
+
+
+def hierarchies():
+    """Modules m0 to m70, each with so many instances of the one before it: the last that is taken has no link, and the next is refused."""
+    mux, register = 'ScanInPort i; ScanMux m SelectedBy 1\'b0 { 0 : i; }', 'ScanInPort i; ScanRegister r[31:0] { ScanInSource i; }'
+    for items, instances, last, limit in (
+            ('', 1, 64, 'Hierarchy 64'), ('', 2, 12, 'Cells 8192'), ('DataInPort d;', 2, 8, 'Instruments 256'), (mux, 2, 10, 'Muxes 1024'),
+            (register, 2, 7, 'ScanBits 4096')):
+        icl = f'Module m0 {{ {items} }}\n'
+        for k in range(1, 71):
+            icl += f'Module m{k} {{{"".join(f" Instance i{i} Of m{k - 1};" for i in range(instances))} }}\n'
+        yield refused(f'{limit} is taken', icl, f'm{last}', 'connect NoLink tap IJTAG')
+        yield refused(f'more than {limit}', icl, f'm{last + 1}', f'elab Limit {limit}')
+
+
+def chain(muxes):
+    """So many multiplexers inside one another: S0 selects the outermost one, whose row 1 ends with S1, and so on."""
+    front = 'Module Net { ScanInterface client { Port SI; Port SO; } ScanInPort SI; ScanOutPort SO { Source S0; }\n'
+    parts = ''.join(
+        f"ScanMux m{k} SelectedBy S{k} {{ 1'b0 : SI; 1'b1 : S{k + 1}; }} "
+        f"ScanRegister S{k} {{ ScanInSource m{k}; CaptureSource S{k}; ResetValue 1'b0; }}\n" for k in range(muxes))
+    last = f"ScanRegister S{muxes} {{ ScanInSource SI; CaptureSource S{muxes}; ResetValue 1'b0; }} }}\n"
+    return front + parts + last + full('<CHIP>')
+
+
+def chains():
+    yield refused('seventeen multiplexers', chain(17), 'chip', 'nest TooDeep net.m16')
+    # each scan opens one multiplexer more, and the last one writes
+    scans = ''.join(f'SDR {k} TDI ({(1 << k) - 1:0{(k + 3) // 4}X});\n' for k in range(1, 18))
+    yield Case(
+        'sixteen multiplexers', ('a.icl', chain(16)), ('a.dev', full('<DEVICE>')),
+        ('a.pdl', 'iProcsForModule chip\niProc p {} {\n  iWrite net.S16 1\n  iApply\n}\n'),
+        Run(['compile', 'a.icl', 'a.pdl', 'a.dev', 'chip', 'p', 'a.svf'], holds={'a.svf': full('<PREFACE>') + '! apply 1\n' + scans}))
+
+
+def pieces():
+    """A text of more than 64 KiB is added to its file piece by piece."""
+    pdl = ''.join(f'  iWrite net.R {n % 16}\n  iApply\n' for n in range(1, 4097))
+    svf = ''.join(f'! apply {n}\nSDR 4 TDI ({n % 16:X});\n' for n in range(1, 4097))
+    return Case(
+        'a text of several pieces', ('a.icl', full('<FLAT>')), ('a.pdl', f'iProcsForModule chip\niProc p {{}} {{\n{pdl}}}\n'), ('a.dev', full('<DEVICE>')),
+        Run(['compile', 'a.icl', 'a.pdl', 'a.dev', 'chip', 'p', 'a.svf'], holds={'a.svf': full('<PREFACE>') + svf}))
+
+
+def longest_scan():
+    """A scan of 65,536 bits through a register of four: TDO has what went in four clocks before, and is compared where MASK has a 1."""
+    digits = '8' + '0123456789abcde' * 1092 + '123'
+    part = '(8' + '0123456789abcde\n' * 1092 + '123)'
+    bits = [int(digit, 16) >> k & 1 for digit in reversed(digits) for k in range(4)]
+    found = [0] * 4 + bits[:-4]
+    lines = [f'differs scan 2 bit {i} expected 1 read 0\n' for i, bit in enumerate(bits) if bit and not found[i]]
+    report = ''.join(lines) + f'register net.R 1000\nscans 2 clocks 65556 differs {len(lines)}\n'
+    svf = 'SIR 8 TDI (A0);\nSDR 65536 TDI' + part + 'TDO' + part + 'MASK' + part + 'SMASK' + part + ';'
+    return Case(
+        'the longest scan', ('a.svf', svf), *((name, full(text)) for name, text in (('a.icl', '<FLAT>'), ('a.dev', '<DEVICE>'), ('a.tab', '<TABLES>'))),
+        Run(['play', 'a.svf', 'a.icl', 'a.dev', 'a.tab', 'chip'], 1, report))
+
+
+def made_designs():
+    """Designs of all sizes, which their procedures find as they should be, and one that is made, compiled and played again."""
+    files = dict.fromkeys(MADE, ANY)
+    for seed, size in ((1, 1), (0, 1), (9999999999999999999, 1), (1, 8), (2, 8), (3, 8), (4, 8), (7, 64)):
+        yield Case(f'a made design {seed} {size}', Run(['make', str(seed), str(size), 't'], out=lambda line, size=size: is_made(line, size), holds=files))
+    lines = []
+    yield Case(
+        'a design made again', Run(['make', '3', '4', 't'], out=lambda line: lines.append(line) or is_made(line, 4), holds=files),
+        Run(['make', '3', '4', 'u'], out=lambda line: line == lines[0], holds={f'u{name[1:]}': (name,) for name in MADE}),
+        Run(['compile', 't.icl', 't.pdl', 't.dev', 'chip', 'p', 'again.svf'], holds={'again.svf': ('t.svf',)}),
+        Run(['play', 't.svf', 't.icl', 't.dev', 't.tab', 'chip'], out=lambda report: report.endswith(' differs 0\n')))
+
+
+def is_made(line, size):
+    """As many registers as multiplexers and instruments, one to four multiplexers and four groups for each instrument."""
+    number = re.fullmatch(r'made registers (\d+) muxes (\d+) instruments (\d+) groups (\d+) scans \d+ clocks \d+ differs 0\n', line)
+    registers, muxes, instruments, groups = map(int, number.groups()) if number else (0,) * 4
+    return instruments == size and registers == muxes + size and size <= muxes <= 4 * size and groups == 4 * size
+
+
+# ---- runs
+
+def short(value):
+    told = repr(value)
+    return told if len(told) < 400 else f'{told[:400]}.. of {len(told)}'
+
+
+def wrong(case):
+    """A line for each thing that is otherwise than wanted."""
+    lines, files = [], {}
+
+    def compare(what, found, wanted):
+        if found != wanted:
+            lines.append(f'{short(case.title)}: {what}: {short(found)}, wanted {short(wanted)}')
+    with tempfile.TemporaryDirectory() as name:
+        folder = pathlib.Path(name)
+        for step in case.steps:
+            if not isinstance(step, Run):
+                files[step[0]] = step[1].encode('latin-1')
+                (folder / step[0]).write_bytes(files[step[0]])
+                continue
+            done = subprocess.run([program, *step.words], cwd=folder, capture_output=True)
+            out = done.stdout.decode('latin-1')
+            compare('status', done.returncode, step.status)
+            compare('output', out, (out if step.out(out) else 'another one') if callable(step.out) else step.out)
+            compare('error stream', done.stderr.decode('latin-1'), step.err)
+            found = {it.name: it.read_bytes() for it in folder.iterdir()}
+            for name, text in step.holds.items():
+                files[name] = found.get(name, b'') if text is ANY else found.get(text[0]) if isinstance(text, tuple) else text.encode('latin-1')
+            for name in sorted(found.keys() | files.keys()):
+                compare(f'file {name}', found.get(name), files.get(name))
+    return lines
+
+
+topics = [case for path in sorted(pathlib.Path('.ci/answers').glob('*.txt')) for case in read_topic(path)]
+cases = [of_row(case, row) for case in topics for row in case.rows or [()]]
+cases += [*hierarchies(), *chains(), pieces(), longest_scan(), *made_designs()]
+with concurrent.futures.ThreadPoolExecutor(os.cpu_count() or 1) as workers:
+    failed = [lines for lines in workers.map(wrong, cases) if lines]
+for lines in failed:
+    print(*lines, sep='\n')
+print(f'answers: {len(cases) - len(failed)} passed, {len(failed)} failed')
+sys.exit(1 if failed or not cases else 0)

@@ -1,0 +1,202 @@
+// The commands that the tests call, their files, and a run of the program with calls that fail.
+use ij_io::{MemShelf, MemSink};
+use ijtag_core::{Status, ijtag};
+use std::alloc::{AllocError, Global};
+use std::test::Fail;
+
+/// An instrument that counts run cycles from the moment its input rises, and is done at 100.
+const COUNTER: &[u8] =
+    b"Module Counter { DataInPort start; DataOutPort done; }\nModule Cell {\n  ScanInPort SI; ScanOutPort SO { Source R[0]; }\n  ScanInterface client { Port SI; Port SO; }\n  DataInPort d; DataOutPort s { Source R[0]; }\n  ScanRegister R[1:0] { ScanInSource SI; CaptureSource d, R[0]; ResetValue 2'b00; }\n}\nModule chip {\n  Instance net Of Cell { InputPort d = cnt.done; }\n  Instance cnt Of Counter { InputPort start = net.s; }\n  AccessLink tap Of STD_1149_1_2001 {\n    BSDLEntity chip; IJTAG { ScanInterface { net.client; } }\n  }\n}\n";
+
+/// It is started, and read after 100 cycles.
+const COUNT: &[u8] =
+    b"iProcsForModule chip\niProc p {} {\n  iWrite cnt.start 1\n  iApply\n  iRunLoop 100\n  iRead cnt.done 1\n  iApply\n}\n";
+
+const DEVICE: &[u8] = b"device 1\nir 8\nlink tap IJTAG A0\n";
+
+const COUNTER_TABLES: &[u8] =
+    b"tables 1\ninstrument cnt\nin start 1\nword n 8 init 0 reset 0\nword go 1 init 0 reset 0\nword fin 1 init 0 reset 0\nout done = fin\nchange when old start = 0, start = 1 do go = 1, n = 0, fin = 0\nrun when go = 1, n = 99 do go = 0, fin = 1, n = 100\nrun when go = 1 do n = n + 1\nend\n";
+
+/// The counter's tables in version 2.
+const MIGRATED: &[u8] =
+    b"tables 2\ninstrument cnt\nin start 1\nword n 8 init 0 reset 0\nword go 1 init 0 reset 0\nword fin 1 init 0 reset 0\nout done = fin\nchange when old start = 0, start = 1 do go = 1, n = 0, fin = 0\nrun when go = 1, n = 99 do go = 0, fin = 1, n = 100\nrun when go = 1 do n = n + 1\nend\n";
+
+pub(crate) const SVF: &[u8] =
+    b"ENDIR IDLE;\nENDDR IDLE;\nSTATE RESET;\nSTATE IDLE;\nSIR 8 TDI (A0);\n! apply 1\nSDR 2 TDI (1);\nRUNTEST 100 TCK;\n! apply 2\nSDR 2 TDI (1) TDO (2) MASK (2);\n";
+
+const REPORT: &[u8] =
+    b"register net.R 01\ninstrument cnt n=64 go=0 fin=1 changes 1 runs 100 resets 0\nscans 3 clocks 134 differs 0\n";
+
+/// A chip whose instrument has a memory: at each change of its inputs it stores `d` at `a` and shows what stood there.
+const MEMORY: &[u8] =
+    b"Module Mem { DataInPort a[3:0]; DataInPort d[7:0]; DataOutPort o[7:0]; }\nModule Net {\n  ScanInPort SI; ScanOutPort SO { Source R[0]; }\n  ScanInterface client { Port SI; Port SO; }\n  DataInPort o[7:0]; DataOutPort a[3:0] { Source R[3:0]; } DataOutPort d[7:0] { Source R[11:4]; }\n  ScanRegister R[11:0] { ScanInSource SI; CaptureSource R[11:8], o; ResetValue 12'b0; }\n}\nModule chip {\n  Instance net Of Net { InputPort o = mem.o; }\n  Instance mem Of Mem { InputPort a = net.a; InputPort d = net.d; }\n  AccessLink tap Of STD_1149_1_2001 {\n    BSDLEntity chip; IJTAG { ScanInterface { net.client; } }\n  }\n}\n";
+
+const MEMORY_TABLES: &[u8] =
+    b"tables 2\ninstrument mem\n in a 4\n in d 8\n word q 8\n mem m 12 8\n out o=q\nchange do m[a]=d,q=m[a]\nend\n";
+
+/// Two values are stored at one place, and then one behind the memory's end.
+const STORE: &[u8] =
+    b"iProcsForModule chip\niProc p {} {\n  iWrite mem.a 3\n  iWrite mem.d 0x5A\n  iApply\n  iWrite mem.d 0x11\n  iApply\n  iWrite mem.a 13\n  iApply\n}\n";
+
+const STORED: &[u8] =
+    b"register net.R 000100011101\ninstrument mem q=00 m[3]=11 changes 3 runs 0 resets 0\nreads 0 differs 0\n";
+
+/// A command: its words, the files that there are, the names that it loads in their order, the name that it writes (or an empty one), the
+/// text that this file has then, and what is printed.
+#[derive(Drop)]
+pub(crate) struct Command<'a> {
+    pub words: &'a [&'a str],
+    pub files: &'a [(&'a str, &'a [u8])],
+    pub loads: &'a [&'a str],
+    pub writes: &'a str,
+    pub text: &'a [u8],
+    pub report: &'a [u8],
+}
+
+/// The files of the counter.
+pub(crate) const COUNTER_FILES: [(&str, &[u8]); 5] = [
+    ("a.icl", COUNTER),
+    ("a.pdl", COUNT),
+    ("a.dev", DEVICE),
+    ("a.tab", COUNTER_TABLES),
+    ("a.svf", SVF),
+];
+
+/// The files of the memory.
+const MEMORY_FILES: [(&str, &[u8]); 4] = [
+    ("a.icl", MEMORY),
+    ("a.pdl", STORE),
+    ("a.dev", DEVICE),
+    ("a.tab", MEMORY_TABLES),
+];
+
+/// The files of a design that is refused at once.
+pub(crate) const REFUSED_FILES: [(&str, &[u8]); 5] = [
+    ("a.icl", b"Module chip { ScanRegister }"),
+    ("a.pdl", COUNT),
+    ("a.dev", DEVICE),
+    ("a.tab", COUNTER_TABLES),
+    ("a.svf", SVF),
+];
+
+pub(crate) const COMPILE: [&str; 7] = ["compile", "a.icl", "a.pdl", "a.dev", "chip", "p", "b.svf"];
+
+pub(crate) const PLAY: [&str; 6] = ["play", "a.svf", "a.icl", "a.dev", "a.tab", "chip"];
+
+const RUN: [&str; 8] = [
+    "run", "a.icl", "a.pdl", "a.dev", "a.tab", "chip", "p", "b.svf",
+];
+
+const DIRECT: [&str; 7] = ["direct", "a.icl", "a.pdl", "a.dev", "a.tab", "chip", "p"];
+
+const AUDIT: [&str; 7] = ["audit", "a.svf", "a.icl", "a.pdl", "a.dev", "chip", "p"];
+
+/// All commands but `make`.
+pub(crate) const COMMANDS: [Command<'static>; 6] = [
+    Command {
+        words: &COMPILE,
+        files: &COUNTER_FILES,
+        loads: &["a.icl", "a.pdl", "a.dev"],
+        writes: "b.svf",
+        text: SVF,
+        report: b"",
+    },
+    Command {
+        words: &PLAY,
+        files: &COUNTER_FILES,
+        loads: &["a.svf", "a.icl", "a.dev", "a.tab"],
+        writes: "",
+        text: b"",
+        report: REPORT,
+    },
+    Command {
+        words: &RUN,
+        files: &COUNTER_FILES,
+        loads: &["a.icl", "a.pdl", "a.dev", "a.tab"],
+        writes: "b.svf",
+        text: SVF,
+        report: REPORT,
+    },
+    Command {
+        words: &DIRECT,
+        files: &MEMORY_FILES,
+        loads: &["a.icl", "a.pdl", "a.dev", "a.tab"],
+        writes: "",
+        text: b"",
+        report: STORED,
+    },
+    Command {
+        words: &AUDIT,
+        files: &COUNTER_FILES,
+        loads: &["a.svf", "a.icl", "a.pdl", "a.dev"],
+        writes: "",
+        text: b"",
+        report: b"audit yes groups 2 scans 3\n",
+    },
+    Command {
+        words: &["migrate", "a.tab", "b.tab"],
+        files: &COUNTER_FILES,
+        loads: &["a.tab"],
+        writes: "b.tab",
+        text: MIGRATED,
+        report: b"",
+    },
+];
+
+/// The calls that fail, by their numbers: of the files, of the output, and of the error stream.
+#[derive(Drop)]
+pub(crate) struct Failing<'a> {
+    pub shelf: &'a [u32],
+    pub out: &'a [u32],
+    pub err: &'a [u32],
+}
+
+/// How a run ended, and what stands then.
+#[derive(Drop)]
+pub(crate) struct Ended {
+    pub status: Status,
+    pub shelf: MemShelf,
+    pub out: MemSink,
+    pub err: MemSink,
+}
+
+pub(crate) fn words(alloc: Global, parts: &[&str]) -> Result<Vec<String>, AllocError> {
+    let mut words = Vec::new(alloc);
+    for part in parts {
+        words.push(String::from_str(alloc, part)?)?;
+    }
+    Ok(words)
+}
+
+fn shelf_of(alloc: Global, files: &[(&str, &[u8])]) -> Result<MemShelf, AllocError> {
+    let mut shelf = MemShelf::new(alloc);
+    for file in files {
+        if shelf.put_file(file.0, file.1).is_err() {
+            return Err(AllocError);
+        }
+    }
+    Ok(shelf)
+}
+
+/// A run of the program. It has no clause: a test looks at what comes.
+pub(crate) fn run(
+    alloc: Global,
+    parts: &[&str],
+    files: &[(&str, &[u8])],
+    failing: &Failing<'_>,
+) -> Result<Ended, Fail> {
+    let words = words(alloc, parts)?;
+    let mut shelf = shelf_of(alloc, files)?;
+    shelf.fail_at(failing.shelf)?;
+    let mut out = MemSink::new(alloc);
+    out.fail_at(failing.out)?;
+    let mut err = MemSink::new(alloc);
+    err.fail_at(failing.err)?;
+    let status = ijtag(alloc, &words, &mut shelf, &mut out, &mut err);
+    Ok(Ended {
+        status,
+        shelf,
+        out,
+        err,
+    })
+}

@@ -1,0 +1,93 @@
+// Calls that fail while a design is made.
+use crate::commands::{Ended, Failing, run};
+use ijtag_core::Status;
+use std::process::Abort;
+use std::test::Fail;
+
+/// The files of a design, in the order in which they are written, and what they hold before.
+const FILES: [(&str, &[u8]); 5] = [
+    ("t.icl", b"old"),
+    ("t.pdl", b"old"),
+    ("t.dev", b"old"),
+    ("t.tab", b"old"),
+    ("t.svf", b"old"),
+];
+
+/// No call fails.
+const NONE: Failing<'static> = Failing {
+    shelf: &[],
+    out: &[],
+    err: &[],
+};
+
+const MAKE: [&str; 4] = ["make", "1", "1", "t"];
+
+/// The line of a failed store: each file is begun by one call and written by the next.
+fn fault_of_store(call: u32) -> &'static [u8] {
+    match call {
+        1 | 2 => b"write fault t.icl\n",
+        3 | 4 => b"write fault t.pdl\n",
+        5 | 6 => b"write fault t.dev\n",
+        7 | 8 => b"write fault t.tab\n",
+        _ => b"write fault t.svf\n",
+    }
+}
+
+/// The files in front of the one of the failed call are whole, and those behind it are as before.
+fn check_files(rt: &impl Abort, whole: &Ended, ended: &Ended, call: u32) {
+    let mut first = 1u32;
+    for file in &FILES {
+        let all = whole.shelf.file(file.0).unwrap_or(b"".as_slice());
+        let held = ended.shelf.file(file.0).unwrap_or(b"".as_slice());
+        if call > first.wrapping_add(1) {
+            assert!(rt; held == all);
+        } else if call < first {
+            assert!(rt; held == file.1);
+        } else {
+            assert!(rt; held == file.1 || all.starts_with(held));
+        }
+        first = first.wrapping_add(2);
+    }
+}
+
+/// Each call of the files fails once, and nothing is printed then.
+#[test]
+fn each_call_of_the_files_fails_once_in_a_make(rt: HostRuntime) -> Result<(), Fail> {
+    let alloc = rt.alloc();
+    let whole = run(alloc, &MAKE, &FILES, &NONE)?;
+    for call in 1..20u32 {
+        let failing = Failing {
+            shelf: &[call],
+            out: &[],
+            err: &[],
+        };
+        let ended = run(alloc, &MAKE, &FILES, &failing)?;
+        if call > 10 {
+            assert_eq!(rt; ended.status, Status::Good);
+            assert_eq!(rt; ended.out.bytes(), whole.out.bytes());
+        } else {
+            assert_eq!(rt; ended.status, Status::WriteFault);
+            assert_eq!(rt; ended.err.bytes(), fault_of_store(call));
+            assert_eq!(rt; ended.out.bytes(), b"".as_slice());
+        }
+        check_files(&rt, &whole, &ended, call);
+    }
+    Ok(())
+}
+
+/// Where the output fails, the five files are whole.
+#[test]
+fn an_output_that_fails_leaves_the_files(rt: HostRuntime) -> Result<(), Fail> {
+    let alloc = rt.alloc();
+    let whole = run(alloc, &MAKE, &FILES, &NONE)?;
+    let failing = Failing {
+        shelf: &[],
+        out: &[1],
+        err: &[],
+    };
+    let ended = run(alloc, &MAKE, &FILES, &failing)?;
+    assert_eq!(rt; ended.status, Status::WriteFault);
+    assert_eq!(rt; ended.err.bytes(), b"write fault output\n".as_slice());
+    check_files(&rt, &whole, &ended, 20);
+    Ok(())
+}
