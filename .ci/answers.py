@@ -78,6 +78,8 @@ def read_topic(path):
 
 def put(cases, kind, name, text):
     if kind == 'text':
+        if name in texts:
+            sys.exit(f'answers: two texts are named {name}')
         texts[name] = text
     elif kind == 'file':
         cases[-1].steps.append((name, text))
