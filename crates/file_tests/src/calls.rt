@@ -15,11 +15,7 @@ pub(crate) fn begin<S: Shelf>(shelf: &mut S, name: &str) -> Result<(), StoreFaul
     shelf.begin(name)
 }
 
-pub(crate) fn append<S: Shelf>(
-    shelf: &mut S,
-    name: &str,
-    piece: &[u8],
-) -> Result<(), StoreFault> {
+pub(crate) fn append<S: Shelf>(shelf: &mut S, name: &str, piece: &[u8]) -> Result<(), StoreFault> {
     shelf.append(name, piece)
 }
 

@@ -28,7 +28,10 @@ fn texts_have_designs(rt: HostRuntime) -> Result<(), Fail> {
             "Module a { ScanRegister r { Attribute a; ScanInSource s; Attribute a; } }",
             "1",
         ),
-        ("Module a { ResetPort r { ActivePolarity 4294967295; } }", "1"),
+        (
+            "Module a { ResetPort r { ActivePolarity 4294967295; } }",
+            "1",
+        ),
         (
             "Module a { Alias x[3:0] = r.s[1], 2'b0 { AccessTogether; RefEnum e; } }",
             "1",

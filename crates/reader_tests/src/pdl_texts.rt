@@ -51,7 +51,10 @@ fn texts_have_procedures(rt: HostRuntime) -> Result<(), Fail> {
             "iProcsForModule m\niProc p {a} {\niRunLoop 5 -tck; iReset; iPrefix a.b; iPrefix -\n}",
             "1:4",
         ),
-        ("iProcsForModule m\niProc p {a} {\niWrite \\\n R 1\n}", "1:1"),
+        (
+            "iProcsForModule m\niProc p {a} {\niWrite \\\n R 1\n}",
+            "1:1",
+        ),
         (
             "iProcsForModule m\niProc p {a} {\n# c \\\n foo\niApply; # d\n}",
             "1:1",
@@ -68,7 +71,10 @@ fn texts_have_procedures(rt: HostRuntime) -> Result<(), Fail> {
             "iProcsForModule m\niProc p {a} {\niWrite R 340282366920938463463374607431768211455\n}",
             "1:1",
         ),
-        ("iProcsForModule m\niProc p {a} {\niWrite R[4294967295] 1\n}", "1:1"),
+        (
+            "iProcsForModule m\niProc p {a} {\niWrite R[4294967295] 1\n}",
+            "1:1",
+        ),
         ("iProcsForModule m\niProc p {a} {\niCall q $a\n}", "1:1"),
     ];
     for (text, wanted) in rows {

@@ -69,12 +69,18 @@ fn texts_have_commands(rt: HostRuntime) -> Result<(), Fail> {
         (b"SDR 64 TDI (008000000000000001);", "SDR 64 TDI 1;"),
         (b"SDR 65 TDI (10000000000000001);", "SDR 65 TDI 1;"),
         (b"RUNTEST 999999999 TCK;", "RUN 999999999;"),
-        (b"TRST OFF;FREQUENCY;FREQUENCY 1.0e6 HZ;ENDDR IDLE;ENDIR IDLE;", ""),
+        (
+            b"TRST OFF;FREQUENCY;FREQUENCY 1.0e6 HZ;ENDDR IDLE;ENDIR IDLE;",
+            "",
+        ),
         (
             b"sir 8 tdi ( A ! 1\n 0);SDR 6 SMASK(3)TDO(2a)TDI(01)mask(f);SDR 6;",
             "SIR 8 TDI 0;SDR 6 TDI 1 TDO A MASK F SMASK 3;SDR 6;",
         ),
-        (b"State Reset;RUNTEST 12 TCK;state idle;", "RESET;RUN 12;IDLE;"),
+        (
+            b"State Reset;RUNTEST 12 TCK;state idle;",
+            "RESET;RUN 12;IDLE;",
+        ),
     ];
     for (text, wanted) in rows {
         assert_eq!(rt; commands_of(alloc, text)?.as_str(), wanted);
