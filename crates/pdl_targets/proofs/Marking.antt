@@ -1,5 +1,5 @@
 -- The bits that select, marked one after the other.
-use Rattle.std.proofs.Common.{◌≡◌, ℕ, suc, ◌+◌, ◌<◌, ◌==◌, Bool, true, false, List, [], ◌∷◌, ◌++◌, length, get_or, drop, map, refl, sym, ap, ◌∙◌, subst, arith}
+use Rattle.std.proofs.Common.{◌≡◌, ℕ, suc, ◌+◌, ◌<◌, ◌==◌, Bool, true, false, List, [], ◌∷◌, ◌++◌, length, get_or, drop, refl, sym, ap, ◌∙◌, arith}
 use Rattle.std.specs.Prelude.{All, not, ◌||◌, flat_map}
 use Rattle.std.specs.List.{list_any}
 use Rattle.std.proofs.Math.Seq.{drop-cons}
@@ -7,7 +7,7 @@ use Rattle.net_graph.specs.declared.net.BitId.{BitId}
 use Rattle.net_graph.specs.declared.net.Mux.{Mux}
 use Rattle.net_graph.specs.declared.net.Net.{Net}
 use Rattle.net_graph.specs.Named.{IsBitOf}
-use Rattle.net_graph.specs.Path.{is_select, same_place, select_bits}
+use Rattle.net_graph.specs.Path.{same_place}
 use Rattle.bit_marks.specs.Laws.{EachBitHasOne, OthersStay, SetIsThere, ZerosAreZero}
 use Rattle.bit_marks.specs.Marks.{HasMark, Marks, mark_at, set_mark, zero_marks}
 use Rattle.pdl_targets.specs.Marked.{is_marked}

@@ -1,6 +1,6 @@
 // Steps bound to register bits, one after the other.
 ghost use Rattle.std.specs.Prelude.{◌≡◌, ◌<◌, ◌+◌, ◌^◌, IfOk, IfErr, OnErr};
-ghost use Rattle.std.specs.Option.{option_map};
+ghost use Rattle.std.specs.Option.{option_map, IfSome};
 ghost use Rattle.net_graph.specs.Nets.{IsNet};
 ghost use Rattle.net_graph.specs.SeenSteps as bit_steps;
 ghost use Rattle.pdl_expand.specs.Values.{seen_step};
@@ -8,7 +8,7 @@ ghost use Rattle.pdl_parser.specs.Views.{seen_target, seen_value};
 ghost use Rattle.pdl_targets.specs.Binding.{empty, feed, finish, with_reads, with_writes, nothing_done};
 ghost use Rattle.pdl_targets.specs.Index.{IsIndex};
 ghost use Rattle.pdl_targets.specs.Seen.{Finishes, Refuses};
-ghost use Rattle.pdl_targets.specs.SeenBinder.{IsMade};
+ghost use Rattle.pdl_targets.specs.SeenBinder.{IsMade, queue_in};
 ghost use Rattle.pdl_targets.specs.SeenGathered.{Binds, IsKept, seen_gathered};
 ghost use Rattle.pdl_targets.specs.SeenPlaces.{places_in};
 ghost use Rattle.pdl_targets.specs.Targets.{Is, found_then, read_bits, write_bits};
@@ -127,6 +127,20 @@ fn made_for(alloc: Global, net: &Net) -> Result<Made, OutOfMemory>
     })
 }
 
+/// What a binder has, which is made where there is none yet.
+fn made_or_new(alloc: Global, net: &Net, made: Option<Made>) -> Result<Made, OutOfMemory>
+    requires net { IsNet net.now }
+    requires made { IfSome made (IsMade net.now) }
+    ensures made { IfOk result (IsMade net.now) }
+    ensures queue { IfOk result (λ m. seen_gathered m.gathered ≡ queue_in made) }
+    ensures none { OnErr result (queue_in made ≡ empty) }
+{
+    match made {
+        Some(made) => Ok(made),
+        None => made_for(alloc, net),
+    }
+}
+
 /// Binds the steps of a procedure to single register bits (IEEE 1687-2014, PDL level 0: iWrite, iRead, iApply, iRunLoop,
 /// iReset).
 ///
@@ -190,10 +204,7 @@ impl<'a> Binder<'a> {
         ensures net { self.new.net ≡ self.old.net }
         ensures form { self.new.form ≡ self.old.form }
     {
-        let mut made = match self.made.take() {
-            Some(made) => made,
-            None => made_for(self.alloc, self.net)?,
-        };
+        let mut made = made_or_new(self.alloc, self.net, self.made.take())?;
         let answer = bind(
             self.alloc,
             self.net,

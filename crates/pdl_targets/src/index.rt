@@ -1,5 +1,5 @@
 // The names of the cells, in an index.
-ghost use Rattle.std.specs.Prelude.{◌≡◌, ◌<◌, ◌≤◌, ◌+◌, ◌^◌, ◌++◌, [], length, map, IfOk, codes};
+ghost use Rattle.std.specs.Prelude.{◌≡◌, ◌<◌, ◌≤◌, ◌+◌, ◌^◌, ◌++◌, [], length, map, take, IfOk, codes};
 ghost use Rattle.ij_text.specs.Numbering.{AreDistinct};
 ghost use Rattle.net_graph.specs.Nets.{IsNet};
 ghost use Rattle.pdl_parser.specs.Views.{bytes_of};
@@ -11,7 +11,7 @@ use crate::select_table::selects_of;
 use bit_marks::BitMarks;
 use ij_bits::{List, OutOfMemory};
 use ij_text::{Name, Names};
-use net_graph::{Net, Node};
+use net_graph::{Net, Node, Thing};
 use std::alloc::Global;
 
 /// What is looked up in a network for each step.
@@ -21,6 +21,8 @@ pub(crate) struct Index {
     pub cells: Names,
     /// The bits that select.
     pub selects: BitMarks,
+    /// The keys of the things in their order, a hint where a thing stands: it is looked at before it is believed.
+    pub things: Names,
 }
 
 /// Adds a dot and a name.
@@ -58,6 +60,27 @@ fn dotted_paths(alloc: Global, nodes: &[Node]) -> Result<Names, OutOfMemory>
     Ok(names)
 }
 
+/// What a thing is looked up by: its name and the cell that it stands in.
+pub(crate) fn thing_key(alloc: Global, node: u32, name: &[u8]) -> Result<Name, OutOfMemory>
+    ensures { IfOk result (λ key. take (length name.now) key.items ≡ name.now) }
+{
+    let mut bytes = Vec::from_slice(alloc, name)?;
+    bytes.extend_from_slice(&node.to_le_bytes())?;
+    Ok(List::from(bytes))
+}
+
+/// The keys of things, each once.
+fn thing_keys(alloc: Global, things: &[Thing]) -> Result<Names, OutOfMemory> {
+    let mut names = Names::new(alloc);
+    for thing in things {
+        let key = thing_key(alloc, thing.node, thing.name.as_slice())?;
+        if names.len() < 0xffff_fffe {
+            names.intern(&key)?;
+        }
+    }
+    Ok(names)
+}
+
 /// The index of a network.
 pub(crate) fn index_of(alloc: Global, net: &Net) -> Result<Index, OutOfMemory>
     requires { IsNet net.now }
@@ -66,5 +89,10 @@ pub(crate) fn index_of(alloc: Global, net: &Net) -> Result<Index, OutOfMemory>
     pdl_expand::paths_differ();
     let cells = dotted_paths(alloc, net.nodes.as_slice())?;
     let selects = selects_of(alloc, net)?;
-    Ok(Index { cells, selects })
+    let things = thing_keys(alloc, net.things.as_slice())?;
+    Ok(Index {
+        cells,
+        selects,
+        things,
+    })
 }

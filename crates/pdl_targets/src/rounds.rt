@@ -1,12 +1,14 @@
 // The rounds of an iApply.
-ghost use Rattle.std.specs.Prelude.{◌≡◌, ◌++◌, [], ◌∷◌, map, filter, cond, All, IfOk, OnOk};
-ghost use Rattle.std.specs.List.{list_any};
+ghost use Rattle.std.specs.Prelude.{◌≡◌, ◌<◌, ◌++◌, [], ◌∷◌, length, map, filter, cond, is_some, All, IfOk, OnOk};
+ghost use Rattle.std.specs.Option.{IfSome};
 ghost use Rattle.net_graph.specs.SeenSteps.{seen_group};
-ghost use Rattle.pdl_targets.specs.Rounds.{Places, exclude, groups, is_in, part_on};
+ghost use Rattle.pdl_targets.specs.Rounds.{Places, groups, is_in, part_on};
 ghost use Rattle.pdl_targets.specs.SeenPlaces.{IsPlaced, meets, numbers, placed_left, placed_round, places_in, seen_placed};
+ghost use Rattle.pdl_targets.specs.TakenRows.{AreRows, rows_around};
 
+use crate::taken_rows::{TakenRow, excludes_any, take_place};
 use ij_bits::{List, OutOfMemory};
-use net_graph::{Branch, Group, ReadBit, WriteBit};
+use net_graph::{Group, ReadBit, WriteBit};
 use net_tree::{Branches, Tree};
 use std::alloc::Global;
 
@@ -43,32 +45,20 @@ fn references<'a>(alloc: Global, all: &'a [Placed]) -> Result<Vec<&'a Placed>, O
     Ok(list)
 }
 
-/// Whether a row of a mux excludes one of some rows.
-fn excludes_one(branch: Branch, others: &[Branch]) -> bool
-    ensures { result ≡ list_any (exclude branch) others.now }
+/// Whether a register stands in another row than one of some registers, by the table of their rows.
+fn meets(rows: &[TakenRow], _taken: &[&Placed], one: &Placed) -> bool
+    requires { AreRows rows.now (rows_around (seen_placed _taken.now)) }
+    ensures { result ≡ meets (seen_placed _taken.now) one.now }
 {
-    others
-        .iter()
-        .any(|other| branch.mux == other.mux && branch.row != other.row)
+    excludes_any(rows, one.place.as_slice())
 }
 
-/// Whether one of some rows excludes one of others.
-fn exclude(branches: &[Branch], others: &[Branch]) -> bool
-    ensures { result ≡ list_any (λ a. list_any (exclude a) others.now) branches.now }
+/// Adds the rows around a register to the table of those around some registers.
+fn take_rows(rows: &mut List<TakenRow>, _taken: &[&Placed], one: &Placed) -> Result<(), OutOfMemory>
+    requires { AreRows rows.old.items (rows_around (seen_placed _taken.now)) }
+    ensures { OnOk result (AreRows rows.new.items (rows_around (seen_placed _taken.now ++ one.now ∷ []))) }
 {
-    branches.iter().any(|branch| excludes_one(*branch, others))
-}
-
-/// Whether a register stands in another row than one of some registers.
-fn meets(taken: &[&Placed], one: &Placed) -> bool
-    ensures { result ≡ meets (seen_placed taken.now) one.now }
-{
-    for other in taken {
-        if exclude(other.place.as_slice(), one.place.as_slice()) {
-            return true;
-        }
-    }
-    false
+    take_place(rows, one.place.as_slice())
 }
 
 /// The registers that a round takes, and those that it leaves.
@@ -76,19 +66,24 @@ fn meets(taken: &[&Placed], one: &Placed) -> bool
 struct Round<'a> {
     taken: Vec<&'a Placed>,
     left: Vec<&'a Placed>,
+    /// The rows around those that it takes.
+    rows: List<TakenRow>,
 }
 
 impl<'a> Round<'a> {
     /// Takes a register, or leaves it where it clashes with one that was taken.
     fn meet(&mut self, one: &'a Placed) -> Result<(), OutOfMemory>
+        requires { AreRows self.old.rows.items (rows_around (seen_placed self.old.taken.items)) }
         ensures taken { OnOk result (seen_placed self.new.taken.items ≡ cond (meets (seen_placed self.old.taken.items) one.now) (seen_placed self.old.taken.items) (seen_placed self.old.taken.items ++ one.now ∷ [])) }
         ensures left { OnOk result (seen_placed self.new.left.items ≡ cond (meets (seen_placed self.old.taken.items) one.now) (seen_placed self.old.left.items ++ one.now ∷ []) (seen_placed self.old.left.items)) }
+        ensures rows { OnOk result (AreRows self.new.rows.items (rows_around (seen_placed self.new.taken.items))) }
     {
-        if meets(&self.taken, one) {
+        if meets(self.rows.as_slice(), &self.taken, one) {
             self.left.push(one)?;
-        } else {
-            self.taken.push(one)?;
+            return Ok(());
         }
+        take_rows(&mut self.rows, &self.taken, one)?;
+        self.taken.push(one)?;
         Ok(())
     }
 }
@@ -101,6 +96,7 @@ fn first_round<'a>(alloc: Global, registers: &[&'a Placed]) -> Result<Round<'a>,
     let mut round = Round {
         taken: Vec::new(alloc),
         left: Vec::new(alloc),
+        rows: List::new(alloc),
     };
     for register in registers {
         round.meet(register)?;
@@ -108,16 +104,69 @@ fn first_round<'a>(alloc: Global, registers: &[&'a Placed]) -> Result<Round<'a>,
     Ok(round)
 }
 
-/// Whether a register is among others.
-fn is_in(registers: &[&Placed], register: u32) -> bool
-    ensures { result ≡ is_in (numbers (seen_placed registers.now)) register }
+/// A register that was looked for: whether it is among others, and where the next one is looked for first.
+#[derive(Clone, Copy, Drop)]
+struct Sought {
+    register: u32,
+    found: bool,
+    next: usize,
+}
+
+/// Where a register stands among others.
+fn place_in(registers: &[&Placed], register: u32) -> Option<usize>
+    ensures found { is_some result ≡ is_in (numbers (seen_placed registers.now)) register }
+    ensures place { IfSome result (λ i. i < length registers.now) }
 {
-    for other in registers {
-        if other.register == register {
-            return true;
+    for i in 0..registers.len() {
+        if registers[i].register == register {
+            return Some(i);
         }
     }
-    false
+    None
+}
+
+/// Looks for a register, at one place before all others.
+fn seek_from(registers: &[&Placed], next: usize, register: u32) -> Sought
+    ensures found { result.found ≡ is_in (numbers (seen_placed registers.now)) register }
+    ensures register { result.register ≡ register }
+{
+    if next < registers.len() && registers[next].register == register {
+        return Sought {
+            register,
+            found: true,
+            next: next + 1,
+        };
+    }
+    match place_in(registers, register) {
+        Some(i) => Sought {
+            register,
+            found: true,
+            next: i + 1,
+        },
+        None => Sought {
+            register,
+            found: false,
+            next,
+        },
+    }
+}
+
+/// Looks for a register, behind the one that was looked for last.
+fn seek(registers: &[&Placed], last: Option<Sought>, register: u32) -> Sought
+    requires { IfSome last (λ s. s.found ≡ is_in (numbers (seen_placed registers.now)) s.register) }
+    ensures found { result.found ≡ is_in (numbers (seen_placed registers.now)) register }
+    ensures register { result.register ≡ register }
+{
+    match last {
+        Some(last) => {
+            if last.register == register {
+                last
+            } else {
+                seek_from(registers, last.next, register)
+            }
+        }
+        None => seek_from(registers, 0, register),
+    }
 }
 
 /// The writes on some registers.
@@ -129,10 +178,13 @@ fn writes_on(
     ensures { IfOk result (λ ws. ws.items ≡ filter (λ w. is_in (numbers (seen_placed registers.now)) w.bit.reg) writes.now) }
 {
     let mut part = List::new(alloc);
+    let mut last = None;
     for write in writes {
-        if is_in(registers, write.bit.reg) {
+        let sought = seek(registers, last, write.bit.reg);
+        if sought.found {
             part.push(*write)?;
         }
+        last = Some(sought);
     }
     Ok(part)
 }
@@ -146,10 +198,13 @@ fn reads_on(
     ensures { IfOk result (λ rs. rs.items ≡ filter (λ r. is_in (numbers (seen_placed registers.now)) r.bit.reg) reads.now) }
 {
     let mut part = List::new(alloc);
+    let mut last = None;
     for read in reads {
-        if is_in(registers, read.bit.reg) {
+        let sought = seek(registers, last, read.bit.reg);
+        if sought.found {
             part.push(*read)?;
         }
+        last = Some(sought);
     }
     Ok(part)
 }

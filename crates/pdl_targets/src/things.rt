@@ -1,6 +1,7 @@
 // What a target names.
-ghost use Rattle.std.specs.Prelude.{◌≡◌, ◌<◌, ◌≤◌, ◌+◌, ◌-◌, ◌^◌, ◌++◌, [], length, map, IfOk};
+ghost use Rattle.std.specs.Prelude.{◌≡◌, ◌==◌, ◌&&◌, ◌<◌, ◌≤◌, ◌+◌, ◌-◌, ◌^◌, ◌++◌, [], length, map, IfOk};
 ghost use Rattle.std.specs.Option.{option_map, IfSome};
+ghost use Rattle.std.specs.Str.{bytes_eq};
 ghost use Rattle.net_graph.specs.Nets.{IsNet, IsThing};
 ghost use Rattle.pdl_parser.specs.Views.{bytes_of};
 ghost use Rattle.pdl_expand.specs.Expansion.{dotted, but_last, last, cell, cell_at};
@@ -10,7 +11,7 @@ ghost use Rattle.pdl_targets.specs.Seen.{Finds};
 ghost use Rattle.pdl_targets.specs.Targets.{has_index, position_of, slice_of, spots_of, thing_at, thing_in, thing_of};
 
 use crate::fault::TargetFault;
-use crate::index::{Index, put_names};
+use crate::index::{Index, put_names, thing_key};
 use ij_bits::{List, OutOfMemory};
 use ij_text::{Name, Place};
 use net_graph::{Net, Spot, Thing};
@@ -46,6 +47,46 @@ fn thing_in<'a>(things: &'a [Thing], node: u32, name: &[u8]) -> Option<&'a Thing
         }
     }
     None
+}
+
+/// Whether a thing stands in a cell and has a name.
+fn is_named(thing: &Thing, node: u32, name: &[u8]) -> bool
+    ensures { result ≡ (thing.now.node == node && bytes_eq thing.now.name.items name.now) }
+{
+    thing.node == node && thing.name.as_slice() == name
+}
+
+/// The thing of this name in a cell, where one is thought to have this number.
+fn thing_near<'a>(net: &'a Net, number: u32, node: u32, name: &[u8]) -> Option<&'a Thing>
+    requires { IsNet net.now }
+    ensures { option_map (λ t. t.now) result ≡ thing_in net.now.things.items node name.now }
+{
+    let number = number as usize;
+    if number < net.things.len() {
+        let thing = net.things.get(number);
+        if is_named(thing, node, name) {
+            return Some(thing);
+        }
+    }
+    thing_in(net.things.as_slice(), node, name)
+}
+
+/// The thing of this name in a cell.
+fn thing_named<'a>(
+    alloc: Global,
+    net: &'a Net,
+    index: &Index,
+    node: u32,
+    name: &[u8],
+) -> Result<Option<&'a Thing>, OutOfMemory>
+    requires { IsNet net.now }
+    ensures { IfOk result (λ o. option_map (λ t. t.now) o ≡ thing_in net.now.things.items node name.now) }
+{
+    let key = thing_key(alloc, node, name)?;
+    match index.things.find(&key) {
+        Some(number) => Ok(thing_near(net, number, node, name)),
+        None => Ok(thing_in(net.things.as_slice(), node, name)),
+    }
 }
 
 /// The path of a cell.
@@ -84,11 +125,12 @@ pub(crate) fn thing_at<'a>(
     node: u32,
     path: &[Name],
 ) -> Result<Option<&'a Thing>, OutOfMemory>
-    requires { IsIndex net.now index.now }
+    requires net { IsNet net.now }
+    requires index { IsIndex net.now index.now }
     ensures { IfOk result (λ o. option_map (λ t. t.now) o ≡ thing_at net.now node (map bytes_of path.now)) }
 {
     match cell_of(alloc, net, index, node, path)? {
-        Some(cell) => Ok(thing_in(net.things.as_slice(), cell, last(path))),
+        Some(cell) => thing_named(alloc, net, index, cell, last(path)),
         None => Ok(None),
     }
 }
