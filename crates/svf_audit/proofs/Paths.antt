@@ -1,10 +1,10 @@
 -- The active path and its bits: its registers take the bits of one list, and every path has room.
 use Rattle.std.proofs.Common.{◌≡◌, ℕ, zero, suc, ◌+◌, ◌-◌, ◌<◌, ◌≤◌, Bool, false, get_or, List, [], ◌∷◌, ◌++◌, length, take, drop, Option, Some, None, refl, sym, ap, ◌∙◌, subst, arith, length-append, append_assoc, add-one}
-use Rattle.std.specs.Prelude.{All, replicate, map, unwrap_or, slice_set, sum}
-use Rattle.std.proofs.lemmas.List.{append-nil, length-map, length-set, drop-drop, drop_more, get_or-set_other, length-replicate}
+use Rattle.std.specs.Prelude.{All, replicate, map, unwrap_or, slice_range, slice_set, sum}
+use Rattle.std.proofs.lemmas.List.{append-nil, length-map, length-set, drop_more, get_or-set_other, length-replicate, take_all}
 use Rattle.std.proofs.lemmas.List.Elements.{All-append, All-cons, All-nil}
 use Rattle.std.proofs.lemmas.List.Sums.{sum_by-cons}
-use Rattle.net_graph.specs.Chain.{NotIn, IsRoute, chain, put_chain}
+use Rattle.net_graph.specs.Chain.{NotIn, IsRoute, chain}
 use Rattle.net_graph.specs.Held.{AreHolds}
 use Rattle.net_graph.specs.Named.{bits_from, width_of, IsBitOf}
 use Rattle.net_graph.specs.Nets.{IsNet}
@@ -14,7 +14,6 @@ use Rattle.net_graph.specs.Signals.{Holds, bits_at}
 use Rattle.net_graph.specs.declared.net.BitId.{BitId}
 use Rattle.net_graph.specs.declared.net.Net.{Net}
 use Rattle.net_graph.specs.declared.net.Reg.{Reg}
-use Rattle.net_graph.proofs.Chains.{chain-set, put_chain-set}
 use Rattle.net_graph.proofs.PlainNet.{length-bits_from}
 use Rattle.net_graph.proofs.Shapes.{length_at, total, reset-shape, length-chain}
 use Rattle.net_graph.proofs.Tracing.{trace_route}
@@ -33,36 +32,6 @@ count_of net s h = sym (length-map s length) ∙ ap length h ∙ length-map net.
 
 pub route_in : (net : Net) (holds s : Holds) → IsNet net → AreHolds net s → IsRoute (length s) (path_of net holds)
 route_in net holds s w h = subst (λ n. IsRoute n (path_of net holds)) (sym (count_of net s h)) (route_is net holds w)
-
--- one more register has taken its bits
-pub unload_step : (r : ℕ) (rs : List ℕ) (at : ℕ) (bits : List Bool) (s : Holds) → NotIn r rs → put_chain rs (drop (at + length (bits_at s r)) bits) (slice_set s r (take (length (bits_at s r)) (drop at bits))) ≡ put_chain (r ∷ rs) (drop at bits) s
-unload_step r rs at bits s h =
-    let w = length (bits_at s r) in
-    ap (λ b. put_chain rs b (slice_set s r (take w (drop at bits)))) (sym (drop-drop w at bits))
-    ∙ put_chain-set rs (drop w (drop at bits)) s r (take w (drop at bits)) h
-
-pub unload_fits : (r : ℕ) (rs : List ℕ) (at n : ℕ) (s : Holds) (v : List Bool) → NotIn r rs → at + length (chain (r ∷ rs) s) ≡ n → (at + length (bits_at s r)) + length (chain rs (slice_set s r v)) ≡ n
-unload_fits r rs at n s v h e =
-    omega (arith, e, ap length (chain-set rs s r v h), length-append (bits_at s r) (chain rs s))
-
-pub unload_turn : (path : List ℕ) (i at w : ℕ) (bits : List Bool) (s t : Holds) → i < length path → IsRoute (length s) (drop i path) → w ≡ length (bits_at s (get_or path i 0)) → t ≡ slice_set s (get_or path i 0) (take (length (bits_at s (get_or path i 0))) (drop at bits)) → at + length (chain (drop i path) s) ≡ length bits
-    → (put_chain (drop (i + 1) path) (drop (at + w) bits) t ≡ put_chain (drop i path) (drop at bits) s) × IsRoute (length t) (drop (i + 1) path) × (at + w + length (chain (drop (i + 1) path) t) ≡ length bits)
-unload_turn path i at w bits s t within route width new fits =
-    let r = get_or path i 0 in
-    let rs = drop (i + 1) path in
-    let v = take (length (bits_at s r)) (drop at bits) in
-    let more : drop i path ≡ r ∷ rs = drop_more path i 0 within in
-    let here : IsRoute (length s) (r ∷ rs) = subst (IsRoute (length s)) more route in
-    let count : length t ≡ length s = ap length new ∙ length-set s r v in (
-      ap (λ n. put_chain rs (drop (at + n) bits) t) width
-          ∙ ap (put_chain rs (drop (at + length (bits_at s r)) bits)) new
-          ∙ unload_step r rs at bits s here.1
-          ∙ ap (λ p. put_chain p (drop at bits) s) (sym more),
-      subst (λ n. IsRoute n rs) (sym count) here.2,
-      ap (λ n. at + n + length (chain rs t)) width
-          ∙ ap (λ x. at + length (bits_at s r) + length (chain rs x)) new
-          ∙ unload_fits r rs at (length bits) s v here.1 (ap (λ p. at + length (chain p s)) (sym more) ∙ fits),
-    )
 
 -- ---- every path has room
 
@@ -169,3 +138,18 @@ bits_of_net net holds [] h = All-nil (IsBitOf net)
 bits_of_net net holds (r ∷ rs) h =
     let wide : length (bits_at holds r) ≡ width_of net r = length_at holds r ∙ ap (λ ns. get_or ns r 0) h in
     All-append (IsBitOf net) (bits_from r 0 (length (bits_at holds r))) (bits_on holds rs) (bits_below (IsBitOf net) r 0 (length (bits_at holds r)) (λ p l. omega (arith, l, wide))) (bits_of_net net holds rs h)
+
+-- ---- what the bits of a path hold
+
+pub whole_range : (bits : List Bool) → slice_range bits 0 (length bits) ≡ bits
+whole_range bits = let all : length bits - 0 ≡ length bits = omega arith in ap (λ n. take n bits) all ∙ take_all (length bits) bits (omega arith)
+
+-- one more register of a path
+pub chain_next : (holds : Holds) (path : List ℕ) (i : ℕ) (done now whole : List Bool) → i < length path → now ≡ done ++ bits_at holds (get_or path i 0) → done ++ chain (drop i path) holds ≡ whole → now ++ chain (drop (i + 1) path) holds ≡ whole
+chain_next holds path i done now whole l is was =
+    let rest = chain (drop (i + 1) path) holds in
+    ap (λ x. x ++ rest) is ∙ append_assoc done (bits_at holds (get_or path i 0)) rest ∙ ap (λ p. done ++ chain p holds) (sym (drop_more path i 0 l)) ∙ was
+
+pub chain_length : (holds : Holds) (path : List ℕ) (i : ℕ) → i < length path → length (chain (drop i path) holds) ≡ length (bits_at holds (get_or path i 0)) + length (chain (drop (i + 1) path) holds)
+chain_length holds path i l =
+    ap (λ p. length (chain p holds)) (drop_more path i 0 l) ∙ length-append (bits_at holds (get_or path i 0)) (chain (drop (i + 1) path) holds)

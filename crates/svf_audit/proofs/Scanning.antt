@@ -1,10 +1,12 @@
 -- A data scan of the network on the registers that an audit keeps, in the words of the definition.
 use Rattle.std.proofs.Common.{◌≡◌, ℕ, suc, ◌+◌, add-one, Bool, true, false, List, length, sym, ap, ◌∙◌, subst}
-use Rattle.std.specs.Prelude.{◌&&◌, ◌||◌, not, Result, Ok, Err, OnOk, IfErr, IfOk}
+use Rattle.std.specs.Prelude.{◌&&◌, ◌||◌, filter, not, Result, Ok, Err, OnOk, IfErr, IfOk}
 use Rattle.std.specs.List.{list_any, list_all}
 use Rattle.net_graph.specs.declared.device.Device.{Device}
+use Rattle.net_graph.specs.declared.net.BitId.{BitId}
 use Rattle.net_graph.specs.declared.net.Net.{Net}
 use Rattle.net_graph.specs.Chain.{chain, put_chain}
+use Rattle.net_graph.specs.Path.{is_select}
 use Rattle.net_graph.specs.Resets.{reset_holds}
 use Rattle.net_graph.specs.Signals.{Holds}
 use Rattle.svf_writer.specs.SeenCommands.{SeenScan}
@@ -14,7 +16,7 @@ use Rattle.svf_audit.specs.Audit.{Reading, State, bits_on, changed, compares, do
 use Rattle.svf_audit.specs.Auditing.{act, ok, state_of, Step, Stops}
 use Rattle.svf_audit.specs.Kept.{seen_kept}
 use Rattle.svf_audit.specs.Left.{work_left}
-use Rattle.svf_audit.specs.Registers.{is_changed, path_in, AreFound, AreShifted}
+use Rattle.svf_audit.specs.Registers.{differs, path_in, AreShifted}
 use Rattle.svf_audit.specs.Work.{Work}
 use Rattle.svf_audit.specs.declared.answer.Cause.{Cause}
 use Rattle.svf_audit.specs.declared.auditor.Auditor.{Auditor}
@@ -23,23 +25,26 @@ use Rattle.svf_audit.specs.declared.auditor.Halt.TheVariants.{OutOfMemory as Mem
 use Rattle.svf_audit.specs.declared.kept.Kept.{Kept}
 use Rattle.svf_audit.specs.declared.registers.Registers.{Registers}
 use Rattle.svf_audit.proofs.Going.{scan_acts}
+use Rattle.svf_audit.proofs.Moving.{filter_both}
 use Rattle.svf_audit.proofs.Walks.{none_kept}
 
 not_or : (a b t : Bool) → (a || b) ≡ t → (not a && not b) ≡ not t
 not_or true b t e = ap not e
 not_or false b t e = ap not e
 
-module _ (r : Registers) (f : AreFound r) where
-  changed_as : is_empty (changed r.net.now (path_in r) r.holds r.after) ≡ not (list_any (is_changed r.net.now r.holds r.after) r.bits.items)
+module _ (r : Registers) (s : AreShifted r) where
+  pub changed_as : changed r.net.now (path_in r) r.holds r.after ≡ filter (λ b. not (is_select r.net.now b)) r.moved.items
   changed_as =
-      none_kept (is_changed r.net.now r.holds r.after) (bits_on r.holds (path_in r)) ∙ ap (λ bs. not (list_any (is_changed r.net.now r.holds r.after) bs)) (sym f.bits)
+      filter_both (λ b. not (is_select r.net.now b)) (differs r.holds r.after) (bits_on r.holds (path_in r)) ∙ ap (filter (λ b. not (is_select r.net.now b))) (sym s.moved)
 
   -- whether nothing is done
-  pub silent_as : (acts some compared : Bool) → some ≡ compared → acts ≡ (list_any (is_changed r.net.now r.holds r.after) r.bits.items || some) → (is_empty (changed r.net.now (path_in r) r.holds r.after) && not compared) ≡ not acts
+  pub silent_as : (acts some compared : Bool) → some ≡ compared → acts ≡ (list_any (λ b. not (is_select r.net.now b)) r.moved.items || some) → (is_empty (changed r.net.now (path_in r) r.holds r.after) && not compared) ≡ not acts
   silent_as acts some compared c e =
-      ap (λ t. t && not compared) changed_as
-      ∙ ap (λ t. not (list_any (is_changed r.net.now r.holds r.after) r.bits.items) && not t) (sym c)
-      ∙ not_or (list_any (is_changed r.net.now r.holds r.after) r.bits.items) some acts (sym e)
+      let plain : BitId → Bool = λ b. not (is_select r.net.now b) in
+      ap (λ bs. is_empty bs && not compared) changed_as
+      ∙ ap (λ t. t && not compared) (none_kept plain r.moved.items)
+      ∙ ap (λ t. not (list_any plain r.moved.items) && not t) (sym c)
+      ∙ not_or (list_any plain r.moved.items) some acts (sym e)
 
 pub act_silent : (net : Net) (device : Device) (a : State) (x : SeenScan) (now : Holds) → (is_empty (changed net (path_of net a.holds) a.holds now) && not (compares (played a.dr x))) ≡ true → act net device a x now ≡ ok (scanned net device a x now a.readings a.left)
 act_silent net device a x now e =
@@ -63,11 +68,11 @@ module _ (a : Auditor) (r : Registers) (x : SeenScan) (net : r.net.now ≡ a.reg
   chain_as =
       ap (λ n. length (chain (path_of n r.holds) r.holds)) net ∙ ap (λ h. length (chain (path_of a.registers.net.now h) h)) holds
 
-  pub after_as : AreShifted r → r.tdi.items ≡ tdi → r.after ≡ after
+  pub after_as : AreShifted r → r.chain.items ≡ tdi → r.after ≡ after
   after_as s t =
       s.after
-      ∙ ap (λ n. put_chain (path_of n r.holds) r.tdi.items r.holds) net
-      ∙ ap (λ h. put_chain (path_of a.registers.net.now h) r.tdi.items h) holds
+      ∙ ap (λ n. put_chain (path_of n r.holds) r.chain.items r.holds) net
+      ∙ ap (λ h. put_chain (path_of a.registers.net.now h) r.chain.items h) holds
       ∙ ap (λ bits. put_chain path bits a.registers.holds) t
 
   pub rows_as : r.after ≡ after → list_all (has_row r.after) r.net.now.muxes.items ≡ list_all (has_row after) a.registers.net.now.muxes.items

@@ -1,9 +1,10 @@
 // How far an audit has come.
-ghost use Rattle.std.specs.Prelude.{◌≡◌, ◌+◌, ◌<◌, ◌^◌, ◌∷◌, ◌++◌, ◌||◌, [], None, Some, true, false, All, length, map, IfErr, IfOk, IsFalse, IsTrue, OnErr, OnOk};
+ghost use Rattle.std.specs.Prelude.{◌≡◌, ◌+◌, ◌<◌, ◌^◌, ◌∷◌, ◌++◌, ◌||◌, [], None, Some, true, false, All, length, map, not, IfErr, IfOk, IsFalse, IsTrue, OnErr, OnOk};
 ghost use Rattle.std.specs.List.{list_any};
 ghost use Rattle.std.specs.Option.{is_some};
 ghost use Rattle.net_graph.specs.Chain.{chain};
 ghost use Rattle.net_graph.specs.Nets.{IsNet};
+ghost use Rattle.net_graph.specs.Path.{is_select};
 ghost use Rattle.net_graph.specs.SeenSteps.{seen_group, seen_step};
 ghost use Rattle.net_graph.specs.Steps.{IsGroup, IsStep};
 ghost use Rattle.svf_writer.specs.Fits.{FitsAfter, HasLength};
@@ -15,14 +16,14 @@ ghost use Rattle.svf_audit.specs.Audit.{do_group as do_due, reset as reset_by, s
 ghost use Rattle.svf_audit.specs.Auditing.{act as act_of, last_dr, last_ir, state_of, AreNoted, DidAct, DidGroup, DidReach, DidReset, DidScan, Does, FitsNext, Follows, IsAuditor, Stops};
 ghost use Rattle.svf_audit.specs.Kept.{last_length, looked_for, seen_kept, AreKept};
 ghost use Rattle.svf_audit.specs.Left.{work_left, IsWithin};
-ghost use Rattle.svf_audit.specs.Registers.{is_changed, path_in, AreFound, AreRegisters, AreShifted, AreStill};
+ghost use Rattle.svf_audit.specs.Registers.{path_in, AreFound, AreRegisters, AreShifted, AreStill};
 ghost use Rattle.svf_audit.specs.Work.{due};
 
 use crate::answer::Cause;
 use crate::kept::{Kept, compares_some, is_number, kept_after, nothing_kept};
 use crate::left::Left;
 use crate::registers::Registers;
-use crate::scan::{does_reads, does_writes, have_rows, some_changed};
+use crate::scan::{does_reads, does_writes, some_data};
 use ij_bits::{List, OutOfMemory};
 use net_graph::{BitStep, Device, Group, Net};
 use std::alloc::Global;
@@ -132,14 +133,12 @@ impl<'a> Auditor<'a> {
     /// Whether the scan at hand changes or compares a data bit.
     fn acts(&self, kept: &Kept, tdo: &Part) -> bool
         requires sound { AreRegisters self.now.registers }
-        requires found { AreFound self.now.registers }
-        requires shifted { AreShifted self.now.registers }
         requires kept { AreKept kept.now }
         requires tdo { HasLength kept.now.len tdo.now }
-        ensures { result ≡ (list_any (is_changed self.now.registers.net.now self.now.registers.holds self.now.registers.after) self.now.registers.bits.items || list_any is_some (looked_for kept.now tdo.now)) }
+        ensures { result ≡ (list_any (λ b. not (is_select self.now.registers.net.now b)) self.now.registers.moved.items || list_any is_some (looked_for kept.now tdo.now)) }
     {
         let r = &self.registers;
-        some_changed(r.net, r.bits.as_slice(), &r.holds, &r.after) || compares_some(kept, tdo)
+        some_data(r.net, &r.selects, r.moved.as_slice()) || compares_some(kept, tdo)
     }
 
     /// Whether the scan at hand does a group, and why not.
@@ -155,7 +154,8 @@ impl<'a> Auditor<'a> {
     {
         let r = &self.registers;
         let bits = r.bits.as_slice();
-        if !does_writes(r.net, bits, &r.holds, &r.after, group) {
+        let moved = r.moved.as_slice();
+        if !does_writes(r.net, &r.selects, moved, &r.after, group) {
             return Err(Cause::Write);
         }
         if !does_reads(kept, tdo, r.path.as_slice(), bits, group) {
@@ -238,7 +238,7 @@ impl<'a> Auditor<'a> {
             return Err(Halt::Cause(Cause::Length));
         }
         self.registers.shift(kept);
-        if !have_rows(self.registers.net, &self.registers.after) {
+        if !self.registers.have_rows() {
             return Err(Halt::Cause(Cause::Select));
         }
         if let Err(halt) = self.act(kept, scan) {

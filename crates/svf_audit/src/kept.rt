@@ -1,14 +1,13 @@
 // TDI and MASK that hold over from scan to scan.
-ghost use Rattle.std.specs.Prelude.{◌≡◌, ◌+◌, ◌<◌, ◌≤◌, length, slice_index_or, false, Some, None, get_or};
+ghost use Rattle.std.specs.Prelude.{◌≡◌, ◌+◌, ◌<◌, ◌≤◌, length, slice_index_or, slice_range, false, Some, None, get_or};
 ghost use Rattle.std.specs.List.{list_any};
 ghost use Rattle.std.specs.Option.{is_some};
-ghost use Rattle.ij_bits.specs.BitLists.{bits_eq, bits_of};
+ghost use Rattle.ij_bits.specs.BitLists.{bits_eq, bits_of, number_of};
 ghost use Rattle.svf_writer.specs.Fits.{FitsAfter, HasLength};
 ghost use Rattle.svf_writer.specs.SeenCommands.{seen_scan};
-ghost use Rattle.svf_audit.specs.Kept.{AreKept, last_length, lent, looked_for, seen_kept, seen_tdi};
+ghost use Rattle.svf_audit.specs.Kept.{AreKept, has_one, last_length, lent, looked_for, seen_kept, seen_tdi};
 ghost use Rattle.tap_machine.specs.Play.{after_scan, no_scan};
 
-use ij_bits::Ring;
 use svf_writer::{Part, Scan};
 
 /// The length of the last scan of a kind, and the parts of the commands that it took its TDI and MASK from. Without MASK
@@ -96,6 +95,19 @@ pub(crate) fn expected_at(kept: &Kept, tdo: &Part, k: u32) -> Option<bool>
     }
 }
 
+/// Whether MASK compares one of the `n` positions from position `from` on.
+fn compares_one_of(kept: &Kept, from: u32, n: u32) -> bool
+    requires few { n ≤ 64 }
+    requires within { from + n ≤ kept.now.len }
+    requires sound { AreKept kept.now }
+    ensures { result ≡ has_one (slice_range (seen_kept kept.now).mask from (from + n)) }
+{
+    match kept.mask {
+        Some(mask) => mask.number(from, n) != 0,
+        None => n != 0,
+    }
+}
+
 /// Whether some bit is compared.
 pub(crate) fn compares_some(kept: &Kept, tdo: &Part) -> bool
     requires sound { AreKept kept.now }
@@ -105,8 +117,10 @@ pub(crate) fn compares_some(kept: &Kept, tdo: &Part) -> bool
     if !tdo.is_given() {
         return false;
     }
-    for k in 0..kept.len {
-        if is_compared(kept, k) {
+    let n = kept.len;
+    for word in 0..n.div_ceil(64) {
+        let from = 64 * word;
+        if compares_one_of(kept, from, (n - from).min(64)) {
             return true;
         }
     }
@@ -114,7 +128,7 @@ pub(crate) fn compares_some(kept: &Kept, tdo: &Part) -> bool
 }
 
 /// The bit of TDI at a position, the one shifted first at 0.
-fn tdi_at(kept: &Kept, k: u32) -> bool
+pub(crate) fn tdi_at(kept: &Kept, k: u32) -> bool
     requires within { k < length (seen_tdi kept.now) }
     ensures { result ≡ slice_index_or (seen_tdi kept.now) k false }
 {
@@ -124,16 +138,15 @@ fn tdi_at(kept: &Kept, k: u32) -> bool
     }
 }
 
-/// Makes a list be TDI.
-pub(crate) fn take_tdi(kept: &Kept, into: &mut Ring)
-    requires sound { AreKept kept.now }
-    requires room { kept.now.len ≤ length into.old.items + into.old.spare }
-    ensures items { into.new.items ≡ (seen_kept kept.now).tdi }
-    ensures room { length into.new.items + into.new.spare ≡ length into.old.items + into.old.spare }
+/// The number of the `n` bits of TDI from position `from` on, the first of them the lowest.
+pub(crate) fn tdi_number(kept: &Kept, from: u32, n: u32) -> u64
+    requires few { n ≤ 64 }
+    requires within { from + n ≤ length (seen_tdi kept.now) }
+    ensures { result ≡ number_of (slice_range (seen_tdi kept.now) from (from + n)) }
 {
-    into.clear();
-    for k in 0..kept.len {
-        into.push_reserved(tdi_at(kept, k));
+    match kept.tdi {
+        Some(tdi) => tdi.number(from, n),
+        None => 0,
     }
 }
 

@@ -1,32 +1,46 @@
 // The scan registers of a network, before and behind a scan.
-ghost use Rattle.std.specs.Prelude.{◌≡◌, ◌+◌, ◌≤◌, ◌++◌, [], length, IfOk};
-ghost use Rattle.net_graph.specs.Chain.{IsRoute, chain, put_chain};
-ghost use Rattle.net_graph.specs.Held.{AreHolds};
+ghost use Rattle.std.specs.Prelude.{◌≡◌, ◌+◌, ◌<◌, ◌≤◌, ◌++◌, [], true, false, length, map, All, IfOk};
+ghost use Rattle.std.specs.List.{list_all, list_any};
+ghost use Rattle.net_graph.specs.declared.net.BitId.{BitId as ABit};
+ghost use Rattle.net_graph.specs.Chain.{IsRoute, chain};
+ghost use Rattle.net_graph.specs.Held.{AreHolds, IsHeld};
 ghost use Rattle.net_graph.specs.Named.{bits_from};
 ghost use Rattle.net_graph.specs.Nets.{IsNet};
+ghost use Rattle.net_graph.specs.Path.{is_select, same_place};
 ghost use Rattle.net_graph.specs.Resets.{reset_holds, start_holds};
-ghost use Rattle.svf_audit.specs.Audit.{bits_on, path_of};
+ghost use Rattle.net_graph.specs.Signals.{hold_at};
+ghost use Rattle.svf_audit.specs.Audit.{bits_on, has_row, path_of};
 ghost use Rattle.svf_audit.specs.Kept.{AreKept, seen_tdi};
-ghost use Rattle.svf_audit.specs.Registers.{path_in, AreFound, AreRegisters, AreShifted, AreStill};
+ghost use Rattle.svf_audit.specs.Registers.{path_in, to_move, AreFound, AreListed, AreRegisters, AreShifted, AreStill, IsTurned};
 
-use crate::kept::{Kept, take_tdi};
-use ij_bits::{List, OutOfMemory, Ring};
+use crate::kept::{Kept, tdi_at, tdi_number};
+use crate::scan::{have_rows, some_select};
+use crate::select_table::selects_of;
+use bit_marks::BitMarks;
+use ij_bits::{Bits, List, OutOfMemory};
 use net_graph::{BitId, Holds, Net, path_into};
 use std::alloc::Global;
 
 /// The most bits that a network has.
 const MOST_BITS: u32 = 4096;
 
-/// The scan registers: what they hold, the active path, nearest scan-out first, and its bits; and what they hold behind the scan
-/// at hand, with the bits that it shifts in.
+/// The scan registers: what they hold, the active path, nearest scan-out first, its bits and what these hold; and what the
+/// registers hold behind the scan at hand, with the bits that it changes.
 #[derive(Drop)]
 pub(crate) struct Registers<'a> {
     pub net: &'a Net,
+    /// A mark at each bit that selects.
+    pub selects: BitMarks,
     pub holds: Holds,
     pub path: List<u32>,
     pub bits: List<BitId>,
-    pub tdi: Ring,
+    pub chain: Bits,
+    /// Whether these three are those of the active path.
+    pub found: bool,
+    /// Whether it is known that each mux has a row for its select value.
+    pub listed: bool,
     pub after: Holds,
+    pub moved: List<BitId>,
 }
 
 /// Leaves the active path in a list, nearest scan-out first, and nothing where there is no path.
@@ -65,18 +79,30 @@ fn find_bits(path: &[u32], holds: &Holds, bits: &mut List<BitId>)
     }
 }
 
-/// Gives the registers of a path the bits of its list.
-fn put_bits(path: &[u32], from: &Ring, into: &mut Holds)
-    requires route { IsRoute (length into.old) path.now }
-    requires fits { length from.now.items ≡ length (chain path.now into.old) }
-    ensures { into.new ≡ put_chain path.now from.now.items into.old }
+/// Leaves what the bits of a path hold in a list.
+fn find_chain(path: &[u32], holds: &Holds, into: &mut Bits)
+    requires route { IsRoute (length holds.now) path.now }
+    requires few { length (chain path.now holds.now) ≤ 4096 }
+    requires room { length (chain path.now holds.now) ≤ length into.old.items + into.old.spare }
+    ensures items { into.new.items ≡ chain path.now holds.now }
+    ensures room { length into.new.items + into.new.spare ≡ length into.old.items + into.old.spare }
 {
-    let _all = from.len();
-    let mut at = 0;
+    into.clear();
     for reg in path {
-        let width = into.register(*reg).len();
-        into.take_part(*reg, from, at);
-        at += width;
+        let bits = holds.register(*reg);
+        into.append_part_reserved(bits, 0, bits.len());
+    }
+}
+
+/// Makes bits hold what they hold in another list, from which no other bit differs.
+fn put_bits(bits: &[BitId], from: &Holds, into: &mut Holds)
+    requires shape { map length into.old ≡ map length from.now }
+    requires there { All (IsHeld from.now) bits.now }
+    requires others { (b : ABit) → list_any (same_place b) bits.now ≡ false → hold_at into.old b ≡ hold_at from.now b }
+    ensures { into.new ≡ from.now }
+{
+    for bit in bits {
+        into.set(*bit, from.get(*bit));
     }
 }
 
@@ -107,32 +133,46 @@ impl<'a> Registers<'a> {
         ensures sound { IfOk result AreRegisters }
         ensures still { IfOk result AreStill }
     {
+        let selects = selects_of(alloc, net)?;
         let holds = Holds::power_up(alloc, net)?;
-        let after = Holds::power_up(alloc, net)?;
         let path = room_for_path(alloc, net.regs.len())?;
         let bits = room_for_bits(alloc)?;
-        let tdi = Ring::with_room(alloc, MOST_BITS)?;
+        let chain = Bits::with_room(alloc, MOST_BITS)?;
+        let after = Holds::power_up(alloc, net)?;
+        let moved = room_for_bits(alloc)?;
         Ok(Registers {
             net,
+            selects,
             holds,
             path,
             bits,
-            tdi,
+            chain,
+            found: false,
+            listed: false,
             after,
+            moved,
         })
     }
 
-    /// Finds the active path.
+    /// Finds the active path, where it isn't known.
     pub fn find(&mut self)
         requires sound { AreRegisters self.old }
+        requires still { AreStill self.old }
         ensures sound { AreRegisters self.new }
+        ensures still { AreStill self.new }
         ensures found { AreFound self.new }
+        ensures chain { self.new.chain.items ≡ chain (path_in self.new) self.new.holds }
         ensures net { self.new.net.now ≡ self.old.net.now }
         ensures holds { self.new.holds ≡ self.old.holds }
-        ensures after { self.new.after ≡ self.old.after }
     {
+        if self.found {
+            return;
+        }
         find_path(self.net, &self.holds, &mut self.path);
-        find_bits(self.path.as_slice(), &self.holds, &mut self.bits);
+        let path = self.path.as_slice();
+        find_bits(path, &self.holds, &mut self.bits);
+        find_chain(path, &self.holds, &mut self.chain);
+        self.found = true;
     }
 
     /// How many bits the active path has.
@@ -144,22 +184,113 @@ impl<'a> Registers<'a> {
         self.bits.len() as u32
     }
 
-    /// Puts TDI on the path: what the registers hold behind the scan. What they hold stays.
+    /// Puts one bit of TDI on the path.
+    fn turn(&mut self, kept: &Kept, k: u32)
+        requires kept { AreKept kept.now }
+        requires turned { IsTurned self.old (seen_tdi kept.now) k }
+        requires within { k < length self.old.chain.items }
+        ensures turned { IsTurned self.new (seen_tdi kept.now) (k + 1) }
+        ensures moves { to_move self.new (seen_tdi kept.now) (k + 1) ≡ to_move self.old (seen_tdi kept.now) k }
+        ensures length { length self.new.chain.items ≡ length self.old.chain.items }
+        ensures others { self.new ≡ record self.old { chain = self.new.chain; after = self.new.after; moved = self.new.moved } }
+    {
+        let value = tdi_at(kept, k);
+        if self.chain.get(k) == value {
+            return;
+        }
+        let bit = *self.bits.get(k as usize);
+        self.chain.set(k, value);
+        self.after.set(bit, value);
+        self.moved.push_reserved(bit);
+    }
+
+    /// Puts bits of TDI on the path, one after the other.
+    fn turn_some(&mut self, kept: &Kept, from: u32, n: u32)
+        requires kept { AreKept kept.now }
+        requires turned { IsTurned self.old (seen_tdi kept.now) from }
+        requires within { from + n ≤ length self.old.chain.items }
+        ensures turned { IsTurned self.new (seen_tdi kept.now) (from + n) }
+        ensures moves { to_move self.new (seen_tdi kept.now) (from + n) ≡ to_move self.old (seen_tdi kept.now) from }
+        ensures length { length self.new.chain.items ≡ length self.old.chain.items }
+        ensures others { self.new ≡ record self.old { chain = self.new.chain; after = self.new.after; moved = self.new.moved } }
+    {
+        for i in 0..n {
+            self.turn(kept, from + i);
+        }
+    }
+
+    /// Puts at most 64 bits of TDI on the path. Nothing is done where they are there already.
+    fn turn_word(&mut self, kept: &Kept, from: u32, n: u32)
+        requires kept { AreKept kept.now }
+        requires few { n ≤ 64 }
+        requires turned { IsTurned self.old (seen_tdi kept.now) from }
+        requires within { from + n ≤ length self.old.chain.items }
+        ensures turned { IsTurned self.new (seen_tdi kept.now) (from + n) }
+        ensures moves { to_move self.new (seen_tdi kept.now) (from + n) ≡ to_move self.old (seen_tdi kept.now) from }
+        ensures length { length self.new.chain.items ≡ length self.old.chain.items }
+        ensures others { self.new ≡ record self.old { chain = self.new.chain; after = self.new.after; moved = self.new.moved } }
+    {
+        if self.chain.number(from, n) == tdi_number(kept, from, n) {
+            return;
+        }
+        self.turn_some(kept, from, n);
+    }
+
+    /// Puts TDI on the path.
+    fn turn_all(&mut self, kept: &Kept)
+        requires kept { AreKept kept.now }
+        requires turned { IsTurned self.old (seen_tdi kept.now) 0 }
+        ensures turned { IsTurned self.new (seen_tdi kept.now) (length self.old.chain.items) }
+        ensures moves { to_move self.new (seen_tdi kept.now) (length self.old.chain.items) ≡ to_move self.old (seen_tdi kept.now) 0 }
+        ensures others { self.new ≡ record self.old { chain = self.new.chain; after = self.new.after; moved = self.new.moved } }
+    {
+        let n = self.chain.len();
+        for word in 0..n.div_ceil(64) {
+            let from = 64 * word;
+            self.turn_word(kept, from, (n - from).min(64));
+        }
+    }
+
+    /// Puts TDI on the path: what the registers hold behind the scan, and which bits change. What they hold stays.
     pub fn shift(&mut self, kept: &Kept)
         requires sound { AreRegisters self.old }
-        requires found { AreFound self.old }
         requires still { AreStill self.old }
+        requires found { AreFound self.old }
+        requires chain { self.old.chain.items ≡ chain (path_in self.old) self.old.holds }
         requires kept { AreKept kept.now }
         requires fits { kept.now.len ≡ length (chain (path_in self.old) self.old.holds) }
         ensures sound { AreRegisters self.new }
         ensures found { AreFound self.new }
         ensures shifted { AreShifted self.new }
-        ensures tdi { self.new.tdi.items ≡ seen_tdi kept.now }
+        ensures listed { AreListed self.new }
+        ensures tdi { self.new.chain.items ≡ seen_tdi kept.now }
         ensures net { self.new.net.now ≡ self.old.net.now }
         ensures holds { self.new.holds ≡ self.old.holds }
     {
-        take_tdi(kept, &mut self.tdi);
-        put_bits(self.path.as_slice(), &self.tdi, &mut self.after);
+        self.moved.clear();
+        self.turn_all(kept);
+    }
+
+    /// Whether a bit that selects changes.
+    fn steers(&self) -> bool
+        requires { AreRegisters self.now }
+        ensures { result ≡ list_any (is_select self.now.net.now) self.now.moved.items }
+    {
+        some_select(self.net, &self.selects, self.moved.as_slice())
+    }
+
+    /// Whether each mux has a row for the select value that it gets.
+    pub fn have_rows(&self) -> bool
+        requires sound { AreRegisters self.now }
+        requires found { AreFound self.now }
+        requires shifted { AreShifted self.now }
+        requires listed { AreListed self.now }
+        ensures { result ≡ list_all (has_row self.now.after) self.now.net.now.muxes.items }
+    {
+        if self.listed && !self.steers() {
+            return true;
+        }
+        have_rows(self.net, &self.after)
     }
 
     /// The update: the registers hold what was shifted in.
@@ -167,12 +298,15 @@ impl<'a> Registers<'a> {
         requires sound { AreRegisters self.old }
         requires found { AreFound self.old }
         requires shifted { AreShifted self.old }
+        requires rows { list_all (has_row self.old.after) self.old.net.now.muxes.items ≡ true }
         ensures sound { AreRegisters self.new }
         ensures still { AreStill self.new }
         ensures net { self.new.net.now ≡ self.old.net.now }
         ensures holds { self.new.holds ≡ self.old.after }
     {
-        put_bits(self.path.as_slice(), &self.tdi, &mut self.holds);
+        self.found = !self.steers();
+        self.listed = true;
+        put_bits(self.moved.as_slice(), &self.after, &mut self.holds);
     }
 
     /// A reset: each bit with a reset value takes it.
@@ -184,6 +318,8 @@ impl<'a> Registers<'a> {
         ensures net { self.new.net.now ≡ self.old.net.now }
         ensures holds { self.new.holds ≡ reset_holds self.old.net.now self.old.holds }
     {
+        self.found = false;
+        self.listed = false;
         self.holds.reset(self.net);
         self.after.reset(self.net);
     }

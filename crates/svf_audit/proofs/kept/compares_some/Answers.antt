@@ -1,32 +1,46 @@
-use Rattle.std.proofs.Common.{sym, ◌∙◌, arith, None}
-use Rattle.std.specs.Option.{is_some}
-use Rattle.svf_audit.specs.Kept.{looked_for, seen_kept}
-use Rattle.svf_audit.proofs.Looking.{compared_here, is_absent, is_there, length-expected, none_compared}
-use Rattle.svf_audit.proofs.Walks.{any_end, any_here, any_next}
+use Rattle.std.proofs.Common.{◌≡◌, ◌+◌, ◌*◌, ◌≤◌, min, drop, length, sym, ap, ◌∙◌, arith}
+use Rattle.std.proofs.lemmas.List.{drop_all}
+use Rattle.svf_audit.specs.Kept.{has_one, lent, seen_kept}
+use Rattle.svf_audit.proofs.Looking.{any_compared, is_absent, is_there, mask_length, no_one_here, none_compared, one_here}
 use Rattle.svf_audit.proofs.kept.compares_some.Goals as goal
 
 pub returns-then-not-is_given : goal.returns-then-not-is_given
 returns-then-not-is_given c =
     sym (none_compared c.args.kept.now.len c.args.tdo.now (seen_kept c.args.kept.now).mask (is_absent c.is_given.result c.args.tdo.now c.is_given.ensures c.if-not-is_given.true))
 
-pub returns-then-is_compared : goal.returns-then-is_compared
-returns-then-is_compared c =
+pub returns-then-compares_one_of : goal.returns-then-compares_one_of
+returns-then-compares_one_of c =
     let k = c.args.kept.now in
-    let es = looked_for k c.args.tdo.now in
-    let long = length-expected k.len c.args.tdo.now (seen_kept k).mask c.requires.tdo in
-    sym (any_here is_some es c.loop-k.k None (omega (arith, long)) (compared_here k.len c.loop-k.k c.args.tdo.now (seen_kept k).mask _ c.requires.tdo (is_there c.is_given.result c.args.tdo.now c.is_given.ensures c.if-not-is_given.false) (omega arith) (sym c.is_compared.ensures ∙ c.if-is_compared.true)))
-    ∙ c.loop-k.invariant
+    let mask = (seen_kept k).mask in
+    let from = 64 * c.loop-word.word in
+    let at : min from k.len ≡ from = omega arith in
+    sym (
+    any_compared k.len c.args.tdo.now mask c.requires.tdo (mask_length k.len (lent k.mask) c.requires.sound.mask) (is_there c.is_given.result c.args.tdo.now c.is_given.ensures c.if-not-is_given.false)
+    ∙ sym c.loop-word.invariant
+    ∙ ap (λ p. has_one (drop p mask)) at
+    ∙ one_here mask from c.min.result (sym c.compares_one_of.ensures ∙ c.if-compares_one_of.true)
+    )
 
-pub loop-k-preserved : goal.loop-k-preserved
-loop-k-preserved c =
+pub loop-word-preserved : goal.loop-word-preserved
+loop-word-preserved c =
     let k = c.args.kept.now in
-    let es = looked_for k c.args.tdo.now in
-    let long = length-expected k.len c.args.tdo.now (seen_kept k).mask c.requires.tdo in
-    any_next is_some es c.loop-k.k None (omega (arith, long)) (compared_here k.len c.loop-k.k c.args.tdo.now (seen_kept k).mask _ c.requires.tdo (is_there c.is_given.result c.args.tdo.now c.is_given.ensures c.if-not-is_given.false) (omega arith) (sym c.is_compared.ensures ∙ c.if-is_compared.false))
-    ∙ c.loop-k.invariant
+    let mask = (seen_kept k).mask in
+    let from = 64 * c.loop-word.word in
+    let at : min from k.len ≡ from = omega arith in
+    let next : min (64 * (c.loop-word.word + 1)) k.len ≡ from + c.min.result = omega arith in
+    ap (λ p. has_one (drop p mask)) next
+    ∙ no_one_here mask from c.min.result (sym c.compares_one_of.ensures ∙ c.if-compares_one_of.false)
+    ∙ ap (λ p. has_one (drop p mask)) (sym at)
+    ∙ c.loop-word.invariant
 
 pub returns : goal.returns
 returns c =
     let k = c.args.kept.now in
-    let long = length-expected k.len c.args.tdo.now (seen_kept k).mask c.requires.tdo in
-    sym (any_end is_some (looked_for k c.args.tdo.now) c.loop-k.k (omega (arith, long))) ∙ c.loop-k.invariant
+    let mask = (seen_kept k).mask in
+    let long : length mask ≡ k.len = mask_length k.len (lent k.mask) c.requires.sound.mask in
+    let all : length mask ≤ min (64 * c.loop-word.word) k.len = omega (arith, long) in
+    sym (
+    any_compared k.len c.args.tdo.now mask c.requires.tdo long (is_there c.is_given.result c.args.tdo.now c.is_given.ensures c.if-not-is_given.false)
+    ∙ sym c.loop-word.invariant
+    ∙ ap has_one (drop_all (min (64 * c.loop-word.word) k.len) mask all)
+    )

@@ -1,9 +1,7 @@
-use Rattle.std.proofs.Common.{◌≡◌, drop}
-use Rattle.std.specs.List.{list_any}
-use Rattle.std.specs.Option.{is_some}
-use Rattle.svf_audit.specs.Kept.{looked_for}
+use Rattle.std.proofs.Common.{◌≡◌, ◌*◌, min, drop}
+use Rattle.svf_audit.specs.Kept.{has_one, seen_kept}
 use Rattle.svf_audit.proofs.kept.compares_some.Given as goal
 
-abbrev pub invariant-loop-k : goal.invariant-loop-k
-invariant-loop-k l =
-    list_any is_some (drop l.k (looked_for l.kept l.tdo)) ≡ list_any is_some (looked_for l.kept l.tdo)
+abbrev pub invariant-loop-word : goal.invariant-loop-word
+invariant-loop-word l =
+    has_one (drop (min (64 * l.word) l.n) (seen_kept l.kept).mask) ≡ has_one (seen_kept l.kept).mask

@@ -1,10 +1,10 @@
-use Rattle.std.proofs.Common.{◌≡◌, ◌+◌, length, drop}
-use Rattle.net_graph.specs.Chain.{IsRoute, chain, put_chain}
+use Rattle.std.proofs.Common.{◌≡◌, drop, length, map}
+use Rattle.svf_audit.proofs.Moving.{OthersSame}
 use Rattle.svf_audit.proofs.registers.put_bits.Given as goal
 
-abbrev pub invariant-loop-reg : goal.invariant-loop-reg
-invariant-loop-reg l = record {
-  rest : put_chain (drop l.reg-index l.path) (drop l.at l.from.items) l.into ≡ put_chain l.path l.from.items l.fn.into;
-  route : IsRoute (length l.into) (drop l.reg-index l.path);
-  fits : l.at + length (chain (drop l.reg-index l.path) l.into) ≡ length l.from.items;
-}
+abbrev pub invariant-loop-bit : goal.invariant-loop-bit
+invariant-loop-bit l =
+    record {
+      shape : map length l.into ≡ map length l.from;
+      others : OthersSame l.into l.from (drop l.bit-index l.bits);
+    }

@@ -1,24 +1,20 @@
-use Rattle.std.proofs.Common.{◌≡◌, ℕ, ap, sym, ◌∙◌, subst, Bool, List, length}
-use Rattle.std.specs.Prelude.{◌==◌, ◌&&◌, All, filter, map}
+use Rattle.std.proofs.Common.{◌≡◌, ℕ, ap, sym, ◌∙◌, Bool, List, length}
+use Rattle.std.specs.Prelude.{◌==◌, ◌&&◌, filter, map, not}
 use Rattle.std.specs.List.{list_all, list_any}
 use Rattle.net_graph.specs.declared.net.BitId.{BitId}
-use Rattle.net_graph.specs.Named.{IsBitOf}
+use Rattle.net_graph.specs.Path.{is_select}
 use Rattle.net_graph.specs.SeenSteps.{SeenGroup, seen_group}
 use Rattle.svf_audit.specs.declared.answer.Cause.TheVariants.{Write, Read}
 use Rattle.svf_audit.specs.Audit.{bits_on, changed, does_reads, does_writes, expected_of, need, same_expects}
 use Rattle.svf_audit.specs.Kept.{looked_for}
-use Rattle.svf_audit.specs.Registers.{is_changed, path_in}
-use Rattle.svf_audit.proofs.Found.{bits_count, bits_there, shifted_shape}
+use Rattle.svf_audit.specs.Registers.{path_in}
+use Rattle.svf_audit.proofs.Found.{bits_count, shifted_shape}
+use Rattle.svf_audit.proofs.Scanning.{changed_as}
 use Rattle.svf_audit.proofs.auditor.Auditor.does.Goals as goal
 
 pub does_writes-requires-clause-now : goal.does_writes-requires-clause-now
 does_writes-requires-clause-now c =
     shifted_shape c.args.self.now.registers c.requires.sound c.requires.shifted
-
-pub does_writes-requires-clause-there : goal.does_writes-requires-clause-there
-does_writes-requires-clause-there c =
-    let r = c.args.self.now.registers in
-    subst (All (IsBitOf r.net.now)) (sym c.as_slice-bits.ensures) (bits_there r c.requires.sound c.requires.found)
 
 pub does_reads-requires-clause-fits : goal.does_reads-requires-clause-fits
 does_reads-requires-clause-fits c =
@@ -28,8 +24,8 @@ pub returns-then-not-does_writes : goal.returns-then-not-does_writes
 returns-then-not-does_writes c =
     let r = c.args.self.now.registers in
     let g : SeenGroup = seen_group c.args.group.now in
-    let p : BitId → Bool = is_changed r.net.now r.holds r.after in
-    let w : does_writes g (changed r.net.now (path_in r) r.holds r.after) r.after ≡ c.does_writes.result = sym (c.does_writes.ensures ∙ ap (λ bs. does_writes g (filter p bs) r.after) (c.as_slice-bits.ensures ∙ c.requires.found.bits)) in
+    let p : BitId → Bool = λ b. not (is_select r.net.now b) in
+    let w : does_writes g (changed r.net.now (path_in r) r.holds r.after) r.after ≡ c.does_writes.result = sym (c.does_writes.ensures ∙ ap (λ bs. does_writes g (filter p bs) r.after) c.as_slice-moved.ensures ∙ ap (λ bs. does_writes g bs r.after) (sym (changed_as r c.requires.shifted))) in
     λ next. ap (λ t. need t Write (need (does_reads g (path_in r) r.holds (looked_for c.args.kept.now c.args.tdo.now)) Read next)) (w ∙ c.if-not-does_writes.true)
 
 pub returns-then-not-does_reads : goal.returns-then-not-does_reads
@@ -37,8 +33,8 @@ returns-then-not-does_reads c =
     let r = c.args.self.now.registers in
     let g : SeenGroup = seen_group c.args.group.now in
     let es = looked_for c.args.kept.now c.args.tdo.now in
-    let p : BitId → Bool = is_changed r.net.now r.holds r.after in
-    let w : does_writes g (changed r.net.now (path_in r) r.holds r.after) r.after ≡ c.does_writes.result = sym (c.does_writes.ensures ∙ ap (λ bs. does_writes g (filter p bs) r.after) (c.as_slice-bits.ensures ∙ c.requires.found.bits)) in
+    let p : BitId → Bool = λ b. not (is_select r.net.now b) in
+    let w : does_writes g (changed r.net.now (path_in r) r.holds r.after) r.after ≡ c.does_writes.result = sym (c.does_writes.ensures ∙ ap (λ bs. does_writes g (filter p bs) r.after) c.as_slice-moved.ensures ∙ ap (λ bs. does_writes g bs r.after) (sym (changed_as r c.requires.shifted))) in
     let on : List ℕ → Bool = λ path. list_all (λ x. list_any (λ y. y == x.bit.reg) path) g.reads in
     let d : does_reads g (path_in r) r.holds es ≡ c.does_reads.result = sym (
     c.does_reads.ensures
@@ -52,8 +48,8 @@ returns c =
     let r = c.args.self.now.registers in
     let g : SeenGroup = seen_group c.args.group.now in
     let es = looked_for c.args.kept.now c.args.tdo.now in
-    let p : BitId → Bool = is_changed r.net.now r.holds r.after in
-    let w : does_writes g (changed r.net.now (path_in r) r.holds r.after) r.after ≡ c.does_writes.result = sym (c.does_writes.ensures ∙ ap (λ bs. does_writes g (filter p bs) r.after) (c.as_slice-bits.ensures ∙ c.requires.found.bits)) in
+    let p : BitId → Bool = λ b. not (is_select r.net.now b) in
+    let w : does_writes g (changed r.net.now (path_in r) r.holds r.after) r.after ≡ c.does_writes.result = sym (c.does_writes.ensures ∙ ap (λ bs. does_writes g (filter p bs) r.after) c.as_slice-moved.ensures ∙ ap (λ bs. does_writes g bs r.after) (sym (changed_as r c.requires.shifted))) in
     let on : List ℕ → Bool = λ path. list_all (λ x. list_any (λ y. y == x.bit.reg) path) g.reads in
     let d : does_reads g (path_in r) r.holds es ≡ c.does_reads.result = sym (
     c.does_reads.ensures

@@ -4,14 +4,9 @@ use Rattle.svf_audit.specs.Audit.{scanned}
 use Rattle.svf_audit.specs.Auditing.{ok, state_of}
 use Rattle.svf_audit.specs.Kept.{seen_kept}
 use Rattle.svf_audit.specs.Left.{work_left}
-use Rattle.svf_audit.proofs.Found.{shifted_shape}
 use Rattle.svf_audit.proofs.Going.{kept_length, kept_tdi, scan_acts, scan_length, scan_select}
 use Rattle.svf_audit.proofs.Scanning.{act_as, after, after_as, chain_as, rows_as, scan_stops}
 use Rattle.svf_audit.proofs.auditor.Auditor.scan.Goals as goal
-
-pub have_rows-requires-clause-holds : goal.have_rows-requires-clause-holds
-have_rows-requires-clause-holds c =
-    shifted_shape c.shift.new.self c.shift.ensures.sound c.shift.ensures.shifted
 
 pub returns-then-kept-len-clause-err : goal.returns-then-kept-len-clause-err
 returns-then-kept-len-clause-err c =

@@ -1,4 +1,5 @@
-use Rattle.std.proofs.Common.{arith}
+use Rattle.std.proofs.Common.{arith, ap, length, sym, ◌∙◌}
+use Rattle.std.proofs.lemmas.Bool.{false≢true}
 use Rattle.svf_audit.proofs.Paths.{start_shape}
 use Rattle.svf_audit.proofs.registers.Registers.new.Goals as goal
 
@@ -6,8 +7,18 @@ pub returns-clause-sound : goal.returns-clause-sound
 returns-clause-sound c =
     record {
       net = c.requires;
+      selects = c.in_ok-selects.ensures;
       holds = start_shape c.args.net.now _ c.in_ok-holds.ensures;
       path_room = omega (arith, c.in_ok-path.ensures);
       bits_room = omega (arith, c.in_ok-bits.ensures);
-      tdi_room = omega (arith, c.in_ok-tdi.ensures.room);
+      chain_room = omega (arith, c.in_ok-chain.ensures.room, ap length c.in_ok-chain.ensures.empty);
+      moved_room = omega (arith, c.in_ok-moved.ensures);
+    }
+
+pub returns-clause-still : goal.returns-clause-still
+returns-clause-still c =
+    record {
+      same = c.in_ok-after.ensures ∙ sym c.in_ok-holds.ensures;
+      ready = λ t. absurd (false≢true t);
+      listed = λ t. absurd (false≢true t);
     }

@@ -1,42 +1,68 @@
-use Rattle.std.proofs.Common.{ap, sym, ◌∙◌, subst, arith, length, List, ℕ}
-use Rattle.net_graph.specs.Chain.{IsRoute, chain, put_chain}
-use Rattle.svf_audit.specs.Registers.{path_in}
-use Rattle.svf_audit.proofs.Found.{after_route, path_few}
+use Rattle.std.proofs.Common.{◌≡◌, ◌++◌, refl, ap, sym, ◌∙◌, subst, arith, length}
+use Rattle.net_graph.specs.Chain.{chain, put_chain}
+use Rattle.net_graph.proofs.Chains.{put_chain-chain}
+use Rattle.svf_audit.specs.Audit.{bits_on}
+use Rattle.svf_audit.specs.Kept.{seen_tdi}
+use Rattle.svf_audit.specs.Registers.{differing, path_in, AreListed}
+use Rattle.svf_audit.specs.declared.registers.Registers.{Registers}
+use Rattle.svf_audit.proofs.Found.{path_few, shifted_all, turned_all}
 use Rattle.svf_audit.proofs.registers.Registers.shift.Goals as goal
 
-pub take_tdi-requires-clause-room : goal.take_tdi-requires-clause-room
-take_tdi-requires-clause-room c =
-    omega (arith, c.requires.fits, path_few c.args.self.now c.requires.sound, c.requires.sound.tdi_room)
-
-pub put_bits-requires-clause-route : goal.put_bits-requires-clause-route
-put_bits-requires-clause-route c =
+pub turn_all-requires-clause-turned : goal.turn_all-requires-clause-turned
+turn_all-requires-clause-turned c =
     let r = c.args.self.now in
-    subst (IsRoute (length r.after)) (sym (c.as_slice.ensures ∙ c.requires.found.path)) (after_route r c.requires.sound c.requires.still)
-
-pub put_bits-requires-clause-fits : goal.put_bits-requires-clause-fits
-put_bits-requires-clause-fits c =
-    let r = c.args.self.now in
-    ap length c.take_tdi.ensures.items ∙ c.requires.kept.tdi ∙ c.requires.fits
-    ∙ ap (λ (p : List ℕ). length (chain p r.holds)) (sym (c.as_slice.ensures ∙ c.requires.found.path))
-    ∙ ap (λ h. length (chain c.as_slice.result.now h)) (sym c.requires.still)
-
-pub returns-clause-sound : goal.returns-clause-sound
-returns-clause-sound c =
     let k = c.requires.sound in
     record {
-      net = k.net;
-      holds = k.holds;
-      path_room = k.path_room;
-      bits_room = k.bits_room;
-      tdi_room = omega (arith, k.tdi_room, c.take_tdi.ensures.room);
+      sound = record {
+        net = k.net;
+        selects = k.selects;
+        holds = k.holds;
+        path_room = k.path_room;
+        bits_room = k.bits_room;
+        chain_room = k.chain_room;
+        moved_room = omega (arith, k.moved_room, c.clear.ensures.spare);
+      };
+      found = record { path = c.requires.found.path; bits = c.requires.found.bits };
+      fits = ap length c.requires.chain;
+      long = c.requires.kept.tdi ∙ c.requires.fits ∙ sym (ap length c.requires.chain);
+      after = c.requires.still.same ∙ sym (put_chain-chain (path_in r) r.holds) ∙ ap (λ bs. put_chain (path_in r) bs r.holds) (sym c.requires.chain);
+      done = refl;
+      room = omega (arith, ap length c.requires.chain, path_few r k, k.moved_room, c.clear.ensures.spare);
     }
+
+pub returns-clause-sound : goal.returns-clause-sound
+returns-clause-sound c = c.turn_all.ensures.turned.sound
+
+pub returns-clause-found : goal.returns-clause-found
+returns-clause-found c = c.turn_all.ensures.turned.found
 
 pub returns-clause-shifted : goal.returns-clause-shifted
 returns-clause-shifted c =
     let r = c.args.self.now in
-    record {
-      fits = ap length c.take_tdi.ensures.items ∙ c.requires.kept.tdi ∙ c.requires.fits;
-      after = c.put_bits.ensures
-          ∙ ap (λ (p : List ℕ). put_chain p c.take_tdi.new.into.items r.after) (c.as_slice.ensures ∙ c.requires.found.path)
-          ∙ ap (put_chain (path_in r) c.take_tdi.new.into.items) c.requires.still;
-    }
+    let new = c.turn_all.new.self in
+    let tdi = seen_tdi c.args.kept.now in
+    let t = c.turn_all.ensures.turned in
+    let all : length r.chain.items ≡ length new.chain.items = ap length c.requires.chain ∙ sym (c.requires.kept.tdi ∙ c.requires.fits) ∙ t.long in
+    shifted_all new tdi (length r.chain.items) t all (
+    c.turn_all.ensures.moves
+    ∙ ap (λ xs. xs ++ differing r.bits.items r.chain.items tdi) c.clear.ensures.items
+    ∙ ap (λ bs. differing bs r.chain.items tdi) c.requires.found.bits
+    ∙ ap (λ xs. differing (bits_on r.holds (path_in r)) xs tdi) c.requires.chain
+    ∙ ap (λ (z : Registers). differing (bits_on z.holds (path_in z)) (chain (path_in z) z.holds) tdi) (sym c.turn_all.ensures.others)
+    )
+
+pub returns-clause-listed : goal.returns-clause-listed
+returns-clause-listed c = subst AreListed (sym c.turn_all.ensures.others) c.requires.still.listed
+
+pub returns-clause-tdi : goal.returns-clause-tdi
+returns-clause-tdi c =
+    let r = c.args.self.now in
+    let t = c.turn_all.ensures.turned in
+    let all : length r.chain.items ≡ length c.turn_all.new.self.chain.items = ap length c.requires.chain ∙ sym (c.requires.kept.tdi ∙ c.requires.fits) ∙ t.long in
+    turned_all c.turn_all.new.self (seen_tdi c.args.kept.now) (length r.chain.items) t all
+
+pub returns-clause-net : goal.returns-clause-net
+returns-clause-net c = ap (λ (z : Registers). z.net.now) c.turn_all.ensures.others
+
+pub returns-clause-holds : goal.returns-clause-holds
+returns-clause-holds c = ap (λ (z : Registers). z.holds) c.turn_all.ensures.others

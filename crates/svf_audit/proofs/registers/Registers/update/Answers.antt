@@ -1,36 +1,53 @@
-use Rattle.std.proofs.Common.{ap, sym, ◌∙◌, subst, length, List, ℕ}
-use Rattle.std.specs.Prelude.{map}
-use Rattle.net_graph.specs.Chain.{IsRoute, chain, put_chain}
-use Rattle.svf_audit.proofs.Found.{holds_route, shifted_shape}
+use Rattle.std.proofs.Common.{◌≡◌, Bool, true, false, refl, ap, sym, ◌∙◌, subst}
+use Rattle.std.specs.Prelude.{All, map, not, length}
+use Rattle.std.specs.List.{list_all}
+use Rattle.std.proofs.lemmas.Bool.{false≢true}
+use Rattle.net_graph.specs.Held.{IsHeld}
+use Rattle.svf_audit.specs.Audit.{has_row}
+use Rattle.svf_audit.specs.Registers.{path_in}
+use Rattle.svf_audit.proofs.Found.{moved_others, moved_there, ready_then, shifted_shape}
+use Rattle.svf_audit.proofs.Moving.{shape_kept, OthersSame}
 use Rattle.svf_audit.proofs.registers.Registers.update.Goals as goal
 
-pub put_bits-requires-clause-route : goal.put_bits-requires-clause-route
-put_bits-requires-clause-route c =
-    let r = c.args.self.now in
-    subst (IsRoute (length r.holds)) (sym (c.as_slice.ensures ∙ c.requires.found.path)) (holds_route r c.requires.sound)
+none : (b : Bool) → not b ≡ true → b ≡ false
+none true e = absurd (false≢true e)
+none false e = refl
 
-pub put_bits-requires-clause-fits : goal.put_bits-requires-clause-fits
-put_bits-requires-clause-fits c =
+pub put_bits-requires-clause-shape : goal.put_bits-requires-clause-shape
+put_bits-requires-clause-shape c =
     let r = c.args.self.now in
-    c.requires.shifted.fits ∙ ap (λ (p : List ℕ). length (chain p r.holds)) (sym (c.as_slice.ensures ∙ c.requires.found.path))
+    sym (shape_kept r.holds r.after (path_in r) r.chain.items c.requires.shifted.after c.requires.shifted.fits)
 
-pub returns-clause-holds : goal.returns-clause-holds
-returns-clause-holds c =
+pub put_bits-requires-clause-there : goal.put_bits-requires-clause-there
+put_bits-requires-clause-there c =
     let r = c.args.self.now in
-    c.put_bits.ensures
-    ∙ ap (λ (p : List ℕ). put_chain p r.tdi.items r.holds) (c.as_slice.ensures ∙ c.requires.found.path)
-    ∙ sym c.requires.shifted.after
+    subst (All (IsHeld r.after)) (sym c.as_slice.ensures) (moved_there r c.requires.sound c.requires.shifted)
 
-pub returns-clause-still : goal.returns-clause-still
-returns-clause-still c = sym (returns-clause-holds c)
+pub put_bits-requires-clause-others : goal.put_bits-requires-clause-others
+put_bits-requires-clause-others c =
+    let r = c.args.self.now in
+    subst (OthersSame r.holds r.after) (sym c.as_slice.ensures) (moved_others r c.requires.shifted)
 
 pub returns-clause-sound : goal.returns-clause-sound
 returns-clause-sound c =
     let k = c.requires.sound in
     record {
       net = k.net;
-      holds = ap (map length) (returns-clause-holds c) ∙ shifted_shape c.args.self.now k c.requires.shifted;
+      selects = k.selects;
+      holds = ap (map length) c.put_bits.ensures ∙ shifted_shape c.args.self.now k c.requires.shifted;
       path_room = k.path_room;
       bits_room = k.bits_room;
-      tdi_room = k.tdi_room;
+      chain_room = k.chain_room;
+      moved_room = k.moved_room;
+    }
+
+pub returns-clause-still : goal.returns-clause-still
+returns-clause-still c =
+    let r = c.args.self.now in
+    record {
+      same = sym c.put_bits.ensures;
+      ready = λ t.
+          let g = ready_then r c.put_bits.new.into c.requires.sound c.requires.found c.requires.shifted (sym c.steers.ensures ∙ none c.steers.result t) c.put_bits.ensures in
+          record { found = record { path = g.0; bits = g.1 }; chain = g.2 };
+      listed = λ t. ap (λ h. list_all (has_row h) r.net.now.muxes.items) c.put_bits.ensures ∙ c.requires.rows;
     }

@@ -1,0 +1,9 @@
+use Rattle.std.proofs.Common.{◌≡◌, drop}
+use Rattle.std.specs.Prelude.{not}
+use Rattle.std.specs.List.{list_any}
+use Rattle.net_graph.specs.Path.{is_select}
+use Rattle.svf_audit.proofs.scan.some_data.Given as goal
+
+abbrev pub invariant-loop-bit : goal.invariant-loop-bit
+invariant-loop-bit l =
+    list_any (λ b. not (is_select l.net b)) (drop l.bit-index l.bits) ≡ list_any (λ b. not (is_select l.net b)) l.bits
