@@ -2,17 +2,17 @@
 use Rattle.std.proofs.Common.{◌≡◌, ◌<◌, ◌+◌, ℕ, suc, Bool, true, false, cond, List, [], ◌∷◌, ◌++◌, length, drop, get_or, refl, sym, ap, ◌∙◌, append_assoc, arith, drop-cons}
 use Rattle.std.specs.Borrow.{Bor}
 use Rattle.net_graph.specs.SeenSteps.{SeenGroup}
-use Rattle.net_graph.specs.declared.step.Group.{Group}
 use Rattle.pdl_targets.specs.Rounds.{Places}
+use Rattle.merge_order.specs.declared.candidate.Candidate.{Candidate}
 use Rattle.merge_order.specs.Merge.{joined, joins, unjoined, with_first}
-use Rattle.merge_order.specs.SeenJoins.{seen_applies, seen_rounds}
+use Rattle.merge_order.specs.Named.{seen_candidate, seen_candidates}
 
 -- the iApplys from one on
-pub applies_cut : (applies : List (Bor (List Group))) (i : ℕ) (a : Bor (List Group)) → i < length applies → a ≡ get_or applies i a
-    → seen_applies (drop i applies) ≡ seen_rounds a.now ∷ seen_applies (drop (i + 1) applies)
+pub applies_cut : (applies : List (Bor Candidate)) (i : ℕ) (a : Bor Candidate) → i < length applies → a ≡ get_or applies i a
+    → seen_candidates (drop i applies) ≡ seen_candidate a.now ∷ seen_candidates (drop (i + 1) applies)
 applies_cut applies i a within is =
-    ap seen_applies (drop-cons applies i a within ∙ ap (λ (x : Bor (List Group)). x ∷ drop (suc i) applies) (sym is))
-    ∙ ap (λ k. seen_rounds a.now ∷ seen_applies (drop k applies)) (next i)
+    ap seen_candidates (drop-cons applies i a within ∙ ap (λ (x : Bor Candidate). x ∷ drop (suc i) applies) (sym is))
+    ∙ ap (λ k. seen_candidate a.now ∷ seen_candidates (drop k applies)) (next i)
   where
     next : (k : ℕ) → suc k ≡ k + 1
     next k = omega arith

@@ -1,6 +1,9 @@
 pub mod Examples
 pub mod Alone
 pub mod Joins
+pub mod Tabled
+pub mod Arounds
+pub mod Candidates
 pub mod Turning
 pub mod Refusing
 pub mod Kept

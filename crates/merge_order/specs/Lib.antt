@@ -1,4 +1,7 @@
 pub mod Merge
+pub mod Tables
+pub mod Around
+pub mod Named
 pub mod Feeding
 pub mod AllSteps
 pub mod Laws

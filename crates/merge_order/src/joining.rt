@@ -1,102 +1,70 @@
 // The joins of a turn.
 ghost use Rattle.std.specs.Prelude.{◌≡◌, ◌++◌, ◌∷◌, [], cond, IfOk, OnOk};
 ghost use Rattle.net_graph.specs.SeenSteps.{seen_group};
+ghost use Rattle.pdl_targets.specs.Rounds.{Places};
 ghost use Rattle.pdl_targets.specs.SeenPlaces.{places_in};
 ghost use Rattle.merge_order.specs.Merge as merge;
-ghost use Rattle.merge_order.specs.SeenJoins.{seen_rounds, seen_applies};
+ghost use Rattle.merge_order.specs.Named.{AreCandidates, IsCandidate, Tells, seen_candidate, seen_candidates};
+ghost use Rattle.merge_order.specs.SeenJoins.{seen_rounds};
+ghost use Rattle.merge_order.specs.Tables.{SameRows, rows_around};
 
-use crate::pairs::can_join;
+use crate::candidate::{Alone, Candidate};
+use crate::copies::{both, copied, copied_rounds};
+use crate::named::Named;
 use ij_bits::{List, OutOfMemory};
-use net_graph::{Group, ReadBit, WriteBit};
+use net_graph::Group;
 use net_tree::Tree;
 use std::alloc::Global;
-
-/// Puts writes behind others.
-fn add_writes(writes: List<WriteBit>, more: &[WriteBit]) -> Result<List<WriteBit>, OutOfMemory>
-    ensures { IfOk result (λ ws. ws.items ≡ writes.items ++ more.now) }
-{
-    let mut writes = writes;
-    for write in more {
-        writes.push(*write)?;
-    }
-    Ok(writes)
-}
-
-/// Puts reads behind others.
-fn add_reads(reads: List<ReadBit>, more: &[ReadBit]) -> Result<List<ReadBit>, OutOfMemory>
-    ensures { IfOk result (λ rs. rs.items ≡ reads.items ++ more.now) }
-{
-    let mut reads = reads;
-    for read in more {
-        reads.push(*read)?;
-    }
-    Ok(reads)
-}
-
-/// Two rounds as one.
-fn both(group: Group, other: &Group) -> Result<Group, OutOfMemory>
-    ensures { IfOk result (λ g. seen_group g ≡ merge.both (seen_group group) (seen_group other.now)) }
-{
-    let Group { writes, reads } = group;
-    Ok(Group {
-        writes: add_writes(writes, other.writes.as_slice())?,
-        reads: add_reads(reads, other.reads.as_slice())?,
-    })
-}
-
-/// A copy of a round.
-fn copied(alloc: Global, group: &Group) -> Result<Group, OutOfMemory>
-    ensures { IfOk result (λ g. seen_group g ≡ seen_group group.now) }
-{
-    Ok(Group {
-        writes: add_writes(List::new(alloc), group.writes.as_slice())?,
-        reads: add_reads(List::new(alloc), group.reads.as_slice())?,
-    })
-}
-
-/// Whether an iApply joins a round.
-fn joins(tree: &Tree, group: &Group, rounds: &[Group]) -> bool
-    ensures { result ≡ merge.joins (places_in tree.now) (seen_group group.now) (seen_rounds rounds.now) }
-{
-    match rounds {
-        [one] => can_join(tree, group, one),
-        _ => false,
-    }
-}
-
-/// A round with the first of others.
-fn with_first(group: Group, rounds: &[Group]) -> Result<Group, OutOfMemory>
-    ensures { IfOk result (λ g. seen_group g ≡ merge.with_first (seen_group group) (seen_rounds rounds.now)) }
-{
-    match rounds {
-        [first, ..] => both(group, first),
-        [] => Ok(group),
-    }
-}
 
 /// What is joined, and the iApplys that don't join it.
 #[derive(Drop)]
 pub(crate) struct Join<'a> {
     pub group: Group,
-    pub left: Vec<&'a [Group]>,
+    pub left: Vec<&'a Candidate>,
 }
 
 impl<'a> Join<'a> {
-    /// The join with an iApply, where this joins; or with it among those that don't.
-    fn met(self, tree: &Tree, rounds: &'a [Group]) -> Result<Join<'a>, OutOfMemory>
-        ensures group { IfOk result (λ j. seen_group j.group ≡ cond (merge.joins (places_in tree.now) (seen_group self.entry.group) (seen_rounds rounds.now)) (merge.with_first (seen_group self.entry.group) (seen_rounds rounds.now)) (seen_group self.entry.group)) }
-        ensures left { IfOk result (λ j. seen_applies j.left.items ≡ cond (merge.joins (places_in tree.now) (seen_group self.entry.group) (seen_rounds rounds.now)) (seen_applies self.entry.left.items) (seen_applies self.entry.left.items ++ seen_rounds rounds.now ∷ [])) }
+    /// The join with a round.
+    fn with(self, named: &mut Named, alone: &Alone) -> Result<Join<'a>, OutOfMemory>
+        ensures group { IfOk result (λ j. seen_group j.group ≡ merge.both (seen_group self.entry.group) (seen_group alone.now.round)) }
+        ensures left { IfOk result (λ j. j.left.items ≡ self.entry.left.items) }
+        ensures tells { (places : Places) → SameRows alone.now.around.items (rows_around places (seen_group alone.now.round)) → Tells places named.old (seen_group self.entry.group) → IfOk result (λ j. Tells places named.new (seen_group j.group)) }
     {
         let Join { group, left } = self;
-        if joins(tree, &group, rounds) {
-            Ok(Join {
-                group: with_first(group, rounds)?,
-                left,
-            })
-        } else {
-            let mut left = left;
-            left.push(rounds)?;
-            Ok(Join { group, left })
+        named.add(&alone.round, alone.around.as_slice())?;
+        let group = both(group, &alone.round)?;
+        Ok(Join { group, left })
+    }
+
+    /// The join, and one more iApply that doesn't join it.
+    fn without(self, one: &'a Candidate) -> Result<Join<'a>, OutOfMemory>
+        ensures group { IfOk result (λ j. seen_group j.group ≡ seen_group self.entry.group) }
+        ensures left { IfOk result (λ j. j.left.items ≡ self.entry.left.items ++ one.entry ∷ []) }
+    {
+        let Join { group, left } = self;
+        let mut left = left;
+        left.push(one)?;
+        Ok(Join { group, left })
+    }
+
+    /// The join with an iApply, where this joins; or with it among those that don't.
+    fn met(
+        self,
+        _tree: &Tree,
+        named: &mut Named,
+        one: &'a Candidate,
+    ) -> Result<Join<'a>, OutOfMemory>
+        requires candidate { IsCandidate (places_in _tree.now) one.now }
+        requires tells { Tells (places_in _tree.now) named.old (seen_group self.group) }
+        requires candidates { AreCandidates (places_in _tree.now) self.left.items }
+        ensures group { IfOk result (λ j. seen_group j.group ≡ cond (merge.joins (places_in _tree.now) (seen_group self.entry.group) (seen_candidate one.now)) (merge.with_first (seen_group self.entry.group) (seen_candidate one.now)) (seen_group self.entry.group)) }
+        ensures left { IfOk result (λ j. seen_candidates j.left.items ≡ cond (merge.joins (places_in _tree.now) (seen_group self.entry.group) (seen_candidate one.now)) (seen_candidates self.entry.left.items) (seen_candidates self.entry.left.items ++ seen_candidate one.now ∷ [])) }
+        ensures tells { IfOk result (λ j. Tells (places_in _tree.now) named.new (seen_group j.group)) }
+        ensures candidates { IfOk result (λ j. AreCandidates (places_in _tree.now) j.left.items) }
+    {
+        match one.joining(named) {
+            Some(alone) => self.with(named, alone),
+            None => self.without(one),
         }
     }
 }
@@ -104,37 +72,35 @@ impl<'a> Join<'a> {
 /// A round with that of each later iApply that joins, and those that don't.
 pub(crate) fn joined<'a>(
     alloc: Global,
-    tree: &Tree,
-    group: &Group,
-    later: &[&'a [Group]],
+    _tree: &Tree,
+    named: &mut Named,
+    alone: &Alone,
+    later: &[&'a Candidate],
 ) -> Result<Join<'a>, OutOfMemory>
-    ensures group { IfOk result (λ j. seen_group j.group ≡ merge.joined (places_in tree.now) (seen_group group.now) (seen_applies later.now)) }
-    ensures left { IfOk result (λ j. seen_applies j.left.items ≡ merge.unjoined (places_in tree.now) (seen_group group.now) (seen_applies later.now)) }
+    requires around { SameRows alone.now.around.items (rows_around (places_in _tree.now) (seen_group alone.now.round)) }
+    requires candidates { AreCandidates (places_in _tree.now) later.now }
+    ensures group { IfOk result (λ j. seen_group j.group ≡ merge.joined (places_in _tree.now) (seen_group alone.now.round) (seen_candidates later.now)) }
+    ensures left { IfOk result (λ j. seen_candidates j.left.items ≡ merge.unjoined (places_in _tree.now) (seen_group alone.now.round) (seen_candidates later.now)) }
+    ensures candidates { IfOk result (λ j. AreCandidates (places_in _tree.now) j.left.items) }
 {
+    named.begin(&alone.round, alone.around.as_slice())?;
+    let group = copied(alloc, &alone.round)?;
     let mut join = Join {
-        group: copied(alloc, group)?,
+        group,
         left: Vec::new(alloc),
     };
-    for rounds in later {
-        join = join.met(tree, rounds)?;
+    for one in later {
+        join = join.met(_tree, named, one)?;
     }
     Ok(join)
 }
 
-/// Copies of rounds.
-fn copied_rounds(alloc: Global, rounds: &[Group]) -> Result<List<Group>, OutOfMemory>
-    ensures { IfOk result (λ gs. seen_rounds gs.items ≡ seen_rounds rounds.now) }
-{
-    let mut copies = List::new(alloc);
-    for round in rounds {
-        copies.push(copied(alloc, round)?)?;
-    }
-    Ok(copies)
-}
-
-/// References to iApplys.
-fn references<'a>(alloc: Global, applies: &[&'a [Group]]) -> Result<Vec<&'a [Group]>, OutOfMemory>
-    ensures { IfOk result (λ v. seen_applies v.items ≡ seen_applies applies.now) }
+/// References to the same iApplys.
+fn references<'a>(
+    alloc: Global,
+    applies: &[&'a Candidate],
+) -> Result<Vec<&'a Candidate>, OutOfMemory>
+    ensures { IfOk result (λ v. v.items ≡ applies.now) }
 {
     let mut list = Vec::new(alloc);
     for one in applies {
@@ -147,29 +113,34 @@ fn references<'a>(alloc: Global, applies: &[&'a [Group]]) -> Result<Vec<&'a [Gro
 #[derive(Drop)]
 pub(crate) struct FirstJoin<'a> {
     pub rounds: List<Group>,
-    pub left: Vec<&'a [Group]>,
+    pub left: Vec<&'a Candidate>,
 }
 
 /// The first iApply with those that join it. Where it has more rounds than one, none does.
 pub(crate) fn first_join<'a>(
     alloc: Global,
-    tree: &Tree,
-    first: &'a [Group],
-    later: &[&'a [Group]],
+    _tree: &Tree,
+    named: &mut Named,
+    first: &Candidate,
+    later: &[&'a Candidate],
 ) -> Result<FirstJoin<'a>, OutOfMemory>
-    ensures rounds { IfOk result (λ j. seen_rounds j.rounds.items ≡ merge.first_join (places_in tree.now) (seen_rounds first.now) (seen_applies later.now)) }
-    ensures left { IfOk result (λ j. seen_applies j.left.items ≡ merge.behind_first (places_in tree.now) (seen_rounds first.now) (seen_applies later.now)) }
+    requires first { IsCandidate (places_in _tree.now) first.now }
+    requires candidates { AreCandidates (places_in _tree.now) later.now }
+    ensures rounds { IfOk result (λ j. seen_rounds j.rounds.items ≡ merge.first_join (places_in _tree.now) (seen_candidate first.now) (seen_candidates later.now)) }
+    ensures left { IfOk result (λ j. seen_candidates j.left.items ≡ merge.behind_first (places_in _tree.now) (seen_candidate first.now) (seen_candidates later.now)) }
+    ensures candidates { IfOk result (λ j. AreCandidates (places_in _tree.now) j.left.items) }
 {
     match first {
-        [one] => {
-            let Join { group, left } = joined(alloc, tree, one, later)?;
+        Candidate::Alone(alone) => {
+            let Join { group, left } = joined(alloc, _tree, named, alone, later)?;
             let mut rounds = List::new(alloc);
             rounds.push(group)?;
             Ok(FirstJoin { rounds, left })
         }
-        _ => Ok(FirstJoin {
-            rounds: copied_rounds(alloc, first)?,
-            left: references(alloc, later)?,
-        }),
+        Candidate::Rounds(all) => {
+            let rounds = copied_rounds(alloc, all.as_slice())?;
+            let left = references(alloc, later)?;
+            Ok(FirstJoin { rounds, left })
+        }
     }
 }

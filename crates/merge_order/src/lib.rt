@@ -2,12 +2,17 @@
 //! turn, and what their iApplys do in one turn is joined where it can be.
 #![tactic(auto)]
 
+mod around;
+mod bit_table;
+mod candidate;
+mod copies;
 mod fault;
 mod feeder;
 mod feeding;
 mod joining;
 mod laws;
-mod pairs;
+mod named;
+mod row_table;
 mod turns;
 
 pub use fault::FeedFault;

@@ -1,13 +1,16 @@
 // The bit steps of a merge, turn by turn.
-ghost use Rattle.std.specs.Prelude.{◌≡◌, ◌++◌, [], ◌∷◌, map, IfOk, OnOk};
+ghost use Rattle.std.specs.Prelude.{◌≡◌, ◌++◌, [], ◌∷◌, All, map, IfOk, OnOk};
 ghost use Rattle.net_graph.specs.SeenSteps.{Apply, seen_step};
 ghost use Rattle.pdl_targets.specs.Binding.{run_of};
 ghost use Rattle.pdl_targets.specs.SeenPlaces.{places_in};
 ghost use Rattle.merge_order.specs.Merge as merge;
+ghost use Rattle.merge_order.specs.Named.{IsCandidate, seen_candidate};
 ghost use Rattle.merge_order.specs.SeenJoins.{seen_applies};
 ghost use Rattle.merge_order.specs.SeenTurns.{seen_heads, seen_lists, seen_slices, seen_steps};
 
+use crate::candidate::{Candidate, candidates, references};
 use crate::joining::first_join;
+use crate::named::Named;
 use ij_bits::{List, OutOfMemory};
 use net_graph::{BitStep, Group};
 use net_tree::Tree;
@@ -48,19 +51,21 @@ fn longest_run(heads: &[&BitStep]) -> u32
     longest
 }
 
-/// Puts the joins of a turn behind bit steps.
+/// Puts the joins of these iApplys behind bit steps.
 fn with_joins(
     alloc: Global,
-    tree: &Tree,
-    applies: Vec<&[Group]>,
+    _tree: &Tree,
+    named: &mut Named,
+    applies: &[Candidate],
     steps: List<BitStep>,
 ) -> Result<List<BitStep>, OutOfMemory>
-    ensures { IfOk result (λ l. seen_steps l.items ≡ seen_steps steps.items ++ map Apply (merge.all_joins (places_in tree.now) (seen_applies applies.entry.items))) }
+    requires { All (IsCandidate (places_in _tree.now)) applies.now }
+    ensures { IfOk result (λ l. seen_steps l.items ≡ seen_steps steps.items ++ map Apply (merge.all_joins (places_in _tree.now) (map seen_candidate applies.now))) }
 {
     let mut steps = steps;
-    let mut left = applies;
+    let mut left = references(alloc, applies)?;
     while let [first, later @ ..] = left.as_slice() {
-        let join = first_join(alloc, tree, first, later)?;
+        let join = first_join(alloc, _tree, named, first, later)?;
         steps.push(BitStep::Apply(join.rounds))?;
         left = join.left;
     }
@@ -82,13 +87,15 @@ fn with_run(steps: List<BitStep>, cycles: u32) -> Result<List<BitStep>, OutOfMem
 fn with_turn(
     alloc: Global,
     tree: &Tree,
+    named: &mut Named,
     heads: &[&BitStep],
     steps: List<BitStep>,
 ) -> Result<List<BitStep>, OutOfMemory>
     ensures { IfOk result (λ l. seen_steps l.items ≡ seen_steps steps.items ++ merge.turn (places_in tree.now) (seen_heads heads.now)) }
 {
     let applies = applies_in(alloc, heads)?;
-    let steps = with_joins(alloc, tree, applies, steps)?;
+    let applies = candidates(alloc, tree, &applies)?;
+    let steps = with_joins(alloc, tree, named, &applies, steps)?;
     with_run(steps, longest_run(heads))
 }
 
@@ -129,7 +136,7 @@ fn next_turn<'a>(alloc: Global, branches: &[&'a [BitStep]]) -> Result<Turn<'a>, 
 }
 
 /// References to branches.
-fn references<'a>(
+fn branch_references<'a>(
     alloc: Global,
     branches: &'a [List<BitStep>],
 ) -> Result<Vec<&'a [BitStep]>, OutOfMemory>
@@ -151,10 +158,11 @@ pub fn merged(
     ensures { IfOk result (λ l. seen_steps l.items ≡ merge.merged (places_in tree.now) (seen_lists branches.now)) }
 {
     let mut steps = List::new(alloc);
-    let mut left = references(alloc, branches)?;
+    let mut named = Named::new(alloc);
+    let mut left = branch_references(alloc, branches)?;
     while !left.is_empty() {
         let turn = next_turn(alloc, &left)?;
-        steps = with_turn(alloc, tree, &turn.heads, steps)?;
+        steps = with_turn(alloc, tree, &mut named, &turn.heads, steps)?;
         left = turn.left;
     }
     Ok(steps)
