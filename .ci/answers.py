@@ -221,7 +221,7 @@ def wrong(case):
                 files[step[0]] = step[1].encode('latin-1')
                 (folder / step[0]).write_bytes(files[step[0]])
                 continue
-            done = subprocess.run([program, *step.words], cwd=folder, capture_output=True, timeout=600)
+            done = subprocess.run([program, *step.words], cwd=folder, capture_output=True)
             out = done.stdout.decode('latin-1')
             compare('status', done.returncode, step.status)
             compare('output', out, (out if step.out(out) else 'another one') if callable(step.out) else step.out)
