@@ -1,8 +1,9 @@
 // The nested forms of networks.
 
 use nest_check::nest;
-use net_graph::Net;
-use net_tree::{Branches, Tree};
+use net_graph::{Holds, Net};
+use net_tree::{Branches, Route, Tree};
+use path_planner::plan_law;
 use std::alloc::{AllocError, Global};
 use std::test::Fail;
 use test_networks::network_of;
@@ -45,7 +46,52 @@ fn places_of(alloc: Global, source: &str, parts: &str) -> Result<String, Fail> {
     }
 }
 
+/// The registers on the active path at power-up, as the tree is walked.
+fn route_at_power_up(alloc: Global, source: &str, parts: &str) -> Result<String, Fail> {
+    let net = network_of(alloc, source, parts)?;
+    let Ok(tree) = nest(alloc, &net) else {
+        return Err(Fail::new("the network has no lawful form"));
+    };
+    let Ok(holds) = Holds::power_up(alloc, &net) else {
+        return Err(Fail::new("no memory"));
+    };
+    let Ok(mut route) = Route::new(alloc, &net) else {
+        return Err(Fail::new("no memory"));
+    };
+    plan_law();
+    tree.walk(&net, &holds, &mut route);
+    let mut told = String::new(alloc);
+    for reg in route.regs().as_slice() {
+        let text = format!(in alloc; " {reg}")?;
+        told.push_str(text.as_str())?;
+    }
+    Ok(told)
+}
+
 // ---- tests
+
+/// Two segments with bits inside one another, whose select bits have these values at power-up.
+fn two_segments(alloc: Global, outer: char, inner: char, beside: char) -> Result<String, AllocError> {
+    format!(in alloc; "ScanMux m SelectedBy S {{ 1'b0 : SI; 1'b1 : T; }} ScanMux n SelectedBy T {{ 1'b0 : SI; 1'b1 : A; }} ScanMux o SelectedBy U {{ 1'b0 : B; 1'b1 : C; }} ScanRegister A {{ ScanInSource SI; CaptureSource A; ResetValue 1'b0; }} ScanRegister T {{ ScanInSource n; CaptureSource T; ResetValue 1'b{inner}; }} ScanRegister S {{ ScanInSource m; CaptureSource S; ResetValue 1'b{outer}; }} ScanRegister B {{ ScanInSource S; CaptureSource B; ResetValue 1'b0; }} ScanRegister C {{ ScanInSource S; CaptureSource C; ResetValue 1'b0; }} ScanRegister U {{ ScanInSource o; CaptureSource U; ResetValue 1'b{beside}; }}")
+}
+
+#[test]
+fn routes_go_along_selected_rows_alone(rt: HostRuntime) -> Result<(), Fail> {
+    let alloc = rt.alloc();
+    // A is register 0, T is 1, S is 2, B is 3, C is 4, U is 5.
+    let rows: [(char, char, char, &str); 5] = [
+        ('0', '0', '0', " 2 3 5"),
+        ('0', '1', '0', " 2 3 5"),
+        ('1', '0', '0', " 1 2 3 5"),
+        ('1', '1', '0', " 0 1 2 3 5"),
+        ('1', '1', '1', " 0 1 2 4 5"),
+    ];
+    for (outer, inner, beside, wanted) in rows {
+        let parts = two_segments(alloc, outer, inner, beside)?;
+        assert_eq!(rt; route_at_power_up(alloc, "U", parts.as_str())?.as_str(), wanted);
+    }
+    Ok(())
+}
 
 #[test]
 fn networks_are_nested(rt: HostRuntime) -> Result<(), Fail> {
