@@ -11,7 +11,9 @@ import tempfile
 
 SOURCE_LIMIT = 16_777_216
 SVF_LIMIT = 134_217_728
+GROUP_LIMIT = 4096
 FLAT = pathlib.Path('examples/flat').resolve()
+MERGE = pathlib.Path('examples/merge').resolve()
 REPORT = b'register net.R 0101\nscans 2 clocks 29 differs 0\n'
 
 program = os.path.abspath(sys.argv[1])
@@ -64,6 +66,15 @@ with tempfile.TemporaryDirectory() as folder:
         file.write(b'\n')
     check('SVF above the limit', play(svf), (3, b'', f'refused file Long {svf}\n'.encode()))
     svf.write_bytes(text)
+
+    # so many branches of a merge that write one bit: none joins another, and each is one scan
+    pdl = folder / 'merge.pdl'
+    for branches, wanted in [(GROUP_LIMIT, (0, b'', b'')), (GROUP_LIMIT + 1, (3, b'', b'refused pdl Limit 4105:3 Groups 4096\n'))]:
+        pdl.write_text('iProcsForModule chip\niProc p {} {\n  iMerge -begin\n' + '  iCall q\n' * branches
+                       + '  iMerge -end\n}\niProc q {} {\n  iWrite fast.start 1\n  iApply\n}\n')
+        words = ['compile', MERGE / 'chip.icl', pdl, MERGE / 'chip.dev', 'chip', 'p', folder / 'merge.svf']
+        check(f'{branches} branches', run(words), wanted)
+    check('their scans', (folder / 'merge.svf').read_bytes().count(b'SDR'), GROUP_LIMIT)
 
     # a device that takes nothing, and one that was closed
     check('SVF on a full device', compile_to('/dev/full'), (5, b'', b'write fault /dev/full\n'))
