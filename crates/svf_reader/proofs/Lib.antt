@@ -1,4 +1,5 @@
 pub mod Lexing
+pub mod Passing
 pub mod Putting
 pub mod Scans
 pub mod Cuts

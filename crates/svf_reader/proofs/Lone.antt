@@ -1,15 +1,19 @@
 -- A text of hexadecimal digits alone is one word.
-use Rattle.std.proofs.Common.{◌≡◌, ℕ, Bool, true, false, List, [], ◌∷◌, ◌++◌, Option, Some, None, refl, ap, sym, ◌∙◌, arith, append-nil}
-use Rattle.std.specs.Prelude.{◌&&◌, cond}
+use Rattle.std.proofs.Common.{◌≡◌, ◌≤◌, ℕ, zero, suc, Bool, true, false, List, [], ◌∷◌, ◌++◌, Option, Some, None, length, take, drop, refl, ap, sym, ◌∙◌, arith, append-nil}
+use Rattle.std.specs.Prelude.{◌&&◌, ◌==◌, cond}
 use Rattle.std.specs.List.{list_all}
 use Rattle.std.specs.Char.{is_ascii_hexdigit}
 use Rattle.std.proofs.lemmas.Bool.Decides.{nat_tests}
 use Rattle.ij_text.specs.Bytes.{is_blank}
 use Rattle.svf_reader.specs.Texts.{first, opens, plain_from, plain, is_mark, words}
 use Rattle.svf_reader.specs.Commands.{is_close, behind_hex, hex_digits}
-use Rattle.svf_reader.specs.Reading.{words_of}
+use Rattle.svf_reader.specs.declared.bytes.Class.TheVariants.{Word}
+use Rattle.svf_reader.specs.Reading.{run_length, word_length, words_of}
+use Rattle.svf_reader.specs.Passed.{ends_gap}
 use Rattle.svf_reader.specs.Seen.{digits_of}
 use Rattle.svf_reader.proofs.Again.{AreInWord, word_cut, no_close}
+use Rattle.svf_reader.proofs.Lexing.{next_word_is}
+use Rattle.svf_reader.proofs.Passing.{no_gap_here}
 
 record IsApart (b : ℕ) : Type 0 where
   blank : is_blank b ≡ false
@@ -74,3 +78,45 @@ none_behind w ws all = cases (is_close w)
     cases : (close : Bool) → cond close None (cond (list_all is_ascii_hexdigit w) (behind_hex true ws) None) ≡ None
     cases true = refl
     cases false = ap (λ k. cond k (behind_hex true ws) None) all
+
+-- ---- digits at the front, and a `)` right behind them
+
+hex_ends : (b : ℕ) → is_ascii_hexdigit b ≡ true → ends_gap b ≡ true
+hex_ends b h = grind (arith, nat_tests)
+
+close_ends : (b : ℕ) → (b == 41) ≡ true → ends_gap b ≡ true
+close_ends b h = grind (arith, nat_tests)
+
+close_mark : (b : ℕ) → (b == 41) ≡ true → is_mark b ≡ true
+close_mark b h = grind (arith, nat_tests)
+
+close_is : (b : ℕ) → (b == 41) ≡ true → b ≡ 41
+close_is b h = grind (arith, nat_tests)
+
+close_word : (behind : List ℕ) → (first behind == 41) ≡ true → words_of behind ≡ (41 ∷ []) ∷ words_of (drop 1 behind)
+close_word [] h = absurd (cc)
+close_word (x ∷ xs) h =
+    let gap = no_gap_here (x ∷ xs) x refl (close_ends x h) in
+    let long : 1 ≡ word_length (x ∷ xs) = sym (ap (λ k. cond k 1 (run_length Word false (x ∷ xs))) (close_mark x h)) in
+    let front = next_word_is (x ∷ xs) 1 (omega arith) (sym gap) long in
+    front.is ∙ ap (λ (y : ℕ). (y ∷ []) ∷ words_of xs) (close_is x h)
+
+digits_word : (text : List ℕ) (n : ℕ) → n ≡ run_length Word false text → 1 ≤ length (take n text) → list_all is_ascii_hexdigit (take n text) ≡ true → words_of text ≡ take n text ∷ words_of (drop n text)
+digits_word text zero is some all = absurd (omega arith)
+digits_word [] (suc m) is some all = absurd (omega arith)
+digits_word (b ∷ bs) (suc m) is some all =
+    let digit = (both_true (is_ascii_hexdigit b) (list_all is_ascii_hexdigit (take m bs)) all).0 in
+    let gap = no_gap_here (b ∷ bs) b refl (hex_ends b digit) in
+    let long : suc m ≡ word_length (b ∷ bs) = is ∙ sym (ap (λ k. cond k 1 (run_length Word false (b ∷ bs))) (apart b digit).mark) in
+    (next_word_is (b ∷ bs) (suc m) (omega arith) (sym gap) long).is
+
+pub digits_front : (text digits behind rest : List ℕ) (n : ℕ) → n ≡ run_length Word false text → digits ≡ take n text → behind ≡ drop n text → rest ≡ drop 1 behind → 1 ≤ length digits → list_all is_ascii_hexdigit digits ≡ true → (first behind == 41) ≡ true
+    → words_of text ≡ digits ∷ (41 ∷ []) ∷ words_of rest
+digits_front text digits behind rest n is front back last some all close =
+    let long : 1 ≤ length (take n text) = omega (arith, some, ap length front) in
+    let hex : list_all is_ascii_hexdigit (take n text) ≡ true = ap (list_all is_ascii_hexdigit) (sym front) ∙ all in
+    digits_word text n is long hex
+    ∙ ap (λ (w : List ℕ). w ∷ words_of (drop n text)) (sym front)
+    ∙ ap (λ (r : List ℕ). digits ∷ words_of r) (sym back)
+    ∙ ap (λ (ws : List (List ℕ)). digits ∷ ws) (close_word behind close)
+    ∙ ap (λ (r : List ℕ). digits ∷ (41 ∷ []) ∷ words_of r) (sym last)

@@ -3,6 +3,7 @@ pub mod Commands
 pub mod Values
 pub mod Meaning
 pub mod Reading
+pub mod Passed
 pub mod Seen
 pub mod Answers
 pub mod Scripts

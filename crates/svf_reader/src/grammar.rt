@@ -1,10 +1,11 @@
 // The commands of the grammar.
-ghost use Rattle.std.specs.Prelude.{MatchBool, MatchOption, ◌≡◌, ◌<◌, ◌∷◌, false, codes, length, option_map, Some, None, IfSome};
+ghost use Rattle.std.specs.Prelude.{MatchBool, MatchOption, ◌≡◌, ◌<◌, ◌∷◌, ◌==◌, false, codes, length, option_map, Some, None, IfSome};
 ghost use Rattle.std.specs.List.{list_all};
 ghost use Rattle.svf_reader.specs.Commands.{is_word, with_part, behind_hex, one_part, parts, no_parts, state, cycles, run_test, in_real, is_frequency, is_trst, no_effect_if, parsed_by};
 ghost use Rattle.svf_reader.specs.Reading.{words_of};
 ghost use Rattle.svf_reader.specs.Seen.{digits_of, seen_parts, seen_parsed};
 
+use crate::bytes::{Class, byte_at, long_run_len};
 use crate::parsed::{Parsed, PartTexts};
 use crate::pieces::next_word;
 use crate::words::{all_hex, is_close, is_one_of, is_open, is_word, number, words_are};
@@ -80,6 +81,43 @@ fn hex_text(text: &[u8]) -> Option<HexText<'_>>
     Some(HexText { digits: text, rest })
 }
 
+fn is_close_byte(b: u8) -> bool
+    ensures { result ≡ (b == 41) }
+{
+    b == b')'
+}
+
+/// Digits that stand together at the front of a text, and the `)` right behind them. Gaps are looked for elsewhere.
+fn lone_digits(text: &[u8]) -> Option<HexText<'_>>
+    ensures rest { IfSome result (λ x. Some (words_of x.rest.now) ≡ behind_hex false (words_of text.now)) }
+    ensures digits { IfSome result (λ x. digits_of x.digits.now ≡ digits_of text.now) }
+{
+    let n = long_run_len(text, Class::Word);
+    let (digits, behind) = text.split_at(n);
+    if digits.is_empty() {
+        return None;
+    }
+    if !is_close_byte(byte_at(behind, 0)) {
+        return None;
+    }
+    if !all_hex(digits) {
+        return None;
+    }
+    let (_, rest) = behind.split_at(1);
+    Some(HexText { digits, rest })
+}
+
+/// The hexadecimal text of a part, as `hex_text` answers it.
+fn part_text(text: &[u8]) -> Option<HexText<'_>>
+    ensures rest { option_map (λ x. words_of x.rest.now) result ≡ behind_hex false (words_of text.now) }
+    ensures digits { IfSome result (λ x. digits_of x.digits.now ≡ digits_of text.now) }
+{
+    match lone_digits(text) {
+        Some(hex) => Some(hex),
+        None => hex_text(text),
+    }
+}
+
 /// Puts one more part to the others, of which this is the text behind the name. The text behind it.
 #[tactic(auto, unfolding(crate::specs::Commands::one_part))]
 fn one_part<'a>(parts: &mut PartTexts<'a>, name: &[u8], text: &'a [u8]) -> Option<&'a [u8]>
@@ -89,7 +127,7 @@ fn one_part<'a>(parts: &mut PartTexts<'a>, name: &[u8], text: &'a [u8]) -> Optio
     if !is_open(open.piece) {
         return None;
     }
-    let hex = hex_text(open.rest)?;
+    let hex = part_text(open.rest)?;
     if !with_part(name, hex.digits, parts) {
         return None;
     }

@@ -11,20 +11,28 @@ use crate::fault::SvfCause;
 use crate::pieces::next_word;
 use crate::words::{all_hex, is_close};
 use ij_bits::{Bits, OutOfMemory};
-use ij_text::hex_value;
 use std::alloc::Global;
 use svf_writer::Part;
 
-/// A digit's value, found without asking whether it is a letter; 16 is as 0.
+/// The values of digits by their bytes; 16 is as 0.
+static DIGIT_VALUES: [u8; 256] = [
+    0, 0, 0, 0, 0, 0, 0, 0, 0, 0, 0, 0, 0, 0, 0, 0, 0, 0, 0, 0, 0, 0, 0, 0, 0, 0, 0, 0, 0, 0, 0, 0,
+    0, 0, 0, 0, 0, 0, 0, 0, 0, 0, 0, 0, 0, 0, 0, 0, 0, 1, 2, 3, 4, 5, 6, 7, 8, 9, 3, 4, 5, 6, 7, 8,
+    9, 10, 11, 12, 13, 14, 15, 0, 0, 0, 0, 0, 0, 0, 0, 0, 0, 0, 0, 0, 0, 0, 0, 0, 1, 2, 3, 4, 5, 6,
+    7, 8, 9, 10, 11, 12, 13, 14, 15, 0, 1, 2, 3, 4, 5, 6, 7, 8, 9, 10, 11, 12, 13, 14, 15, 0, 1, 2,
+    3, 4, 5, 6, 7, 8, 9, 10, 11, 12, 13, 14, 15, 0, 1, 2, 3, 4, 5, 6, 7, 8, 9, 10, 11, 12, 13, 14,
+    15, 0, 1, 2, 3, 4, 5, 6, 7, 8, 9, 10, 11, 12, 13, 14, 15, 0, 1, 2, 3, 4, 5, 6, 7, 8, 9, 10, 11,
+    12, 13, 14, 15, 0, 1, 2, 3, 4, 5, 6, 7, 8, 9, 10, 11, 12, 13, 14, 15, 0, 1, 2, 3, 4, 5, 6, 7,
+    8, 9, 10, 11, 12, 13, 14, 15, 0, 1, 2, 3, 4, 5, 6, 7, 8, 9, 10, 11, 12, 13, 14, 15, 0, 1, 2, 3,
+    4, 5, 6, 7, 8, 9, 10, 11, 12, 13, 14, 15, 0, 1, 2, 3, 4, 5, 6, 7, 8,
+];
+
+/// A digit's value, from a table; 16 is as 0.
 fn digit_value(b: u8) -> u8
     ensures value { result ≡ digit_value b % 16 }
     ensures small { result < 16 }
 {
-    if b < b'0' || b > 127 || (b > b'F' && b < b'W') {
-        return hex_value(b) % 16;
-    }
-    let letter = (b + 70) / 128;
-    (b + 9 * letter) % 16
+    DIGIT_VALUES[b as usize]
 }
 
 /// The number that at most 16 digits stand for.
@@ -114,19 +122,18 @@ fn put_digits(bits: &mut Bits, len: u32, digits: &[u8]) -> bool
 fn digits_bits(alloc: Global, len: u32, digits: &[u8]) -> Result<Bits, SvfCause>
     ensures { Gives (λ bits. bits.items) result (hex_value len digits.now) }
 {
-    let mut bits = Bits::zeros(alloc, len)?;
-    bits.clear();
+    let mut bits = Bits::with_room(alloc, len)?;
     if put_digits(&mut bits, len, digits) {
         return Err(SvfCause::HexWide);
     }
     Ok(bits)
 }
 
-/// The digits of a hexadecimal text up to its `)`.
-fn gathered(alloc: Global, text: &[u8]) -> Result<Vec<u8>, OutOfMemory>
+/// The digits of a hexadecimal text up to its `)`, in room for those of so many bits.
+fn gathered(alloc: Global, len: u32, text: &[u8]) -> Result<Vec<u8>, OutOfMemory>
     ensures { IfOk result (λ digits. digits.items ≡ digits_of text.now) }
 {
-    let mut digits = Vec::new(alloc);
+    let mut digits = Vec::with_capacity(alloc, len.div_ceil(4) as usize)?;
     let mut text = text;
     while let Some(next) = next_word(text) {
         if is_close(next.piece) {
@@ -180,6 +187,6 @@ pub(crate) fn text_part(alloc: Global, len: u32, text: &[u8]) -> Result<Part, Sv
     if all_hex(text) {
         return digits_part(alloc, len, text);
     }
-    let digits = gathered(alloc, text)?;
+    let digits = gathered(alloc, len, text)?;
     digits_part(alloc, len, &digits)
 }

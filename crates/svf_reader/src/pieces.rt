@@ -3,7 +3,7 @@ ghost use Rattle.std.specs.Prelude.{◌≡◌, ◌+◌, ◌<◌, ◌≤◌, fals
 ghost use Rattle.svf_reader.specs.Reading.{run_length, word_length, words_of, runs_of};
 ghost use Rattle.svf_reader.specs.Texts.{plain, behind_word};
 
-use crate::bytes::{Class, byte_at, is_mark, run_len};
+use crate::bytes::{Class, byte_at, gap_len, is_mark, long_run_len, run_len};
 
 /// A piece of a text, and the text behind it.
 #[derive(Clone, Copy)]
@@ -20,11 +20,12 @@ fn behind_gap(text: &[u8]) -> &[u8]
     ensures stops { run_length Class.Gap false result.now ≡ 0 }
     ensures shorter { length result.now ≤ length text.now }
 {
-    let (_, rest) = text.split_at(run_len(text, Class::Gap));
+    let (_, rest) = text.split_at(gap_len(text));
     rest
 }
 
 /// The length of the first word, where no gap stands in front.
+#[inline(always)]
 fn word_len(text: &[u8]) -> usize
     ensures value { result ≡ word_length text.now }
     ensures within { 1 ≤ length text.now → result ≤ length text.now }
@@ -32,11 +33,12 @@ fn word_len(text: &[u8]) -> usize
     if is_mark(byte_at(text, 0)) {
         1
     } else {
-        run_len(text, Class::Word)
+        long_run_len(text, Class::Word)
     }
 }
 
 /// The first word of a command's text, if there is one. A parenthesis is a word by itself.
+#[inline(always)]
 pub(crate) fn next_word<'a>(text: &'a [u8]) -> Option<Piece<'a>>
     ensures value { MatchOption result (words_of text.now ≡ []) (λ p. words_of text.now ≡ p.piece.now ∷ words_of p.rest.now) }
     ensures behind { IfSome result (λ p. behind_word (plain text.now) ≡ plain p.rest.now) }

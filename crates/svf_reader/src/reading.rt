@@ -9,7 +9,7 @@ ghost use Rattle.svf_reader.specs.Meaning.{Refusal, LeftOut, SvfSyntax, SvfLimit
 ghost use Rattle.ij_text.specs.Places.{place_at};
 ghost use Rattle.svf_reader.specs.Texts.{plain, texts, blanks};
 
-use crate::bytes::{Class, run_len};
+use crate::bytes::{Class, long_run_len, run_len};
 use crate::fault::{SvfCause, SvfFault};
 use crate::meaning::read_command;
 use crate::pieces::{Piece, next_word};
@@ -24,7 +24,7 @@ fn next_text<'a>(text: &'a [u8]) -> Option<Piece<'a>>
     ensures value { MatchOption result (texts (plain text.now) ≡ plain text.now ∷ []) (λ p. texts (plain text.now) ≡ plain p.piece.now ∷ texts (plain p.rest.now)) }
     ensures lengths { IfSome result (λ p. length p.piece.now + 1 + length p.rest.now ≡ length text.now) }
 {
-    let (piece, behind) = text.split_at(run_len(text, Class::Command));
+    let (piece, behind) = text.split_at(long_run_len(text, Class::Command));
     if behind.is_empty() {
         return None;
     }

@@ -7,18 +7,18 @@ use Rattle.svf_reader.proofs.pieces.behind_gap.Goals as goal
 
 pub returns-clause-words : goal.returns-clause-words
 returns-clause-words c =
-    word_gap c.args.text.now ∙ ap (λ n. words_of (drop n c.args.text.now)) (sym c.run_len.ensures.value) ∙ ap words_of (sym c.split_at.ensures.back)
+    word_gap c.args.text.now ∙ ap (λ n. words_of (drop n c.args.text.now)) (sym c.gap_len.ensures.value) ∙ ap words_of (sym c.split_at.ensures.back)
 
 pub returns-clause-runs : goal.returns-clause-runs
 returns-clause-runs c =
-    run_gap c.args.text.now ∙ ap (λ n. runs_of (drop n c.args.text.now)) (sym c.run_len.ensures.value) ∙ ap runs_of (sym c.split_at.ensures.back)
+    run_gap c.args.text.now ∙ ap (λ n. runs_of (drop n c.args.text.now)) (sym c.gap_len.ensures.value) ∙ ap runs_of (sym c.split_at.ensures.back)
 
 pub returns-clause-behind : goal.returns-clause-behind
 returns-clause-behind c =
-    behind_gap c.args.text.now ∙ ap (λ n. behind_word (plain (drop n c.args.text.now))) (sym c.run_len.ensures.value) ∙ ap (λ (t : List ℕ). behind_word (plain t)) (sym c.split_at.ensures.back)
+    behind_gap c.args.text.now ∙ ap (λ n. behind_word (plain (drop n c.args.text.now))) (sym c.gap_len.ensures.value) ∙ ap (λ (t : List ℕ). behind_word (plain t)) (sym c.split_at.ensures.back)
 
 pub returns-clause-stops : goal.returns-clause-stops
 returns-clause-stops c =
     ap (run_length Gap false) c.split_at.ensures.back
-    ∙ ap (λ n. run_length Gap false (drop n c.args.text.now)) c.run_len.ensures.value
+    ∙ ap (λ n. run_length Gap false (drop n c.args.text.now)) c.gap_len.ensures.value
     ∙ gap_stops false c.args.text.now

@@ -8,17 +8,17 @@ use Rattle.svf_reader.proofs.reading.next_text.Goals as goal
 pub returns-then-is_empty-clause-value : goal.returns-then-is_empty-clause-value
 returns-then-is_empty-clause-value c =
     let none : length c.split_at.result.1.now ≡ 0 = grind (arith, nat_tests) in
-    let all : c.run_len.result ≡ length c.args.text.now = omega (arith, c.split_at.ensures.back_len) in
-    last_is false c.args.text.now (sym c.run_len.ensures.value ∙ all)
+    let all : c.long_run_len.result ≡ length c.args.text.now = omega (arith, c.split_at.ensures.back_len) in
+    last_is false c.args.text.now (sym c.long_run_len.ensures.value ∙ all)
 
 pub returns-clause-value : goal.returns-clause-value
 returns-clause-value c =
     let text = c.args.text.now in
-    let n = c.run_len.result in
+    let n = c.long_run_len.result in
     let some : 1 ≤ length c.split_at.result.1.now = grind (arith, nat_tests) in
     let within : n < length text = omega (arith, c.split_at.ensures.back_len) in
     let next : n + 1 ≡ suc n = omega arith in
     let rest : drop (suc n) text ≡ c.split_at-2.result.1.now = sym (c.split_at-2.ensures.back ∙ ap (drop 1) c.split_at.ensures.back ∙ drop-drop 1 n text ∙ ap (λ k. drop k text) next) in
-    cut_is false text n (sym c.run_len.ensures.value) within
+    cut_is false text n (sym c.long_run_len.ensures.value) within
     ∙ ap (λ (t : List ℕ). plain t ∷ texts (plain (drop (suc n) text))) (sym c.split_at.ensures.front)
     ∙ ap (λ (r : List ℕ). plain c.split_at.result.0.now ∷ texts (plain r)) rest
