@@ -1,1 +1,4 @@
+pub mod Same
 pub mod Setting
+pub mod Selecting
+pub mod Numbering

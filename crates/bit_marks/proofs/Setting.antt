@@ -1,14 +1,11 @@
 -- A number that is set at a bit.
-use Rattle.std.proofs.Common.{◌≡◌, ◌≢◌, ℕ, zero, suc, ◌<◌, ◌≤◌, ◌==◌, ◌⊎◌, inl, inr, ⊎_elim, Bool, true, false, List, [], ◌∷◌, length, get_or, set, map, refl, sym, ap, ◌∙◌, subst, arith}
+use Rattle.std.proofs.Common.{◌≡◌, ℕ, zero, suc, ◌<◌, ◌==◌, ◌⊎◌, inl, inr, ⊎_elim, Bool, true, false, List, [], ◌∷◌, length, get_or, set, map, refl, sym, ap, ◌∙◌, arith}
 use Rattle.std.specs.Prelude.{◌&&◌}
 use Rattle.std.proofs.lemmas.List.{get_or-set_same, get_or-set_other, length-set, length-replicate, set_past, map-set, get_or-map}
 use Rattle.std.proofs.lemmas.Bool.{eqb-true, eq-eqb}
 use Rattle.net_graph.specs.declared.net.BitId.{BitId}
-use Rattle.net_graph.specs.declared.net.Net.{Net}
 use Rattle.net_graph.specs.declared.net.Reg.{Reg}
-use Rattle.net_graph.specs.Named.{IsBitOf}
-use Rattle.net_graph.specs.Path.{same_place}
-use Rattle.bit_marks.specs.Marks.{Marks, HasMark, mark_at, set_mark, zero_marks, zeros}
+use Rattle.bit_marks.specs.Marks.{Marks, mark_at, set_mark, zeros}
 use Rattle.bit_marks.specs.Laws.{SetIsThere, OthersStay, BitsStay, EachBitHasOne, ZerosAreZero}
 
 -- a list that has a number is one of the lists

@@ -1,2 +1,4 @@
 pub mod Marks
 pub mod Laws
+pub mod Selects
+pub mod Numbered

@@ -5,6 +5,7 @@ use Rattle.net_graph.specs.declared.net.Net.{Net}
 use Rattle.net_graph.specs.SeenSteps.{SeenGroup, seen_step}
 use Rattle.net_graph.specs.Steps.{IsStep}
 use Rattle.net_graph.specs.Signals.{Holds}
+use Rattle.bit_marks.specs.Numbered.{HaveMarks}
 use Rattle.svf_writer.specs.Fits.{FitsAfter}
 use Rattle.svf_writer.specs.SeenCommands.{SeenCommand, SeenScan, SIR, SDR, Reset, Idle, Run}
 use Rattle.tap_machine.specs.Play.{is_empty, played}
@@ -27,6 +28,7 @@ pub record IsAuditor (a : Auditor) : Type 0 where
   pub still : AreStill a.registers
   pub ir : AreKept a.ir
   pub dr : AreKept a.dr
+  pub marks : HaveMarks a.registers.net.now a.marks
   pub within : IsWithin a.left
   pub steps : All (IsStep a.registers.net.now) (map seen_step a.left.steps.now.items)
 

@@ -9,7 +9,7 @@ use Rattle.net_graph.specs.Nets.{IsNet}
 use Rattle.net_graph.specs.Signals.{Holds, hold_at}
 use Rattle.svf_audit.specs.declared.registers.Registers.{Registers}
 use Rattle.svf_audit.specs.Audit.{bits_on, has_row, path_of}
-use Rattle.svf_audit.specs.Selects.{AreSelects}
+use Rattle.bit_marks.specs.Selects.{AreSelects}
 
 -- the active path
 abbrev pub path_in : Registers → List ℕ

@@ -10,6 +10,7 @@ ghost use Rattle.net_graph.specs.Steps.{IsGroup, IsStep};
 ghost use Rattle.svf_writer.specs.Fits.{FitsAfter, HasLength};
 ghost use Rattle.svf_writer.specs.SeenCommands.{seen_command, seen_scan, SDR, SIR, Reset as StateReset, Run as RunTest};
 ghost use Rattle.tap_machine.specs.Play.{after_scan, is_empty, scans_in};
+ghost use Rattle.bit_marks.specs.Numbered.{HaveMarks};
 ghost use Rattle.svf_audit.specs.declared.answer.Cause.TheVariants as causes;
 ghost use Rattle.svf_audit.specs.declared.auditor.Halt.TheVariants as halts;
 ghost use Rattle.svf_audit.specs.Audit.{do_group as do_due, reset as reset_by, scan as scan_of, start, step as step_of};
@@ -24,6 +25,7 @@ use crate::kept::{Kept, compares_some, is_number, kept_after, nothing_kept};
 use crate::left::Left;
 use crate::registers::Registers;
 use crate::scan::{does_reads, does_writes, some_data};
+use bit_marks::{BitMarks, marks_law};
 use ij_bits::{List, OutOfMemory};
 use net_graph::{BitStep, Device, Group, Net};
 use std::alloc::Global;
@@ -60,6 +62,8 @@ pub(crate) struct Auditor<'a> {
     pub scans: u32,
     pub readings: List<u32>,
     pub left: Left<'a>,
+    /// A mark for each bit of the network, which says the place of a bit among those looked up.
+    pub marks: BitMarks,
 }
 
 /// A group that a scan does is noted, where it has reads.
@@ -70,6 +74,44 @@ fn note(readings: &mut List<u32>, scan: u32, group: &Group) -> Result<(), OutOfM
         return Ok(());
     }
     readings.push(scan)
+}
+
+/// Whether the scan at hand does a group, and why not.
+fn does(
+    r: &Registers,
+    marks: &mut BitMarks,
+    kept: &Kept,
+    tdo: &Part,
+    group: &Group,
+) -> Result<(), Cause>
+    requires sound { AreRegisters r.now }
+    requires found { AreFound r.now }
+    requires shifted { AreShifted r.now }
+    requires marks { HaveMarks r.now.net.now marks.old }
+    requires kept { AreKept kept.now }
+    requires tdo { HasLength kept.now.len tdo.now }
+    requires fits { kept.now.len ≡ length (chain (path_in r.now) r.now.holds) }
+    requires group { IsGroup r.now.net.now (seen_group group.now) }
+    ensures does { Does r.now (looked_for kept.now tdo.now) (seen_group group.now) result }
+    ensures marks { HaveMarks r.now.net.now marks.new }
+{
+    let bits = r.bits.as_slice();
+    let moved = r.moved.as_slice();
+    if !does_writes(r.net, &r.selects, marks, moved, &r.after, group) {
+        return Err(Cause::Write);
+    }
+    if !does_reads(r.net, marks, kept, tdo, r.path.as_slice(), bits, group) {
+        return Err(Cause::Read);
+    }
+    Ok(())
+}
+
+/// A mark for each bit of a network.
+fn blank_marks(alloc: Global, net: &Net) -> Result<BitMarks, OutOfMemory>
+    ensures { IfOk result (HaveMarks net.now) }
+{
+    marks_law();
+    BitMarks::zeros(alloc, net)
 }
 
 impl<'a> Auditor<'a> {
@@ -91,6 +133,7 @@ impl<'a> Auditor<'a> {
         ensures dr { IfOk result (λ a. last_length a.dr ≡ None) }
     {
         let registers = Registers::new(alloc, net)?;
+        let marks = blank_marks(alloc, net)?;
         Ok(Auditor {
             device,
             registers,
@@ -101,6 +144,7 @@ impl<'a> Auditor<'a> {
             scans: 0,
             readings: List::new(alloc),
             left: Left::all(steps),
+            marks,
         })
     }
 
@@ -141,29 +185,6 @@ impl<'a> Auditor<'a> {
         some_data(r.net, &r.selects, r.moved.as_slice()) || compares_some(kept, tdo)
     }
 
-    /// Whether the scan at hand does a group, and why not.
-    fn does(&self, kept: &Kept, tdo: &Part, group: &Group) -> Result<(), Cause>
-        requires sound { AreRegisters self.now.registers }
-        requires found { AreFound self.now.registers }
-        requires shifted { AreShifted self.now.registers }
-        requires kept { AreKept kept.now }
-        requires tdo { HasLength kept.now.len tdo.now }
-        requires fits { kept.now.len ≡ length (chain (path_in self.now.registers) self.now.registers.holds) }
-        requires group { IsGroup self.now.registers.net.now (seen_group group.now) }
-        ensures { Does self.now.registers (looked_for kept.now tdo.now) (seen_group group.now) result }
-    {
-        let r = &self.registers;
-        let bits = r.bits.as_slice();
-        let moved = r.moved.as_slice();
-        if !does_writes(r.net, &r.selects, moved, &r.after, group) {
-            return Err(Cause::Write);
-        }
-        if !does_reads(kept, tdo, r.path.as_slice(), bits, group) {
-            return Err(Cause::Read);
-        }
-        Ok(())
-    }
-
     /// The scan at hand does the group that is due.
     fn do_group(&mut self, kept: &Kept, scan: &Scan) -> Result<(), Halt>
         requires sound { AreRegisters self.old.registers }
@@ -175,17 +196,19 @@ impl<'a> Auditor<'a> {
         requires fits { kept.now.len ≡ length (chain (path_in self.old.registers) self.old.registers.holds) }
         requires within { IsWithin self.old.left }
         requires steps { All (IsStep self.old.registers.net.now) (map seen_step self.old.left.steps.now.items) }
+        requires marks { HaveMarks self.old.registers.net.now self.old.marks }
         requires few { self.old.scans + 1 < 2 ^ 32 }
         ensures ok { OnOk result (DidGroup self.old self.new (seen_scan scan.now)) }
         ensures err { IfErr result (Stops (λ net device a. do_due net device a (seen_scan scan.now) self.old.registers.after) self.old) }
-        ensures others { self.new ≡ record self.old { readings = self.new.readings; left = self.new.left } }
+        ensures others { self.new ≡ record self.old { readings = self.new.readings; left = self.new.left; marks = self.new.marks } }
+        ensures marks { HaveMarks self.old.registers.net.now self.new.marks }
         ensures within { OnOk result (IsWithin self.new.left) }
         ensures steps { self.new.left.steps ≡ self.old.left.steps }
     {
         let Some(group) = self.left.due_group(&self.registers.holds) else {
             return Err(Halt::Cause(Cause::Step));
         };
-        if let Err(cause) = self.does(kept, &scan.tdo, group) {
+        if let Err(cause) = does(&self.registers, &mut self.marks, kept, &scan.tdo, group) {
             return Err(Halt::Cause(cause));
         }
         note(&mut self.readings, self.scans + 1, group)?;
@@ -204,10 +227,12 @@ impl<'a> Auditor<'a> {
         requires fits { kept.now.len ≡ length (chain (path_in self.old.registers) self.old.registers.holds) }
         requires within { IsWithin self.old.left }
         requires steps { All (IsStep self.old.registers.net.now) (map seen_step self.old.left.steps.now.items) }
+        requires marks { HaveMarks self.old.registers.net.now self.old.marks }
         requires few { self.old.scans + 1 < 2 ^ 32 }
         ensures ok { OnOk result (DidAct self.old self.new (seen_scan scan.now)) }
         ensures err { IfErr result (Stops (λ net device a. act_of net device a (seen_scan scan.now) self.old.registers.after) self.old) }
-        ensures others { self.new ≡ record self.old { readings = self.new.readings; left = self.new.left } }
+        ensures others { self.new ≡ record self.old { readings = self.new.readings; left = self.new.left; marks = self.new.marks } }
+        ensures marks { HaveMarks self.old.registers.net.now self.new.marks }
         ensures within { OnOk result (IsWithin self.new.left) }
         ensures steps { self.new.left.steps ≡ self.old.left.steps }
     {
@@ -226,7 +251,8 @@ impl<'a> Auditor<'a> {
         requires few { self.old.scans + 1 < 2 ^ 32 }
         ensures ok { OnOk result (DidScan self.old self.new (seen_scan scan.now)) }
         ensures err { IfErr result (Stops (λ net device a. scan_of net device a (seen_scan scan.now)) self.old) }
-        ensures others { self.new ≡ record self.old { registers = self.new.registers; readings = self.new.readings; left = self.new.left } }
+        ensures others { self.new ≡ record self.old { registers = self.new.registers; readings = self.new.readings; left = self.new.left; marks = self.new.marks } }
+        ensures marks { HaveMarks self.old.registers.net.now self.new.marks }
         ensures net { self.new.registers.net.now ≡ self.old.registers.net.now }
         ensures sound { OnOk result (AreRegisters self.new.registers) }
         ensures still { OnOk result (AreStill self.new.registers) }
@@ -257,7 +283,8 @@ impl<'a> Auditor<'a> {
         requires few { self.old.scans + 1 < 2 ^ 32 }
         ensures ok { OnOk result (DidReach self.old self.new (seen_scan scan.now)) }
         ensures err { IfErr result (Stops (λ net device a. step_of net device a (SDR (seen_scan scan.now))) self.old) }
-        ensures others { self.new ≡ record self.old { registers = self.new.registers; readings = self.new.readings; left = self.new.left } }
+        ensures others { self.new ≡ record self.old { registers = self.new.registers; readings = self.new.readings; left = self.new.left; marks = self.new.marks } }
+        ensures marks { HaveMarks self.old.registers.net.now self.new.marks }
         ensures net { self.new.registers.net.now ≡ self.old.registers.net.now }
         ensures sound { OnOk result (AreRegisters self.new.registers) }
         ensures still { OnOk result (AreStill self.new.registers) }

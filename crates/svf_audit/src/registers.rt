@@ -15,8 +15,7 @@ ghost use Rattle.svf_audit.specs.Registers.{path_in, to_move, AreFound, AreListe
 
 use crate::kept::{Kept, tdi_at, tdi_number};
 use crate::scan::{have_rows, some_select};
-use crate::select_table::selects_of;
-use bit_marks::BitMarks;
+use bit_marks::{BitMarks, selects_of};
 use ij_bits::{Bits, List, OutOfMemory};
 use net_graph::{BitId, Holds, Net, path_into};
 use std::alloc::Global;

@@ -1,5 +1,6 @@
 use Rattle.std.proofs.Common.{ap, sym, ◌∙◌, subst}
 use Rattle.std.specs.Prelude.{All, map}
+use Rattle.bit_marks.specs.Numbered.{HaveMarks}
 use Rattle.net_graph.specs.SeenSteps.{seen_step}
 use Rattle.net_graph.specs.Steps.{IsStep}
 use Rattle.svf_writer.specs.Fits.{HasLength}
@@ -26,6 +27,7 @@ returns-clause-ok c =
         still = d.still;
         ir = subst (λ y. AreKept y.ir) (sym o) c.requires.sound.ir;
         dr = c.kept_after-kept.ensures.sound;
+        marks = subst (λ n. HaveMarks n z.marks) (sym d.net) d.marks;
         within = d.within;
         steps = subst (λ n. All (IsStep n) (map seen_step z.left.steps.now.items)) (sym d.net) (subst (λ s. All (IsStep a.registers.net.now) (map seen_step s.now.items)) (sym d.steps) c.requires.sound.steps);
       };

@@ -37,7 +37,7 @@ returns-in-Err-clause-err c =
     let next = ok (scanned net a.device.now s x a.registers.after (note s g) (drop 1 d)) in
     group_goes net a.device.now s x a.registers.after g (drop 1 d) (group_is d g c.in-Some.ensures.group)
     ∙ ap (λ es. need (does_writes g (changed net (path_in a.registers) a.registers.holds a.registers.after) a.registers.after) Write (need (does_reads g (path_in a.registers) a.registers.holds es) Read next)) (sym looks)
-    ∙ c.in-Err.ensures next
+    ∙ c.in-Err.ensures.does next
 
 pub returns-clause-ok : goal.returns-clause-ok
 returns-clause-ok c =
@@ -55,6 +55,6 @@ returns-clause-ok c =
       noted_as s g a.readings.items c.note.new.readings.items (a.scans + 1) n (add-one a.scans) c.in_ok-note.ensures,
       group_goes net a.device.now s x a.registers.after g (drop 1 d) (group_is d g c.in-Some.ensures.group)
           ∙ ap (λ es. need (does_writes g (changed net (path_in a.registers) a.registers.holds a.registers.after) a.registers.after) Write (need (does_reads g (path_in a.registers) a.registers.holds es) Read next)) (sym looks)
-          ∙ c.in_default-does.ensures next
+          ∙ c.in_default-does.ensures.does next
           ∙ ap (λ ws. ok (scanned net a.device.now s x a.registers.after (note s g) ws)) (sym left),
     )

@@ -39,6 +39,7 @@ returns-clause-ok c =
         still = c.requires.sound.still;
         ir = c.kept_after-kept.ensures.sound;
         dr = c.requires.sound.dr;
+        marks = c.requires.sound.marks;
         within = c.requires.sound.within;
         steps = c.requires.sound.steps;
       };

@@ -1,6 +1,7 @@
 use Rattle.std.proofs.Common.{ap, sym, subst, List}
 use Rattle.std.specs.Prelude.{All, map}
 use Rattle.net_graph.specs.declared.step.BitStep.{BitStep}
+use Rattle.net_graph.specs.Named.{IsBitOf}
 use Rattle.net_graph.specs.SeenSteps.{seen_step}
 use Rattle.net_graph.specs.Steps.{IsStep}
 use Rattle.svf_audit.proofs.auditor.Auditor.new.Goals as goal
@@ -13,6 +14,7 @@ returns-clause-sound c =
       still = c.in_ok-registers.ensures.still;
       ir = c.nothing_kept.ensures.sound;
       dr = c.nothing_kept-2.ensures.sound;
+      marks = λ b h. c.in_ok-marks.ensures b (subst (λ n. IsBitOf n b) c.in_ok-registers.ensures.net h);
       within = c.all.ensures.within;
       steps = subst (λ n. All (IsStep n) (map seen_step c.all.result.steps.now.items)) (sym c.in_ok-registers.ensures.net) these;
     }

@@ -23,7 +23,7 @@ returns-clause-ok c =
     let a = c.args.self.now in
     let k = c.requires.sound in
     record {
-      sound = record { registers = k.registers; still = k.still; ir = k.ir; dr = k.dr; within = c.do_cycles.ensures.within; steps = subst (λ s. All (IsStep a.registers.net.now) (map seen_step s.now.items)) (sym c.do_cycles.ensures.steps) k.steps };
+      sound = record { registers = k.registers; still = k.still; ir = k.ir; dr = k.dr; marks = k.marks; within = c.do_cycles.ensures.within; steps = subst (λ s. All (IsStep a.registers.net.now) (map seen_step s.now.items)) (sym c.do_cycles.ensures.steps) k.steps };
       net = refl;
       device = refl;
       goes = λ rs n. (rs, n, run_goes a.registers.net.now a.device.now (state_of a rs) c.args.cycles (work_left c.do_cycles.new.self) (c.do_cycles.ensures.some c.if-not-do_cycles.false));

@@ -5,9 +5,10 @@ ghost use Rattle.net_graph.specs.declared.net.BitId.{BitId as ABit};
 ghost use Rattle.net_graph.specs.Nets.{IsNet};
 ghost use Rattle.net_graph.specs.Path.{is_select, same_place};
 ghost use Rattle.bit_marks.specs.Marks.{HasMark};
-ghost use Rattle.svf_audit.specs.Selects.{AreSelects, is_marked};
+ghost use Rattle.bit_marks.specs.Selects.{AreSelects, is_marked};
 
-use bit_marks::{BitMarks, marks_law};
+use crate::laws::marks_law;
+use crate::marks::BitMarks;
 use ij_bits::OutOfMemory;
 use net_graph::{BitId, Net};
 use std::alloc::Global;
@@ -34,7 +35,7 @@ fn mark_all(marks: &mut BitMarks, bits: &[BitId])
 }
 
 /// A table in which the bits that select are marked.
-pub(crate) fn selects_of(alloc: Global, net: &Net) -> Result<BitMarks, OutOfMemory>
+pub fn selects_of(alloc: Global, net: &Net) -> Result<BitMarks, OutOfMemory>
     requires { IsNet net.now }
     ensures { IfOk result (AreSelects net.now) }
 {
@@ -47,7 +48,7 @@ pub(crate) fn selects_of(alloc: Global, net: &Net) -> Result<BitMarks, OutOfMemo
 }
 
 /// Whether a bit of a network selects, by its table.
-pub(crate) fn selects_row(_net: &Net, selects: &BitMarks, bit: BitId) -> bool
+pub fn is_select(_net: &Net, selects: &BitMarks, bit: BitId) -> bool
     requires { AreSelects _net.now selects.now }
     ensures { result ≡ is_select _net.now bit }
 {

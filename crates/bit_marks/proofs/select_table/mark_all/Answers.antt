@@ -2,9 +2,9 @@ use Rattle.std.proofs.Common.{◌+◌, drop, get_or, sym, ap, ◌∙◌}
 use Rattle.std.specs.Prelude.{◌||◌}
 use Rattle.std.specs.List.{list_any}
 use Rattle.net_graph.specs.Path.{same_place}
-use Rattle.svf_audit.specs.Selects.{is_marked}
-use Rattle.svf_audit.proofs.Selecting.{first_bit, next_bit, one_bit_more}
-use Rattle.svf_audit.proofs.select_table.mark_all.Goals as goal
+use Rattle.bit_marks.specs.Selects.{is_marked}
+use Rattle.bit_marks.proofs.Selecting.{first_bit, next_bit, one_bit_more}
+use Rattle.bit_marks.proofs.select_table.mark_all.Goals as goal
 
 pub mark_one-requires : goal.mark_one-requires
 mark_one-requires c = c.loop-bit.invariant.there (get_or c.args.bits.now c.loop-bit.bit-index first_bit) (c.requires c.loop-bit.bit-index first_bit c.loop-bit-test.true)

@@ -1,7 +1,7 @@
 use Rattle.std.proofs.Common.{sym, subst}
 use Rattle.bit_marks.specs.Marks.{HasMark, Marks}
-use Rattle.svf_audit.proofs.Selecting.{marked_one}
-use Rattle.svf_audit.proofs.select_table.mark_one.Goals as goal
+use Rattle.bit_marks.proofs.Selecting.{marked_one}
+use Rattle.bit_marks.proofs.select_table.mark_one.Goals as goal
 
 pub returns-clause-marked : goal.returns-clause-marked
 returns-clause-marked c = λ b. marked_one c.marks_law.ensures.set c.marks_law.ensures.others c.args.marks.now c.set.new.self c.args.bit b c.requires c.set.ensures

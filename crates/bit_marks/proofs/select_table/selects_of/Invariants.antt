@@ -4,8 +4,8 @@ use Rattle.std.specs.List.{list_any}
 use Rattle.net_graph.specs.declared.net.BitId.{BitId}
 use Rattle.net_graph.specs.Path.{is_select, same_place}
 use Rattle.bit_marks.specs.Marks.{HasMark, zero_marks}
-use Rattle.svf_audit.specs.Selects.{is_marked}
-use Rattle.svf_audit.proofs.select_table.selects_of.Given as goal
+use Rattle.bit_marks.specs.Selects.{is_marked}
+use Rattle.bit_marks.proofs.select_table.selects_of.Given as goal
 
 abbrev pub invariant-loop-mux : goal.invariant-loop-mux
 invariant-loop-mux l = record {

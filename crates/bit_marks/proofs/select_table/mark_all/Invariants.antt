@@ -4,8 +4,8 @@ use Rattle.std.specs.List.{list_any}
 use Rattle.net_graph.specs.declared.net.BitId.{BitId}
 use Rattle.net_graph.specs.Path.{same_place}
 use Rattle.bit_marks.specs.Marks.{HasMark}
-use Rattle.svf_audit.specs.Selects.{is_marked}
-use Rattle.svf_audit.proofs.select_table.mark_all.Given as goal
+use Rattle.bit_marks.specs.Selects.{is_marked}
+use Rattle.bit_marks.proofs.select_table.mark_all.Given as goal
 
 abbrev pub invariant-loop-bit : goal.invariant-loop-bit
 invariant-loop-bit l = record {

@@ -1,0 +1,6 @@
+use Rattle.std.proofs.Common.{take}
+use Rattle.bit_marks.specs.Numbered.{AreNumbered, bits_compared}
+use Rattle.svf_audit.proofs.numbered.number_reads.Given as goal
+
+abbrev pub invariant-loop-i : goal.invariant-loop-i
+invariant-loop-i l = AreNumbered l.net l.marks (take l.i (bits_compared l.reads))
