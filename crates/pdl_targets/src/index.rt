@@ -7,6 +7,7 @@ ghost use Rattle.pdl_expand.specs.Values.{cell_of};
 ghost use Rattle.pdl_expand.specs.Expansion.{dotted, dotted_paths};
 ghost use Rattle.pdl_targets.specs.Index.{IsIndex};
 
+use crate::captors::{Captors, captors_of};
 use crate::select_table::selects_of;
 use bit_marks::BitMarks;
 use ij_bits::{List, OutOfMemory};
@@ -21,6 +22,8 @@ pub(crate) struct Index {
     pub cells: Names,
     /// The bits that select.
     pub selects: BitMarks,
+    /// Which register bits capture a signal.
+    pub captors: Captors,
     /// The keys of the things in their order, a hint where a thing stands: it is looked at before it is believed.
     pub things: Names,
 }
@@ -89,10 +92,12 @@ pub(crate) fn index_of(alloc: Global, net: &Net) -> Result<Index, OutOfMemory>
     pdl_expand::paths_differ();
     let cells = dotted_paths(alloc, net.nodes.as_slice())?;
     let selects = selects_of(alloc, net)?;
+    let captors = captors_of(alloc, net)?;
     let things = thing_keys(alloc, net.things.as_slice())?;
     Ok(Index {
         cells,
         selects,
+        captors,
         things,
     })
 }

@@ -125,6 +125,7 @@ fn value_read(
         alloc,
         net,
         &index.selects,
+        &index.captors,
         at,
         number,
         named.spots,

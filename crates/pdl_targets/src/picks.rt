@@ -1,14 +1,14 @@
 // Which register bit a bit of a target stands for.
-ghost use Rattle.std.specs.Prelude.{◌≡◌, ◌<◌, ◌+◌, ◌^◌, length, All};
+ghost use Rattle.std.specs.Prelude.{◌≡◌};
 ghost use Rattle.ij_bits.specs.BitLists.{flip_if};
 ghost use Rattle.net_graph.specs.Path.{same_place};
 ghost use Rattle.net_graph.specs.Signals.{capture_signal};
 ghost use Rattle.pdl_targets.specs.Marked.{AreSelects};
-ghost use Rattle.pdl_targets.specs.Targets.{captured_from, capturing, compared, held_if_captured, is_inverted, same_source, select_compared, written};
+ghost use Rattle.pdl_targets.specs.Targets.{held_if_captured, is_inverted, same_source, select_compared, written};
 
 use crate::select_table::is_select;
 use bit_marks::BitMarks;
-use net_graph::{BitId, Net, Reg, Sig, Spot};
+use net_graph::{BitId, Net, Sig, Spot};
 
 /// A register bit, and whether a bit of a target is its inverse.
 #[derive(Clone, Copy, Drop)]
@@ -48,7 +48,7 @@ pub(crate) fn written(spot: Spot) -> Option<Picked>
 }
 
 /// Whether two signals are one, or each other's inverse.
-fn same_source(a: Sig, b: Sig) -> bool
+pub(crate) fn same_source(a: Sig, b: Sig) -> bool
     ensures { result ≡ same_source a b }
 {
     match a {
@@ -77,7 +77,8 @@ fn same_source(a: Sig, b: Sig) -> bool
     }
 }
 
-fn is_inverted(signal: Sig) -> bool
+/// Whether a signal is an inverse.
+pub(crate) fn is_inverted(signal: Sig) -> bool
     ensures { result ≡ is_inverted signal }
 {
     match signal {
@@ -92,43 +93,8 @@ fn is_inverted(signal: Sig) -> bool
     }
 }
 
-/// The first bit of a register that captures a signal or its inverse.
-fn captured_in(reg: u32, captures: &[Sig], signal: Sig) -> Option<Picked>
-    requires { length captures.now < 2 ^ 32 }
-    ensures { result ≡ capturing reg 0 captures.now signal }
-{
-    for pos in 0..captures.len() {
-        let capture = captures[pos];
-        if same_source(capture, signal) {
-            return Some(Picked {
-                bit: BitId {
-                    reg,
-                    pos: pos as u32,
-                },
-                inverted: flip_if(is_inverted(capture), is_inverted(signal)),
-            });
-        }
-    }
-    None
-}
-
-/// The first register bit, in net order and then by position, that captures a signal or its inverse.
-fn captured(regs: &[Reg], signal: Sig) -> Option<Picked>
-    requires few { length regs.now < 2 ^ 32 }
-    requires short { All (λ reg. length reg.capture.items < 2 ^ 32) regs.now }
-    ensures { result ≡ captured_from 0 regs.now signal }
-{
-    for reg in 0..regs.len() {
-        let found = captured_in(reg as u32, regs[reg].capture.as_slice(), signal);
-        if found.is_some() {
-            return found;
-        }
-    }
-    None
-}
-
 /// What a register bit captures.
-fn capture_of(net: &Net, bit: BitId) -> Sig
+pub(crate) fn capture_of(net: &Net, bit: BitId) -> Sig
     ensures { result ≡ capture_signal net.now bit }
 {
     let reg = bit.reg as usize;
@@ -141,7 +107,7 @@ fn capture_of(net: &Net, bit: BitId) -> Sig
 }
 
 /// A register bit that captures something.
-fn held_if_captured(bit: BitId, signal: Sig) -> Option<Picked>
+pub(crate) fn held_if_captured(bit: BitId, signal: Sig) -> Option<Picked>
     ensures { result ≡ held_if_captured bit signal }
 {
     match signal {
@@ -150,18 +116,6 @@ fn held_if_captured(bit: BitId, signal: Sig) -> Option<Picked>
             bit,
             inverted: false,
         }),
-    }
-}
-
-/// The register bit that a read compares.
-pub(crate) fn compared(net: &Net, spot: Spot) -> Option<Picked>
-    requires few { length net.now.regs.items < 2 ^ 32 }
-    requires short { All (λ reg. length reg.capture.items < 2 ^ 32) net.now.regs.items }
-    ensures { result ≡ compared net.now spot }
-{
-    match spot {
-        Spot::Held(bit) => held_if_captured(bit, capture_of(net, bit)),
-        Spot::Inward(signal) | Spot::Outward(signal) => captured(net.regs.as_slice(), signal),
     }
 }
 

@@ -1,12 +1,14 @@
 // The register bits that the bits of a target stand for.
-ghost use Rattle.std.specs.Prelude.{◌≡◌, ◌<◌, ◌≤◌, ◌+◌, ◌^◌, [], ◌∷◌, ◌++◌, length, All, drop, Some};
+ghost use Rattle.std.specs.Prelude.{◌≡◌, ◌<◌, ◌≤◌, ◌+◌, ◌^◌, [], ◌∷◌, ◌++◌, length, drop, Some};
 ghost use Rattle.ij_text.specs.Numbers.{tern_bits};
+ghost use Rattle.pdl_targets.specs.Captors.{AreCaptors};
 ghost use Rattle.pdl_targets.specs.Marked.{AreSelects};
 ghost use Rattle.pdl_targets.specs.Seen.{Finds};
 ghost use Rattle.pdl_targets.specs.Targets.{read_bit, reads_of, write_bit, writes_of, compared, written};
 
+use crate::captors::{Captors, compared};
 use crate::fault::TargetFault;
-use crate::picks::{Picked, compared, flip_if, select_compared, written};
+use crate::picks::{Picked, flip_if, select_compared, written};
 use crate::select_table::is_select;
 use crate::values::value_at;
 use bit_marks::BitMarks;
@@ -99,14 +101,14 @@ pub(crate) fn reads_of(
     alloc: Global,
     net: &Net,
     selects: &BitMarks,
+    captors: &Captors,
     at: Place,
     read: u32,
     spots: &[Spot],
     values: &Tern,
 ) -> Result<List<ReadBit>, TargetFault>
-    requires regs { length net.now.regs.items < 2 ^ 32 }
-    requires short { All (λ reg. length reg.capture.items < 2 ^ 32) net.now.regs.items }
     requires selects { AreSelects net.now selects.now }
+    requires captors { AreCaptors net.now captors.now.slots.items }
     requires few { length spots.now < 2 ^ 32 }
     requires wide { length values.now.value.items ≡ length spots.now }
     ensures { Finds (λ rs. rs.items) (reads_of net.now at read 0 spots.now (tern_bits values.now)) result }
@@ -115,7 +117,7 @@ pub(crate) fn reads_of(
     for i in 0..spots.len() {
         match value_at(values, i as u32) {
             Some(value) => {
-                let picked = compared(net, spots[i]);
+                let picked = compared(net, captors, spots[i]);
                 match read_bit(net, selects, at, read, i as u32, picked, value) {
                     Ok(bit) => reads.push(bit)?,
                     Err(fault) => return Err(fault),
