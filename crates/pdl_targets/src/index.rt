@@ -8,8 +8,7 @@ ghost use Rattle.pdl_expand.specs.Expansion.{dotted, dotted_paths};
 ghost use Rattle.pdl_targets.specs.Index.{IsIndex};
 
 use crate::captors::{Captors, captors_of};
-use crate::select_table::selects_of;
-use bit_marks::BitMarks;
+use bit_marks::{BitMarks, selects_of};
 use ij_bits::{List, OutOfMemory};
 use ij_text::{Name, Names};
 use net_graph::{Net, Node, Thing};

@@ -6,8 +6,7 @@ ghost use Rattle.net_graph.specs.Signals.{capture_signal};
 ghost use Rattle.pdl_targets.specs.Marked.{AreSelects};
 ghost use Rattle.pdl_targets.specs.Targets.{held_if_captured, is_inverted, same_source, select_compared, written};
 
-use crate::select_table::is_select;
-use bit_marks::BitMarks;
+use bit_marks::{BitMarks, is_select};
 use net_graph::{BitId, Net, Sig, Spot};
 
 /// A register bit, and whether a bit of a target is its inverse.

@@ -5,28 +5,9 @@ ghost use Rattle.net_graph.specs.Path.{same_place};
 ghost use Rattle.pdl_targets.specs.Marked.{AreNumbered, bits_compared, bits_written, first_bits};
 ghost use Rattle.pdl_targets.specs.Rounds.{is_in, mention, put_read, put_reads, put_write, put_writes};
 
-use crate::numbered::{mark_next, place_of};
-use crate::picks::same_place;
-use bit_marks::BitMarks;
+use bit_marks::{BitMarks, is_in, mark_next, read_at, written_at};
 use ij_bits::List;
 use net_graph::{BitId, Net, ReadBit, WriteBit};
-
-/// Where the write of a bit stands.
-fn written_at(_net: &Net, marks: &BitMarks, writes: &[WriteBit], bit: BitId) -> Option<usize>
-    requires { AreNumbered _net.now marks.now (bits_written writes.now) }
-    ensures { result ≡ position (λ w. same_place w.bit bit) writes.now }
-{
-    match place_of(marks, bit, writes.len()) {
-        Some(i) => {
-            if same_place(writes[i].bit, bit) {
-                Some(i)
-            } else {
-                None
-            }
-        }
-        None => None,
-    }
-}
 
 /// Puts a write into a queue with room for it: in place of one of the same bit, or at the end.
 fn put_write(net: &Net, marks: &mut BitMarks, writes: &mut List<WriteBit>, write: WriteBit)
@@ -67,23 +48,6 @@ pub(crate) fn put_writes(
     }
 }
 
-/// Where the read of a bit stands.
-fn read_at(_net: &Net, marks: &BitMarks, reads: &[ReadBit], bit: BitId) -> Option<usize>
-    requires { AreNumbered _net.now marks.now (bits_compared reads.now) }
-    ensures { result ≡ position (λ r. same_place r.bit bit) reads.now }
-{
-    match place_of(marks, bit, reads.len()) {
-        Some(i) => {
-            if same_place(reads[i].bit, bit) {
-                Some(i)
-            } else {
-                None
-            }
-        }
-        None => None,
-    }
-}
-
 /// Puts a read into a queue with room for it: in place of one of the same bit, or at the end.
 fn put_read(net: &Net, marks: &mut BitMarks, reads: &mut List<ReadBit>, read: ReadBit)
     requires room { 1 ≤ reads.old.spare }
@@ -120,21 +84,6 @@ pub(crate) fn put_reads(
 {
     for read in more {
         put_read(net, marks, reads, *read);
-    }
-}
-
-/// Whether a register is among others.
-fn is_in(_net: &Net, marks: &BitMarks, registers: &[u32], register: u32) -> bool
-    requires { AreNumbered _net.now marks.now (first_bits registers.now) }
-    ensures { result ≡ is_in registers.now register }
-{
-    let first = BitId {
-        reg: register,
-        pos: 0,
-    };
-    match place_of(marks, first, registers.len()) {
-        Some(i) => registers[i] == register,
-        None => false,
     }
 }
 

@@ -9,9 +9,8 @@ ghost use Rattle.pdl_targets.specs.Targets.{read_bit, reads_of, write_bit, write
 use crate::captors::{Captors, compared};
 use crate::fault::TargetFault;
 use crate::picks::{Picked, flip_if, select_compared, written};
-use crate::select_table::is_select;
 use crate::values::value_at;
-use bit_marks::BitMarks;
+use bit_marks::{BitMarks, is_select};
 use ij_bits::{List, Tern};
 use ij_text::Place;
 use net_graph::{Net, ReadBit, Spot, WriteBit};

@@ -12,3 +12,9 @@ returns-in-Write-clause-answer c =
     let P : Deed → Type 0 =
     λ d. Binds (feed c.args.net.now (places_in c.args.tree.now) (seen_gathered c.args.gathered.now) (record { at = step.at; node = step.node; what = seen_deed d })) (seen_gathered c.write.new.gathered) c.write.result in
     subst P (sym c.in-Write.is) c.write.ensures.answer
+
+pub returns-in-Apply-clause-kept : goal.returns-in-Apply-clause-kept
+returns-in-Apply-clause-kept c = c.apply.ensures.kept c.args.net.now c.requires.kept
+
+pub returns-in-RunLoop-clause-kept : goal.returns-in-RunLoop-clause-kept
+returns-in-RunLoop-clause-kept c = c.run_value.ensures.kept c.args.net.now c.requires.kept

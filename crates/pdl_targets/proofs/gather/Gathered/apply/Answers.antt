@@ -1,0 +1,5 @@
+use Rattle.std.proofs.Common.{arith}
+use Rattle.pdl_targets.proofs.gather.Gathered.apply.Goals as goal
+
+pub returns-clause-kept : goal.returns-clause-kept
+returns-clause-kept c = λ net kept. c.applied.ensures.kept net kept (omega arith)

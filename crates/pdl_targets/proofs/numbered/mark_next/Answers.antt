@@ -1,7 +1,0 @@
-use Rattle.std.proofs.Common.{◌+◌, arith}
-use Rattle.pdl_targets.proofs.Standing.{one_more}
-use Rattle.pdl_targets.proofs.numbered.mark_next.Goals as goal
-
-pub returns : goal.returns
-returns c = λ bits numbered long differ.
-    one_more c.marks_law.ensures.set c.marks_law.ensures.others c.marks_law.ensures.bits c.args._net.now c.args.marks.now c.set.new.self c.args.bit (c.args.count + 1) c.requires.there c.set.ensures bits numbered (omega (arith, long)) differ
