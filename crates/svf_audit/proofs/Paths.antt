@@ -1,9 +1,10 @@
 -- The active path and its bits: its registers take the bits of one list, and every path has room.
 use Rattle.std.proofs.Common.{◌≡◌, ℕ, zero, suc, ◌+◌, ◌-◌, ◌<◌, ◌≤◌, Bool, false, get_or, List, [], ◌∷◌, ◌++◌, length, take, drop, Option, Some, None, refl, sym, ap, ◌∙◌, subst, arith, length-append, append_assoc, add-one}
 use Rattle.std.specs.Prelude.{All, replicate, map, unwrap_or, slice_range, slice_set, sum}
-use Rattle.std.proofs.lemmas.List.{append-nil, length-map, length-set, drop_more, get_or-set_other, length-replicate, take_all}
+use Rattle.std.proofs.lemmas.List.{append-nil, length-map, length-set, drop_more, get_or-set_other, length-replicate, length-take-le, take_all, take-append-drop}
 use Rattle.std.proofs.lemmas.List.Elements.{All-append, All-cons, All-nil}
 use Rattle.std.proofs.lemmas.List.Sums.{sum_by-cons}
+use Rattle.std.proofs.Math.Seq.{drop-append_seam, drop-append-add, take-append_seam, take-append-add}
 use Rattle.net_graph.specs.Chain.{NotIn, IsRoute, chain}
 use Rattle.net_graph.specs.Held.{AreHolds}
 use Rattle.net_graph.specs.Named.{bits_from, width_of, IsBitOf}
@@ -78,6 +79,16 @@ reset_shape net holds into h is = ap (map length) is ∙ reset-shape net holds �
 
 -- ---- the bits of a path
 
+-- they depend on the widths of the registers alone
+pub same_bits : (s t : Holds) (path : List ℕ) → map length s ≡ map length t → bits_on s path ≡ bits_on t path
+same_bits s t [] e = refl
+same_bits s t (r ∷ rs) e =
+    let wide : length (bits_at s r) ≡ length (bits_at t r) = length_at s r ∙ ap (λ ns. get_or ns r 0) e ∙ sym (length_at t r) in
+    ap (λ n. bits_from r 0 n ++ bits_on s rs) wide ∙ ap (λ bs. bits_from r 0 (length (bits_at t r)) ++ bs) (same_bits s t rs e)
+
+pub bits_at_start : (net : Net) (holds : Holds) (path : List ℕ) → AreHolds net holds → bits_on (start_holds net) path ≡ bits_on holds path
+bits_at_start net holds path h = same_bits (start_holds net) holds path (start_shape net (start_holds net) refl ∙ sym h)
+
 pub length-bits_on : (holds : Holds) (path : List ℕ) → length (bits_on holds path) ≡ length (chain path holds)
 length-bits_on holds [] = refl
 length-bits_on holds (r ∷ rs) =
@@ -116,6 +127,35 @@ on_length holds path i l =
     let r = get_or path i 0 in
     let rest = bits_on holds (drop (i + 1) path) in
     omega (arith, ap (λ p. length (bits_on holds p)) (drop_more path i 0 l), length-append (bits_from r 0 (length (bits_at holds r))) rest, length-bits_from r 0 (length (bits_at holds r)))
+
+-- one more register that stands in both paths
+pub both_next : (holds : Holds) (bits whole : List BitId) (path old : List ℕ) (i k w : ℕ) → i < length path → i < length old → get_or path i 0 ≡ get_or old i 0 → w ≡ length (bits_at holds (get_or path i 0)) → k ≤ length bits
+    → drop k bits ≡ bits_on holds (drop i old) → take k bits ++ bits_on holds (drop i path) ≡ whole
+    → (take (k + w) bits ++ bits_on holds (drop (i + 1) path) ≡ whole) × (drop (k + w) bits ≡ bits_on holds (drop (i + 1) old)) × (k + w ≤ length bits)
+both_next holds bits whole path old i k w l m e wide within last was =
+    let r = get_or path i 0 in
+    let front = take k bits in
+    let own = bits_from r 0 w in
+    let rest = bits_on holds (drop (i + 1) old) in
+    let behind : drop k bits ≡ own ++ rest =
+    last
+    ∙ ap (bits_on holds) (drop_more old i 0 m)
+    ∙ ap (λ x. bits_from x 0 (length (bits_at holds x)) ++ rest) (sym e)
+    ∙ ap (λ n. bits_from r 0 n ++ rest) (sym wide) in
+    let all : bits ≡ front ++ (own ++ rest) = sym (take-append-drop k bits) ∙ ap (λ xs. front ++ xs) behind in
+    let size : k + w ≡ length front + length own = omega (arith, length-take-le k bits within, length-bits_from r 0 w) in
+    let now : take (k + w) bits ≡ front ++ own =
+    ap (λ n. take n bits) size
+    ∙ ap (take (length front + length own)) all
+    ∙ take-append-add front (own ++ rest) (length own)
+    ∙ ap (λ xs. front ++ xs) (take-append_seam own rest) in (
+      one_register holds path i w front (take (k + w) bits) whole l wide now was,
+      ap (λ n. drop n bits) size
+          ∙ ap (drop (length front + length own)) all
+          ∙ drop-append-add front (own ++ rest) (length own)
+          ∙ drop-append_seam own rest,
+      omega (arith, size, ap length all, length-append front (own ++ rest), length-append own rest),
+    )
 
 -- so many more bits
 pub grown : (now done : List BitId) (r w : ℕ) → now ≡ done ++ bits_from r 0 w → length now ≡ length done + w

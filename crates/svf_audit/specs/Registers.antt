@@ -1,11 +1,12 @@
 -- The scan registers of a network as an audit keeps them, before and behind the scan at hand.
-use Rattle.std.specs.Prelude.{◌≡◌, ℕ, ◌+◌, ◌≤◌, Bool, true, false, List, [], ◌∷◌, ◌++◌, length, take, drop, filter, not, IsTrue}
+use Rattle.std.specs.Prelude.{◌≡◌, ℕ, ◌+◌, ◌≤◌, Bool, true, false, List, [], ◌∷◌, ◌++◌, length, take, drop, filter, not, vec_capacity, IsTrue}
 use Rattle.std.specs.List.{list_all}
 use Rattle.ij_bits.specs.BitLists.{same_bit}
 use Rattle.net_graph.specs.declared.net.BitId.{BitId}
 use Rattle.net_graph.specs.Chain.{chain, put_chain}
 use Rattle.net_graph.specs.Held.{AreHolds}
 use Rattle.net_graph.specs.Nets.{IsNet}
+use Rattle.net_graph.specs.Resets.{start_holds}
 use Rattle.net_graph.specs.Signals.{Holds, hold_at}
 use Rattle.svf_audit.specs.declared.registers.Registers.{Registers}
 use Rattle.svf_audit.specs.Audit.{bits_on, has_row, path_of}
@@ -15,13 +16,15 @@ use Rattle.bit_marks.specs.Selects.{AreSelects}
 abbrev pub path_in : Registers → List ℕ
 path_in r = path_of r.net.now r.holds
 
--- there is room for every path and its bits
+-- there is room for every path and its bits, and the bits of a path are known
 pub record AreRegisters (r : Registers) : Type 0 where
   pub net : IsNet r.net.now
   pub selects : AreSelects r.net.now r.selects
   pub holds : AreHolds r.net.now r.holds
   pub path_room : length r.net.now.regs.items ≤ length r.path.items + r.path.spare
-  pub bits_room : 4096 ≤ length r.bits.items + r.bits.spare
+  pub next_room : length r.net.now.regs.items ≤ length r.next.items + r.next.spare
+  pub bits_room : 4096 ≤ vec_capacity r.bits
+  pub known : r.bits.items ≡ bits_on (start_holds r.net.now) r.path.items
   pub chain_room : 4096 ≤ length r.chain.items + r.chain.spare
   pub moved_room : 4096 ≤ length r.moved.items + r.moved.spare
 

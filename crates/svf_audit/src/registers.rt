@@ -1,5 +1,5 @@
 // The scan registers of a network, before and behind a scan.
-ghost use Rattle.std.specs.Prelude.{◌≡◌, ◌+◌, ◌<◌, ◌≤◌, ◌++◌, [], true, false, length, map, All, IfOk};
+ghost use Rattle.std.specs.Prelude.{◌≡◌, ◌+◌, ◌<◌, ◌≤◌, ◌++◌, [], true, false, length, drop, map, vec_len, vec_capacity, All, IfOk};
 ghost use Rattle.std.specs.List.{list_all, list_any};
 ghost use Rattle.net_graph.specs.declared.net.BitId.{BitId as ABit};
 ghost use Rattle.net_graph.specs.Chain.{IsRoute, chain};
@@ -19,12 +19,14 @@ use bit_marks::{BitMarks, selects_of};
 use ij_bits::{Bits, List, OutOfMemory};
 use net_graph::{BitId, Holds, Net, path_into};
 use std::alloc::Global;
+use std::mem::swap;
 
 /// The most bits that a network has.
 const MOST_BITS: u32 = 4096;
 
 /// The scan registers: what they hold, the active path, nearest scan-out first, its bits and what these hold; and what the
-/// registers hold behind the scan at hand, with the bits that it changes.
+/// registers hold behind the scan at hand, with the bits that it changes. The bits are those of the path at every time, as
+/// the width of a register stays.
 #[derive(Drop)]
 pub(crate) struct Registers<'a> {
     pub net: &'a Net,
@@ -32,7 +34,9 @@ pub(crate) struct Registers<'a> {
     pub selects: BitMarks,
     pub holds: Holds,
     pub path: List<u32>,
-    pub bits: List<BitId>,
+    /// Room for the next path.
+    pub next: List<u32>,
+    pub bits: Vec<BitId>,
     pub chain: Bits,
     /// Whether these three are those of the active path.
     pub found: bool,
@@ -55,26 +59,46 @@ fn find_path(net: &Net, holds: &Holds, path: &mut List<u32>)
 }
 
 /// Adds the bits of a register.
-fn add_bits(reg: u32, width: u32, bits: &mut List<BitId>)
-    requires room { width ≤ bits.old.spare }
+fn add_bits(reg: u32, width: u32, bits: &mut Vec<BitId>)
+    requires room { length bits.old.items + width ≤ vec_capacity bits.old }
     ensures items { bits.new.items ≡ bits.old.items ++ bits_from reg 0 width }
-    ensures spare { bits.new.spare + width ≡ bits.old.spare }
+    ensures room { vec_capacity bits.new ≡ vec_capacity bits.old }
 {
     for pos in 0..width {
         bits.push_reserved(BitId { reg, pos });
     }
 }
 
-/// Leaves the bits of a path in a list.
-fn find_bits(path: &[u32], holds: &Holds, bits: &mut List<BitId>)
+/// Keeps of the bits of a path those of the registers with which another path begins as well, and answers how many registers
+/// these are.
+fn keep_front(path: &[u32], old: &[u32], holds: &Holds, bits: &mut Vec<BitId>) -> usize
     requires route { IsRoute (length holds.now) path.now }
-    requires room { length (bits_on holds.now path.now) ≤ length bits.old.items + bits.old.spare }
-    ensures items { bits.new.items ≡ bits_on holds.now path.now }
-    ensures room { length bits.new.items + bits.new.spare ≡ length bits.old.items + bits.old.spare }
+    requires known { bits.old.items ≡ bits_on holds.now old.now }
+    ensures within { result ≤ length path.now }
+    ensures items { bits.new.items ++ bits_on holds.now (drop result path.now) ≡ bits_on holds.now path.now }
+    ensures route { IsRoute (length holds.now) (drop result path.now) }
+    ensures room { vec_capacity bits.new ≡ vec_capacity bits.old }
 {
-    bits.clear();
-    for reg in path {
-        add_bits(*reg, holds.register(*reg).len(), bits);
+    let mut same = 0;
+    let mut kept = 0;
+    while same < path.len() && same < old.len() && path[same] == old[same] {
+        kept += holds.register(path[same]).len() as usize;
+        same += 1;
+    }
+    bits.truncate(kept);
+    same
+}
+
+/// Makes the bits of a path those of another.
+fn find_bits(path: &[u32], old: &[u32], holds: &Holds, bits: &mut Vec<BitId>)
+    requires route { IsRoute (length holds.now) path.now }
+    requires known { bits.old.items ≡ bits_on holds.now old.now }
+    requires room { length (bits_on holds.now path.now) ≤ vec_capacity bits.old }
+    ensures items { bits.new.items ≡ bits_on holds.now path.now }
+    ensures room { vec_capacity bits.new ≡ vec_capacity bits.old }
+{
+    for i in keep_front(path, old, holds, bits)..path.len() {
+        add_bits(path[i], holds.register(path[i]).len(), bits);
     }
 }
 
@@ -107,14 +131,15 @@ fn put_bits(bits: &[BitId], from: &Holds, into: &mut Holds)
 
 /// An empty path, with room for so many registers.
 fn room_for_path(alloc: Global, n: usize) -> Result<List<u32>, OutOfMemory>
-    ensures { IfOk result (λ path. n ≤ length path.items + path.spare) }
+    ensures room { IfOk result (λ path. n ≤ length path.items + path.spare) }
+    ensures empty { IfOk result (λ path. path.items ≡ []) }
 {
     let mut path = List::new(alloc);
     path.reserve(n)?;
     Ok(path)
 }
 
-/// No bits, and room for the bits of every path.
+/// No bits, and room for those of every path.
 fn room_for_bits(alloc: Global) -> Result<List<BitId>, OutOfMemory>
     ensures { IfOk result (λ bits. 4096 ≤ length bits.items + bits.spare) }
 {
@@ -135,7 +160,8 @@ impl<'a> Registers<'a> {
         let selects = selects_of(alloc, net)?;
         let holds = Holds::power_up(alloc, net)?;
         let path = room_for_path(alloc, net.regs.len())?;
-        let bits = room_for_bits(alloc)?;
+        let next = room_for_path(alloc, net.regs.len())?;
+        let bits = Vec::with_capacity(alloc, MOST_BITS as usize)?;
         let chain = Bits::with_room(alloc, MOST_BITS)?;
         let after = Holds::power_up(alloc, net)?;
         let moved = room_for_bits(alloc)?;
@@ -144,6 +170,7 @@ impl<'a> Registers<'a> {
             selects,
             holds,
             path,
+            next,
             bits,
             chain,
             found: false,
@@ -167,10 +194,11 @@ impl<'a> Registers<'a> {
         if self.found {
             return;
         }
-        find_path(self.net, &self.holds, &mut self.path);
-        let path = self.path.as_slice();
-        find_bits(path, &self.holds, &mut self.bits);
+        find_path(self.net, &self.holds, &mut self.next);
+        let path = self.next.as_slice();
+        find_bits(path, self.path.as_slice(), &self.holds, &mut self.bits);
         find_chain(path, &self.holds, &mut self.chain);
+        swap(&mut self.path, &mut self.next);
         self.found = true;
     }
 
@@ -197,7 +225,7 @@ impl<'a> Registers<'a> {
         if self.chain.get(k) == value {
             return;
         }
-        let bit = *self.bits.get(k as usize);
+        let bit = self.bits[k as usize];
         self.chain.set(k, value);
         self.after.set(bit, value);
         self.moved.push_reserved(bit);

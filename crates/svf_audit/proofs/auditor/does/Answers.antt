@@ -26,7 +26,7 @@ does_writes-requires-clause-now c =
 
 pub does_reads-requires-clause-fits : goal.does_reads-requires-clause-fits
 does_reads-requires-clause-fits c =
-    ap length c.as_slice-bits.ensures ∙ bits_count c.args.r.now c.requires.found ∙ sym c.requires.fits
+    ap length c.as_slice-bits.ensures.value ∙ bits_count c.args.r.now c.requires.found ∙ sym c.requires.fits
 
 pub returns-then-not-does_writes-clause-does : goal.returns-then-not-does_writes-clause-does
 returns-then-not-does_writes-clause-does c =
@@ -46,7 +46,7 @@ returns-then-not-does_reads-clause-does c =
     let on : List ℕ → Bool = λ path. list_all (λ x. list_any (λ y. y == x.bit.reg) path) g.reads in
     let d : does_reads g (path_in r) r.holds es ≡ c.does_reads.result = sym (
     c.does_reads.ensures.done
-    ∙ ap (λ bs. same_expects es (map (expected_of g.reads) bs) && on c.as_slice.result.now) (c.as_slice-bits.ensures ∙ c.requires.found.bits)
+    ∙ ap (λ bs. same_expects es (map (expected_of g.reads) bs) && on c.as_slice.result.now) (c.as_slice-bits.ensures.value ∙ c.requires.found.bits)
     ∙ ap (λ path. same_expects es (map (expected_of g.reads) (bits_on r.holds (path_in r))) && on path) (c.as_slice.ensures ∙ c.requires.found.path)
     ) in
     λ next. ap (λ t. need t Write (need (does_reads g (path_in r) r.holds es) Read next)) (w ∙ c.if-not-does_writes.false) ∙ ap (λ t. need t Read next) (d ∙ c.if-not-does_reads.true)
@@ -61,7 +61,7 @@ returns-clause-does c =
     let on : List ℕ → Bool = λ path. list_all (λ x. list_any (λ y. y == x.bit.reg) path) g.reads in
     let d : does_reads g (path_in r) r.holds es ≡ c.does_reads.result = sym (
     c.does_reads.ensures.done
-    ∙ ap (λ bs. same_expects es (map (expected_of g.reads) bs) && on c.as_slice.result.now) (c.as_slice-bits.ensures ∙ c.requires.found.bits)
+    ∙ ap (λ bs. same_expects es (map (expected_of g.reads) bs) && on c.as_slice.result.now) (c.as_slice-bits.ensures.value ∙ c.requires.found.bits)
     ∙ ap (λ path. same_expects es (map (expected_of g.reads) (bits_on r.holds (path_in r))) && on path) (c.as_slice.ensures ∙ c.requires.found.path)
     ) in
     λ next. ap (λ t. need t Write (need (does_reads g (path_in r) r.holds es) Read next)) (w ∙ c.if-not-does_writes.false) ∙ ap (λ t. need t Read next) (d ∙ c.if-not-does_reads.false)

@@ -1,8 +1,11 @@
-use Rattle.std.proofs.Common.{ap, sym, ◌∙◌, subst, arith, length, List, ℕ}
+use Rattle.std.proofs.Common.{◌+◌, ◌≤◌, ap, sym, ◌∙◌, subst, arith, length, List, ℕ}
+use Rattle.ij_bits.specs.Room.{Listed}
+use Rattle.net_graph.specs.declared.net.Net.{Net}
 use Rattle.net_graph.specs.Chain.{IsRoute, chain}
+use Rattle.net_graph.specs.Resets.{start_holds}
 use Rattle.svf_audit.specs.Audit.{bits_on}
 use Rattle.svf_audit.proofs.Found.{path_few}
-use Rattle.svf_audit.proofs.Paths.{bits_fit, route_in}
+use Rattle.svf_audit.proofs.Paths.{bits_at_start, bits_fit, route_in}
 use Rattle.svf_audit.proofs.registers.Registers.find.Goals as goal
 
 pub returns-then-self-clause-found : goal.returns-then-self-clause-found
@@ -15,6 +18,13 @@ pub find_bits-requires-clause-route : goal.find_bits-requires-clause-route
 find_bits-requires-clause-route c =
     let r = c.args.self.now in
     subst (IsRoute (length r.holds)) (sym (c.as_slice-path.ensures ∙ c.find_path.ensures.path)) (route_in r.net.now r.holds r.holds c.requires.sound.net c.requires.sound.holds)
+
+pub find_bits-requires-clause-known : goal.find_bits-requires-clause-known
+find_bits-requires-clause-known c =
+    let r = c.args.self.now in
+    c.requires.sound.known
+    ∙ bits_at_start r.net.now r.holds r.path.items c.requires.sound.holds
+    ∙ ap (bits_on r.holds) (sym c.as_slice.ensures)
 
 pub find_bits-requires-clause-room : goal.find_bits-requires-clause-room
 find_bits-requires-clause-room c =
@@ -36,15 +46,23 @@ find_chain-requires-clause-room c =
     let r = c.args.self.now in
     omega (arith, path_few r c.requires.sound, ap (λ (p : List ℕ). length (chain p r.holds)) (c.as_slice-path.ensures ∙ c.find_path.ensures.path), c.requires.sound.chain_room)
 
+abbrev HasRoom : Net → Listed ℕ → Type 0
+HasRoom net path = length net.regs.items ≤ length path.items + path.spare
+
 pub returns-clause-sound : goal.returns-clause-sound
 returns-clause-sound c =
+    let r = c.args.self.now in
     let k = c.requires.sound in
     record {
       net = k.net;
       selects = k.selects;
       holds = k.holds;
-      path_room = omega (arith, k.path_room, c.find_path.ensures.room);
+      path_room = subst (HasRoom r.net.now) (sym c.swap.ensures.x_after) (omega (arith, k.next_room, c.find_path.ensures.room));
+      next_room = subst (HasRoom r.net.now) (sym c.swap.ensures.y_after) k.path_room;
       bits_room = omega (arith, k.bits_room, c.find_bits.ensures.room);
+      known = c.find_bits.ensures.items
+          ∙ sym (bits_at_start r.net.now r.holds c.as_slice-path.result.now k.holds)
+          ∙ ap (bits_on (start_holds r.net.now)) (c.as_slice-path.ensures ∙ sym (ap (λ (l : Listed ℕ). l.items) c.swap.ensures.x_after));
       chain_room = omega (arith, k.chain_room, c.find_chain.ensures.room);
       moved_room = k.moved_room;
     }
@@ -52,7 +70,7 @@ returns-clause-sound c =
 pub returns-clause-found : goal.returns-clause-found
 returns-clause-found c =
     record {
-      path = c.find_path.ensures.path;
+      path = ap (λ (l : Listed ℕ). l.items) c.swap.ensures.x_after ∙ c.find_path.ensures.path;
       bits = c.find_bits.ensures.items ∙ ap (bits_on c.args.self.now.holds) (c.as_slice-path.ensures ∙ c.find_path.ensures.path);
     }
 

@@ -1,4 +1,4 @@
-use Rattle.std.proofs.Common.{◌∙◌, arith}
+use Rattle.std.proofs.Common.{arith}
 use Rattle.svf_audit.proofs.Found.{bits_count, bits_few}
 use Rattle.svf_audit.proofs.registers.Registers.len.Goals as goal
 
@@ -7,4 +7,4 @@ overflow_cast-result c =
     omega (arith, c.len.ensures, bits_few c.args.self.now c.requires.sound c.requires.found)
 
 pub returns : goal.returns
-returns c = c.len.ensures ∙ bits_count c.args.self.now c.requires.found
+returns c = omega (arith, c.len.ensures, bits_count c.args.self.now c.requires.found)

@@ -18,7 +18,9 @@ returns-clause-sound c =
       selects = k.selects;
       holds = reset_shape c.args.self.now.net.now c.args.self.now.holds c.reset.new.self k.holds c.reset.ensures;
       path_room = k.path_room;
+      next_room = k.next_room;
       bits_room = k.bits_room;
+      known = k.known;
       chain_room = k.chain_room;
       moved_room = k.moved_room;
     }

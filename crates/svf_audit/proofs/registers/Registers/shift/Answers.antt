@@ -18,7 +18,9 @@ turn_all-requires-clause-turned c =
         selects = k.selects;
         holds = k.holds;
         path_room = k.path_room;
+        next_room = k.next_room;
         bits_room = k.bits_room;
+        known = k.known;
         chain_room = k.chain_room;
         moved_room = omega (arith, k.moved_room, c.clear.ensures.spare);
       };

@@ -38,8 +38,8 @@ returns-then-get-value-clause-moves c =
     ap (λ b. same_bit b (get_or r.chain.items k false)) (sym c.tdi_at-value.ensures) ∙ ap (same_bit c.tdi_at-value.result) (sym c.get.ensures) ∙ alike c.get.result c.tdi_at-value.result c.if-get-value.true in
     ap (λ xs. r.moved.items ++ xs) (sym (skips r.bits.items r.chain.items tdi k (omega (arith, c.requires.within, turned_long r tdi k t)) c.requires.within (omega (arith, c.requires.within, t.long)) same))
 
-pub get-bit-requires : goal.get-bit-requires
-get-bit-requires c = omega (arith, c.requires.within, turned_long c.args.self.now (seen_tdi c.args.kept.now) c.args.k c.requires.turned)
+pub index-bit-requires : goal.index-bit-requires
+index-bit-requires c = omega (arith, c.requires.within, turned_long c.args.self.now (seen_tdi c.args.kept.now) c.args.k c.requires.turned)
 
 pub tdi_at-value-requires : goal.tdi_at-value-requires
 tdi_at-value-requires c = omega (arith, c.requires.within, c.requires.turned.long)
@@ -51,7 +51,7 @@ set-requires-2 c =
     let tdi = seen_tdi c.args.kept.now in
     let t = c.requires.turned in
     let inside : k < length r.bits.items = omega (arith, c.requires.within, turned_long r tdi k t) in
-    let bit : c.get-bit.result.now ≡ get_or r.bits.items k first = c.get-bit.ensures ∙ any_default r.bits.items k c.get-bit.result.now first inside in
+    let bit : c.index-bit.result.now ≡ get_or r.bits.items k first = c.index-bit.ensures ∙ any_default r.bits.items k c.index-bit.result.now first inside in
     subst (IsHeld r.after) (sym bit) (turned_held r tdi k k t c.requires.within)
 
 pub returns-clause-turned : goal.returns-clause-turned
@@ -62,16 +62,18 @@ returns-clause-turned c =
     let tdi = seen_tdi c.args.kept.now in
     let t = c.requires.turned in
     let inside : k < length r.bits.items = omega (arith, c.requires.within, turned_long r tdi k t) in
-    let bit : c.get-bit.result.now ≡ get_or r.bits.items k first = c.get-bit.ensures ∙ any_default r.bits.items k c.get-bit.result.now first inside in
+    let bit : c.index-bit.result.now ≡ get_or r.bits.items k first = c.index-bit.ensures ∙ any_default r.bits.items k c.index-bit.result.now first inside in
     record {
       sound = record {
         net = t.sound.net;
         selects = t.sound.selects;
         holds = t.sound.holds;
         path_room = t.sound.path_room;
+        next_room = t.sound.next_room;
         bits_room = t.sound.bits_room;
+        known = t.sound.known;
         chain_room = omega (arith, t.sound.chain_room, c.set.ensures.spare, ap length c.set.ensures.items, length-set r.chain.items k v);
-        moved_room = omega (arith, t.sound.moved_room, c.push_reserved.ensures.spare, ap length c.push_reserved.ensures.items, length-append r.moved.items (c.get-bit.result.now ∷ []));
+        moved_room = omega (arith, t.sound.moved_room, c.push_reserved.ensures.spare, ap length c.push_reserved.ensures.items, length-append r.moved.items (c.index-bit.result.now ∷ []));
       };
       found = record { path = t.found.path; bits = t.found.bits };
       fits = ap length c.set.ensures.items ∙ length-set r.chain.items k v ∙ t.fits;
@@ -92,12 +94,12 @@ returns-clause-moves c =
     let tdi = seen_tdi c.args.kept.now in
     let t = c.requires.turned in
     let inside : k < length r.bits.items = omega (arith, c.requires.within, turned_long r tdi k t) in
-    let bit : c.get-bit.result.now ≡ get_or r.bits.items k first = c.get-bit.ensures ∙ any_default r.bits.items k c.get-bit.result.now first inside in
+    let bit : c.index-bit.result.now ≡ get_or r.bits.items k first = c.index-bit.ensures ∙ any_default r.bits.items k c.index-bit.result.now first inside in
     let other : same_bit (get_or tdi k false) (get_or r.chain.items k false) ≡ false =
     ap (λ b. same_bit b (get_or r.chain.items k false)) (sym c.tdi_at-value.ensures) ∙ ap (same_bit v) (sym c.get.ensures) ∙ unlike c.get.result v c.if-get-value.false in
     ap (λ xs. xs ++ differing (drop (k + 1) r.bits.items) (drop (k + 1) c.set.new.self.items) (drop (k + 1) tdi)) c.push_reserved.ensures.items
-    ∙ ap (λ xs. (r.moved.items ++ c.get-bit.result.now ∷ []) ++ differing (drop (k + 1) r.bits.items) (drop (k + 1) xs) (drop (k + 1) tdi)) c.set.ensures.items
-    ∙ moved_one r.moved.items r.bits.items r.chain.items tdi k c.get-bit.result.now v bit inside c.requires.within (omega (arith, c.requires.within, t.long)) other
+    ∙ ap (λ xs. (r.moved.items ++ c.index-bit.result.now ∷ []) ++ differing (drop (k + 1) r.bits.items) (drop (k + 1) xs) (drop (k + 1) tdi)) c.set.ensures.items
+    ∙ moved_one r.moved.items r.bits.items r.chain.items tdi k c.index-bit.result.now v bit inside c.requires.within (omega (arith, c.requires.within, t.long)) other
 
 pub returns-clause-length : goal.returns-clause-length
 returns-clause-length c = ap length c.set.ensures.items ∙ length-set c.args.self.now.chain.items c.args.k c.tdi_at-value.result

@@ -36,7 +36,9 @@ returns-clause-sound c =
       selects = k.selects;
       holds = ap (map length) c.put_bits.ensures ∙ shifted_shape c.args.self.now k c.requires.shifted;
       path_room = k.path_room;
+      next_room = k.next_room;
       bits_room = k.bits_room;
+      known = k.known;
       chain_room = k.chain_room;
       moved_room = k.moved_room;
     }
