@@ -19,7 +19,7 @@ abbrev many : List (List ℕ) → ℕ → ℕ
 many [] r = 0
 many (rs ∷ rss) r = cond (is_in rs r) (suc (many rss r)) (many rss r)
 
-some_in : (rs : List ℕ) (r : ℕ) → is_in rs r ≡ true → 1 ≤ times rs r
+pub some_in : (rs : List ℕ) (r : ℕ) → is_in rs r ≡ true → 1 ≤ times rs r
 some_in [] r e = absurd cc
 some_in (q ∷ qs) r e = by_test (q == r) (some_in qs r) e
   where

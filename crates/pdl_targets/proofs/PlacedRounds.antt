@@ -5,13 +5,10 @@ use Rattle.std.specs.Borrow.{Bor}
 use Rattle.std.specs.List.{list_any}
 use Rattle.std.proofs.lemmas.Bool.{eqb-true}
 use Rattle.std.proofs.lemmas.List.Elements.{All-head, All-tail}
-use Rattle.net_graph.specs.declared.step.WriteBit.{WriteBit}
-use Rattle.net_graph.specs.declared.step.ReadBit.{ReadBit}
-use Rattle.net_graph.specs.SeenSteps.{SeenGroup}
 use Rattle.pdl_targets.specs.declared.rounds.Placed.{Placed}
-use Rattle.pdl_targets.specs.Rounds.{Places, clash, clashes, exclude, groups, left_over, part_on, round}
+use Rattle.pdl_targets.specs.Rounds.{Places, clash, clashes, exclude, left_over, round, rounds}
 use Rattle.pdl_targets.specs.SeenPlaces.{IsPlaced, meets, numbers, placed_left, placed_round, seen_placed}
-use Rattle.pdl_targets.proofs.Grouping.{one_group_more}
+use Rattle.pdl_targets.proofs.Grouping.{one_round_more}
 use Rattle.pdl_targets.proofs.Apart.{all_cons, all_nil}
 
 module _ (places : Places) where
@@ -67,16 +64,16 @@ module _ (places : Places) where
       by_met ih is true = all_cons (IsPlaced places) p (placed_left taken ps) is (ih taken)
       by_met ih is false = ih (taken ++ p ∷ [])
 
-  -- the groups end where no register is left
-  pub ended : (ws : List WriteBit) (reads : List ReadBit) (rest : List (Bor Placed)) (n : ℕ) (gs all : List SeenGroup) → n ≡ length rest → (b : Bool) → b ≡ (n == 0) → b ≡ true
-      → gs ++ groups places ws reads (numbers (seen_placed rest)) ≡ all → gs ≡ all
-  ended ws reads [] n gs all l b is e h = sym (nothing_more gs) ∙ h
+  -- the rounds end where no register is left
+  pub ended : (rest : List (Bor Placed)) (n : ℕ) (rss all : List (List ℕ)) → n ≡ length rest → (b : Bool) → b ≡ (n == 0) → b ≡ true
+      → rss ++ rounds places (numbers (seen_placed rest)) ≡ all → rss ≡ all
+  ended [] n rss all l b is e h = sym (nothing_more rss) ∙ h
     where
-      nothing_more : (gs : List SeenGroup) → gs ++ [] ≡ gs
+      nothing_more : (rss : List (List ℕ)) → rss ++ [] ≡ rss
       nothing_more [] = refl
-      nothing_more (g ∷ gs) = ap (λ l. g ∷ l) (nothing_more gs)
-  ended ws reads (x ∷ rest) zero gs all l b is e h = absurd (omega (arith, l))
-  ended ws reads (x ∷ rest) (suc n) gs all l b is e h = let t : (suc n == 0) ≡ true = sym is ∙ e in absurd (omega (arith, eqb-true (suc n) 0 t))
+      nothing_more (rs ∷ rss) = ap (λ l. rs ∷ l) (nothing_more rss)
+  ended (x ∷ rest) zero rss all l b is e h = absurd (omega (arith, l))
+  ended (x ∷ rest) (suc n) rss all l b is e h = let t : (suc n == 0) ≡ true = sym is ∙ e in absurd (omega (arith, eqb-true (suc n) 0 t))
 
 fewer : (taken ps : List Placed) → length (placed_left taken ps) ≤ length ps
 fewer taken [] = omega arith
@@ -110,28 +107,28 @@ pub some_placed : (xs : List (Bor Placed)) (n : ℕ) → n ≡ length xs → (b 
 some_placed xs zero l b is e = absurd cc
 some_placed xs (suc n) l b is e = omega (arith, l)
 
--- ---- the groups
+-- ---- the rounds
 
--- some groups, and the registers that are left, with their places
-pub record GoesOn (places : Places) (ws : List WriteBit) (reads : List ReadBit) (gs : List SeenGroup) (rest : List (Bor Placed)) (all : List SeenGroup) : Type 0 where
+-- some rounds, and the registers that are left, with their places
+pub record GoesOn (places : Places) (rss : List (List ℕ)) (rest : List (Bor Placed)) (all : List (List ℕ)) : Type 0 where
   pub placed : All (IsPlaced places) (seen_placed rest)
-  pub same : gs ++ groups places ws reads (numbers (seen_placed rest)) ≡ all
+  pub same : rss ++ rounds places (numbers (seen_placed rest)) ≡ all
 
-module _ (places : Places) (ws : List WriteBit) (reads : List ReadBit) where
-  pub begins : (gs : List SeenGroup) (rest : List (Bor Placed)) (registers : List Placed) → gs ≡ [] → seen_placed rest ≡ registers → All (IsPlaced places) registers → GoesOn places ws reads gs rest (groups places ws reads (numbers registers))
-  begins gs rest registers none e h =
-      record { placed = subst (All (IsPlaced places)) (sym e) h; same = ap (λ x. x ++ groups places ws reads (numbers (seen_placed rest))) none ∙ ap (λ l. groups places ws reads (numbers l)) e }
+module _ (places : Places) where
+  pub begins : (rss : List (List ℕ)) (rest : List (Bor Placed)) (registers : List Placed) → rss ≡ [] → seen_placed rest ≡ registers → All (IsPlaced places) registers → GoesOn places rss rest (rounds places (numbers registers))
+  begins rss rest registers none e h =
+      record { placed = subst (All (IsPlaced places)) (sym e) h; same = ap (λ x. x ++ rounds places (numbers (seen_placed rest))) none ∙ ap (λ l. rounds places (numbers l)) e }
 
-  pub one_more_group : (gs now : List SeenGroup) (g : SeenGroup) (rest taken left : List (Bor Placed)) (all : List SeenGroup) → 1 ≤ length rest
-      → seen_placed taken ≡ placed_round [] (seen_placed rest) → seen_placed left ≡ placed_left [] (seen_placed rest) → g ≡ part_on ws reads (numbers (seen_placed taken)) → now ≡ gs ++ g ∷ []
-      → GoesOn places ws reads gs rest all → GoesOn places ws reads now left all
-  one_more_group gs now g rest taken left all some t l is n on =
+  pub one_more_round : (rss now : List (List ℕ)) (rs : List ℕ) (rest taken left : List (Bor Placed)) (all : List (List ℕ)) → 1 ≤ length rest
+      → seen_placed taken ≡ placed_round [] (seen_placed rest) → seen_placed left ≡ placed_left [] (seen_placed rest) → rs ≡ numbers (seen_placed taken) → now ≡ rss ++ rs ∷ []
+      → GoesOn places rss rest all → GoesOn places now left all
+  one_more_round rss now rs rest taken left all some t l is n on =
       let none : All (IsPlaced places) [] = all_nil (IsPlaced places) in
       let took = ap numbers t ∙ round_is places [] (seen_placed rest) none on.placed in
       let others = ap numbers l ∙ left_is places [] (seen_placed rest) none on.placed in
       record {
         placed = subst (All (IsPlaced places)) (sym l) (all_left places [] (seen_placed rest) on.placed);
         same =
-            ap (λ x. x ++ groups places ws reads (numbers (seen_placed left))) n
-            ∙ one_group_more places ws reads gs g (numbers (seen_placed rest)) (numbers (seen_placed left)) all (some_numbers rest some) (is ∙ ap (part_on ws reads) took) others on.same;
+            ap (λ x. x ++ rounds places (numbers (seen_placed left))) n
+            ∙ one_round_more places rss rs (numbers (seen_placed rest)) (numbers (seen_placed left)) all (some_numbers rest some) (is ∙ took) others on.same;
       }

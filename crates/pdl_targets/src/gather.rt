@@ -6,14 +6,15 @@ ghost use Rattle.net_graph.specs.Named.{IsBitOf};
 ghost use Rattle.net_graph.specs.SeenSteps.{seen_group, seen_step};
 ghost use Rattle.pdl_parser.specs.Views.{seen_value};
 ghost use Rattle.pdl_targets.specs.Binding.{applied, apply, empty, finish, first_of, run, run_of, run_value, with_reads, with_writes};
+ghost use Rattle.pdl_targets.specs.Laws.{AreEachOnce};
 ghost use Rattle.pdl_targets.specs.Rounds.{groups};
 ghost use Rattle.pdl_targets.specs.Seen.{Finishes};
 ghost use Rattle.pdl_targets.specs.SeenGathered.{Binds, IsKept, IsLimited, applied_queue, seen_gathered};
 ghost use Rattle.pdl_targets.specs.SeenPlaces.{places_in};
 
 use crate::fault::TargetFault;
+use crate::groups::groups;
 use crate::queue::{mention_read, mention_written, put_reads, put_writes};
-use crate::rounds::groups;
 use bit_marks::{BitMarks, marks_law};
 use ij_bits::{List, OutOfMemory};
 use ij_text::{Number, Place, Which};
@@ -166,7 +167,8 @@ impl Gathered {
         at: Place,
         tree: &Tree,
     ) -> Result<Option<BitStep>, TargetFault>
-        requires { IsLimited self.old }
+        requires limited { IsLimited self.old }
+        requires once { AreEachOnce self.old.registers.items }
         ensures answer { Binds (apply at (seen_gathered self.old) (groups (places_in tree.now) self.old.writes.items self.old.reads.items self.old.registers.items)) (seen_gathered self.new) result }
         ensures stays { OnErr result (seen_gathered self.new ≡ seen_gathered self.old) }
         ensures kept { (net : ANet) → IsKept net self.old → IsKept net self.new }
@@ -174,6 +176,7 @@ impl Gathered {
         let groups = groups(
             alloc,
             tree,
+            &self.register_marks,
             self.writes.as_slice(),
             self.reads.as_slice(),
             self.registers.as_slice(),

@@ -1,14 +1,12 @@
 // The rounds of an iApply.
-ghost use Rattle.std.specs.Prelude.{◌≡◌, ◌<◌, ◌++◌, [], ◌∷◌, length, map, filter, cond, is_some, All, IfOk, OnOk};
-ghost use Rattle.std.specs.Option.{IfSome};
-ghost use Rattle.net_graph.specs.SeenSteps.{seen_group};
-ghost use Rattle.pdl_targets.specs.Rounds.{Places, groups, is_in, part_on};
+ghost use Rattle.std.specs.Prelude.{◌≡◌, ◌++◌, [], ◌∷◌, cond, All, IfOk, OnOk};
+ghost use Rattle.pdl_targets.specs.Rounds.{Places, rounds};
 ghost use Rattle.pdl_targets.specs.SeenPlaces.{IsPlaced, meets, numbers, placed_left, placed_round, places_in, seen_placed};
+ghost use Rattle.pdl_targets.specs.SeenRounds.{seen_rounds};
 ghost use Rattle.pdl_targets.specs.TakenRows.{AreRows, rows_around};
 
 use crate::taken_rows::{TakenRow, excludes_any, take_place};
 use ij_bits::{List, OutOfMemory};
-use net_graph::{Group, ReadBit, WriteBit};
 use net_tree::{Branches, Tree};
 use std::alloc::Global;
 
@@ -104,154 +102,39 @@ fn first_round<'a>(alloc: Global, registers: &[&'a Placed]) -> Result<Round<'a>,
     Ok(round)
 }
 
-/// A register that was looked for: whether it is among others, and where the next one is looked for first.
-#[derive(Clone, Copy, Drop)]
-struct Sought {
-    register: u32,
-    found: bool,
-    next: usize,
-}
-
-/// Where a register stands among others.
-fn place_in(registers: &[&Placed], register: u32) -> Option<usize>
-    ensures found { is_some result ≡ is_in (numbers (seen_placed registers.now)) register }
-    ensures place { IfSome result (λ i. i < length registers.now) }
+/// The numbers of registers.
+fn numbers_of(alloc: Global, all: &[&Placed]) -> Result<List<u32>, OutOfMemory>
+    ensures { IfOk result (λ list. list.items ≡ numbers (seen_placed all.now)) }
 {
-    for i in 0..registers.len() {
-        if registers[i].register == register {
-            return Some(i);
-        }
+    let mut list = List::new(alloc);
+    for one in all {
+        list.push(one.register)?;
     }
-    None
+    Ok(list)
 }
 
-/// Looks for a register, at one place before all others.
-fn seek_from(registers: &[&Placed], next: usize, register: u32) -> Sought
-    ensures found { result.found ≡ is_in (numbers (seen_placed registers.now)) register }
-    ensures register { result.register ≡ register }
+/// The rounds of registers with their places.
+fn rounds_placed(alloc: Global, registers: &[Placed]) -> Result<Vec<List<u32>>, OutOfMemory>
+    ensures { (places : Places) → All (IsPlaced places) registers.now → IfOk result (λ list. seen_rounds list.items ≡ rounds places (numbers registers.now)) }
 {
-    if next < registers.len() && registers[next].register == register {
-        return Sought {
-            register,
-            found: true,
-            next: next + 1,
-        };
-    }
-    match place_in(registers, register) {
-        Some(i) => Sought {
-            register,
-            found: true,
-            next: i + 1,
-        },
-        None => Sought {
-            register,
-            found: false,
-            next,
-        },
-    }
-}
-
-/// Looks for a register, behind the one that was looked for last.
-fn seek(registers: &[&Placed], last: Option<Sought>, register: u32) -> Sought
-    requires { IfSome last (λ s. s.found ≡ is_in (numbers (seen_placed registers.now)) s.register) }
-    ensures found { result.found ≡ is_in (numbers (seen_placed registers.now)) register }
-    ensures register { result.register ≡ register }
-{
-    match last {
-        Some(last) => {
-            if last.register == register {
-                last
-            } else {
-                seek_from(registers, last.next, register)
-            }
-        }
-        None => seek_from(registers, 0, register),
-    }
-}
-
-/// The writes on some registers.
-fn writes_on(
-    alloc: Global,
-    writes: &[WriteBit],
-    registers: &[&Placed],
-) -> Result<List<WriteBit>, OutOfMemory>
-    ensures { IfOk result (λ ws. ws.items ≡ filter (λ w. is_in (numbers (seen_placed registers.now)) w.bit.reg) writes.now) }
-{
-    let mut part = List::new(alloc);
-    let mut last = None;
-    for write in writes {
-        let sought = seek(registers, last, write.bit.reg);
-        if sought.found {
-            part.push(*write)?;
-        }
-        last = Some(sought);
-    }
-    Ok(part)
-}
-
-/// The reads on some registers.
-fn reads_on(
-    alloc: Global,
-    reads: &[ReadBit],
-    registers: &[&Placed],
-) -> Result<List<ReadBit>, OutOfMemory>
-    ensures { IfOk result (λ rs. rs.items ≡ filter (λ r. is_in (numbers (seen_placed registers.now)) r.bit.reg) reads.now) }
-{
-    let mut part = List::new(alloc);
-    let mut last = None;
-    for read in reads {
-        let sought = seek(registers, last, read.bit.reg);
-        if sought.found {
-            part.push(*read)?;
-        }
-        last = Some(sought);
-    }
-    Ok(part)
-}
-
-/// The part of a queue on some registers.
-fn part_on(
-    alloc: Global,
-    writes: &[WriteBit],
-    reads: &[ReadBit],
-    registers: &[&Placed],
-) -> Result<Group, OutOfMemory>
-    ensures { IfOk result (λ g. seen_group g ≡ part_on writes.now reads.now (numbers (seen_placed registers.now))) }
-{
-    let writes = writes_on(alloc, writes, registers)?;
-    let reads = reads_on(alloc, reads, registers)?;
-    Ok(Group { writes, reads })
-}
-
-/// The groups of a queue on registers with their places, one for each round.
-fn groups_placed(
-    alloc: Global,
-    writes: &[WriteBit],
-    reads: &[ReadBit],
-    registers: &[Placed],
-) -> Result<List<Group>, OutOfMemory>
-    ensures { (places : Places) → All (IsPlaced places) registers.now → IfOk result (λ gs. map seen_group gs.items ≡ groups places writes.now reads.now (numbers registers.now)) }
-{
-    let mut groups = List::new(alloc);
+    let mut list = Vec::new(alloc);
     let mut rest = references(alloc, registers)?;
     while !rest.is_empty() {
         let round = first_round(alloc, &rest)?;
-        groups.push(part_on(alloc, writes, reads, &round.taken)?)?;
+        list.push(numbers_of(alloc, &round.taken)?)?;
         rest = round.left;
     }
-    Ok(groups)
+    Ok(list)
 }
 
-/// The groups of a queue, one for each round.
-pub(crate) fn groups(
+/// The rounds of registers.
+pub(crate) fn rounds(
     alloc: Global,
     tree: &Tree,
-    writes: &[WriteBit],
-    reads: &[ReadBit],
     registers: &[u32],
-) -> Result<List<Group>, OutOfMemory>
-    ensures { IfOk result (λ gs. map seen_group gs.items ≡ groups (places_in tree.now) writes.now reads.now registers.now) }
+) -> Result<Vec<List<u32>>, OutOfMemory>
+    ensures { IfOk result (λ list. seen_rounds list.items ≡ rounds (places_in tree.now) registers.now) }
 {
     let all = with_places(alloc, tree, registers)?;
-    groups_placed(alloc, writes, reads, &all)
+    rounds_placed(alloc, &all)
 }
