@@ -1,4 +1,5 @@
-//! A number for each bit of a network's scan registers, which is looked up and changed in constant time.
+//! A number for each bit of a network's scan registers, and what is found by it: which bits select, and where a bit or a register
+//! stands in a list.
 #![tactic(auto)]
 
 mod laws;

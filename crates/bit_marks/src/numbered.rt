@@ -31,7 +31,8 @@ fn place_of(marks: &BitMarks, bit: BitId, count: usize) -> Option<usize>
     }
 }
 
-/// Gives a bit the mark of the place behind so many others.
+/// Gives a bit the mark of the place behind so many others. Where these have the marks of their places, and none of them is this
+/// bit, all have them then. Takes no memory.
 pub fn mark_next(_net: &Net, marks: &mut BitMarks, bit: BitId, count: usize)
     requires few { count + 1 < 2 ^ 32 }
     requires there { HasMark marks.old bit }
@@ -41,7 +42,8 @@ pub fn mark_next(_net: &Net, marks: &mut BitMarks, bit: BitId, count: usize)
     marks.set(bit, count as u32 + 1);
 }
 
-/// Where the write of a bit stands, in constant time.
+/// Where the write of a bit stands among some whose bits have the marks of their places, or none. It looks at one mark. Takes no
+/// memory.
 pub fn written_at(_net: &Net, marks: &BitMarks, writes: &[WriteBit], bit: BitId) -> Option<usize>
     requires { AreNumbered _net.now marks.now (bits_written writes.now) }
     ensures { result ≡ position (λ w. same_place w.bit bit) writes.now }
@@ -58,7 +60,8 @@ pub fn written_at(_net: &Net, marks: &BitMarks, writes: &[WriteBit], bit: BitId)
     }
 }
 
-/// Where the read of a bit stands, in constant time.
+/// Where the read of a bit stands among some whose bits have the marks of their places, or none. It looks at one mark. Takes no
+/// memory.
 pub fn read_at(_net: &Net, marks: &BitMarks, reads: &[ReadBit], bit: BitId) -> Option<usize>
     requires { AreNumbered _net.now marks.now (bits_compared reads.now) }
     ensures { result ≡ position (λ r. same_place r.bit bit) reads.now }
@@ -75,7 +78,7 @@ pub fn read_at(_net: &Net, marks: &BitMarks, reads: &[ReadBit], bit: BitId) -> O
     }
 }
 
-/// Whether a register is among others, in constant time.
+/// Whether a register is among others, whose first bits have the marks of their places. It looks at one mark. Takes no memory.
 pub fn is_in(_net: &Net, marks: &BitMarks, registers: &[u32], register: u32) -> bool
     requires { AreNumbered _net.now marks.now (first_bits registers.now) }
     ensures { result ≡ list_any (λ q. q == register) registers.now }

@@ -34,7 +34,7 @@ fn mark_all(marks: &mut BitMarks, bits: &[BitId])
     }
 }
 
-/// A table in which the bits that select are marked.
+/// A table in which the bits that select are marked, and no others.
 pub fn selects_of(alloc: Global, net: &Net) -> Result<BitMarks, OutOfMemory>
     requires { IsNet net.now }
     ensures { IfOk result (AreSelects net.now) }
@@ -47,7 +47,7 @@ pub fn selects_of(alloc: Global, net: &Net) -> Result<BitMarks, OutOfMemory>
     Ok(marks)
 }
 
-/// Whether a bit of a network selects, by its table.
+/// Whether a bit of a network selects, by its table. Takes no memory.
 pub fn is_select(_net: &Net, selects: &BitMarks, bit: BitId) -> bool
     requires { AreSelects _net.now selects.now }
     ensures { result ≡ is_select _net.now bit }

@@ -17,15 +17,15 @@ pub(crate) struct Captor {
     pub signal: Sig,
 }
 
-/// Which register bits capture a signal: its slot lists them, in net order and then by position, with those of the few other
+/// Which register bits capture a signal: its slot lists them, in net order and then by position, with those of the other
 /// signals of that slot.
 #[derive(Drop)]
 pub(crate) struct Captors {
     pub slots: Vec<List<Captor>>,
 }
 
-/// The slot of a bit of a register, or of an output of an instrument: one of a prime number. Two bits of one register or
-/// instrument have different slots.
+/// The slot of a bit of a register, or of an output of an instrument: a number below the prime 8191. Within the limits two bits
+/// of one register or instrument have different slots.
 fn slot(owner: u32, port: u32, pos: u32) -> usize
     ensures { result ≡ slot owner port pos }
 {
