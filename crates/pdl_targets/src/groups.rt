@@ -206,7 +206,7 @@ fn no_groups(alloc: Global, rounds: &[List<u32>]) -> Result<Vec<Group>, OutOfMem
     ensures { IfOk result (λ gs. AreGroups (seen_rounds rounds.now) [] [] gs.items) }
 {
     let mut groups = Vec::new(alloc);
-    for _ in rounds {
+    for _round in rounds {
         groups.push(Group {
             writes: List::new(alloc),
             reads: List::new(alloc),

@@ -4,6 +4,7 @@ use Rattle.pdl_expand.specs.Values.{seen_deed}
 use Rattle.pdl_targets.specs.Binding.{feed}
 use Rattle.pdl_targets.specs.SeenGathered.{Binds, seen_gathered}
 use Rattle.pdl_targets.specs.SeenPlaces.{places_in}
+use Rattle.pdl_targets.proofs.Distinct.{are_once}
 use Rattle.pdl_targets.proofs.binder.bind.Goals as goal
 
 pub returns-in-Write-clause-answer : goal.returns-in-Write-clause-answer
@@ -18,3 +19,8 @@ returns-in-Apply-clause-kept c = c.apply.ensures.kept c.args.net.now c.requires.
 
 pub returns-in-RunLoop-clause-kept : goal.returns-in-RunLoop-clause-kept
 returns-in-RunLoop-clause-kept c = c.run_value.ensures.kept c.args.net.now c.requires.kept
+
+pub apply-requires-clause-once : goal.apply-requires-clause-once
+apply-requires-clause-once c =
+    let gathered = c.args.gathered.now in
+    are_once c.args.net.now gathered.register_marks gathered.registers.items c.requires.kept.registers
