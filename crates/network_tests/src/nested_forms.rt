@@ -71,8 +71,15 @@ fn route_at_power_up(alloc: Global, source: &str, parts: &str) -> Result<String,
 // ---- tests
 
 /// Two segments with bits inside one another, whose select bits have these values at power-up.
-fn two_segments(alloc: Global, outer: char, inner: char, beside: char) -> Result<String, AllocError> {
-    format!(in alloc; "ScanMux m SelectedBy S {{ 1'b0 : SI; 1'b1 : T; }} ScanMux n SelectedBy T {{ 1'b0 : SI; 1'b1 : A; }} ScanMux o SelectedBy U {{ 1'b0 : B; 1'b1 : C; }} ScanRegister A {{ ScanInSource SI; CaptureSource A; ResetValue 1'b0; }} ScanRegister T {{ ScanInSource n; CaptureSource T; ResetValue 1'b{inner}; }} ScanRegister S {{ ScanInSource m; CaptureSource S; ResetValue 1'b{outer}; }} ScanRegister B {{ ScanInSource S; CaptureSource B; ResetValue 1'b0; }} ScanRegister C {{ ScanInSource S; CaptureSource C; ResetValue 1'b0; }} ScanRegister U {{ ScanInSource o; CaptureSource U; ResetValue 1'b{beside}; }}")
+fn two_segments(
+    alloc: Global,
+    outer: char,
+    inner: char,
+    beside: char,
+) -> Result<String, AllocError> {
+    format!(in alloc;
+        "ScanMux m SelectedBy S {{ 1'b0 : SI; 1'b1 : T; }} ScanMux n SelectedBy T {{ 1'b0 : SI; 1'b1 : A; }} ScanMux o SelectedBy U {{ 1'b0 : B; 1'b1 : C; }} ScanRegister A {{ ScanInSource SI; CaptureSource A; ResetValue 1'b0; }} ScanRegister T {{ ScanInSource n; CaptureSource T; ResetValue 1'b{inner}; }} ScanRegister S {{ ScanInSource m; CaptureSource S; ResetValue 1'b{outer}; }} ScanRegister B {{ ScanInSource S; CaptureSource B; ResetValue 1'b0; }} ScanRegister C {{ ScanInSource S; CaptureSource C; ResetValue 1'b0; }} ScanRegister U {{ ScanInSource o; CaptureSource U; ResetValue 1'b{beside}; }}"
+    )
 }
 
 #[test]
@@ -88,7 +95,10 @@ fn routes_go_along_selected_rows_alone(rt: HostRuntime) -> Result<(), Fail> {
     ];
     for (outer, inner, beside, wanted) in rows {
         let parts = two_segments(alloc, outer, inner, beside)?;
-        assert_eq!(rt; route_at_power_up(alloc, "U", parts.as_str())?.as_str(), wanted);
+        assert_eq!(rt;
+            route_at_power_up(alloc, "U", parts.as_str())?.as_str(),
+            wanted
+        );
     }
     Ok(())
 }
