@@ -17,6 +17,9 @@ use Rattle.scan_packer.proofs.Bits.{zero-shape}
 pub start_held : (net : Net) → AreHolds net (start_holds net)
 start_held net = reset-shape net (zero_holds net) ∙ zero-shape net.regs.items
 
+pub started_held : (net : Net) (holds : Holds) → holds ≡ start_holds net → AreHolds net holds
+started_held net holds e = ap (map length) e ∙ start_held net
+
 -- a position below the width of a register is a bit of the network
 pub is_bit : (net : Net) (b : BitId) (reg : Reg) → b.reg < length net.regs.items → reg ≡ get_or net.regs.items b.reg reg → b.pos < reg.width → IsBitOf net b
 is_bit net b reg l e p =
