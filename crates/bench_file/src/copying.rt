@@ -1,5 +1,5 @@
 // The words, memory and ports of a model in the order of an instrument.
-ghost use Rattle.std.specs.Prelude.{◌≡◌, ◌<◌, ◌≤◌, [], map, length, get_or, unwrap_or, option_map, All, IfOk, IfSome};
+ghost use Rattle.std.specs.Prelude.{◌≡◌, ◌<◌, ◌≤◌, map, length, get_or, unwrap_or, option_map, All, IfOk, IfSome};
 ghost use Rattle.instruments.specs.Seen.{seen_word, seen_memory, seen_port, seen_out};
 ghost use Rattle.table_file.specs.Tables.{named};
 ghost use Rattle.bench_file.specs.Fits.{in_port, out_port, no_out, out_named};

@@ -1,7 +1,7 @@
 // Why tables don't fit a network, if they don't.
-ghost use Rattle.std.specs.Prelude.{◌≡◌, ◌+◌, ◌-◌, ◌^◌, ◌<◌, ◌≤◌, ◌&&◌, suc, map, length, get_or, option_map, IfSome, Some, None};
-ghost use Rattle.std.specs.List.{list_any, list_all};
-ghost use Rattle.net_graph.specs.Nets.{path_of, IsNet};
+ghost use Rattle.std.specs.Prelude.{◌≡◌, ◌+◌, ◌-◌, ◌<◌, ◌≤◌, ◌&&◌, suc, map, length, option_map, Some, None};
+ghost use Rattle.std.specs.List.{list_all};
+ghost use Rattle.net_graph.specs.Nets.{IsNet};
 ghost use Rattle.instruments.specs.Seen.{seen_port, seen_out, seen_model};
 ghost use Rattle.table_file.specs.Tables.{same_path, seen_table};
 ghost use Rattle.bench_file.specs.Fits.{in_port, out_port, model_out_port, same_port, among, same_ports, in_ports, out_ports, model_out_ports, has_ports, inst_path, table_named, missing, names_one, extra, models_from, fitted, misfit, inst_misfit, name_texts};

@@ -1,5 +1,5 @@
 // The models of a network's instruments.
-ghost use Rattle.std.specs.Prelude.{◌≡◌, ◌<◌, ◌≤◌, ℕ, [], map, length, option_map, slice_index_or, All, IfOk, IsErrOf, Ok, Err, None};
+ghost use Rattle.std.specs.Prelude.{◌≡◌, ◌<◌, ◌≤◌, ℕ, map, length, option_map, slice_index_or, All, IfOk, IsErrOf, Ok, Err, None};
 ghost use Rattle.ij_text.specs.declared.Place.{Place};
 ghost use Rattle.net_graph.specs.Nets.{IsNet, IsInst};
 ghost use Rattle.instruments.specs.Models.{IsModel};

@@ -1,6 +1,6 @@
 // The lines of a text that have words.
-ghost use Rattle.std.specs.Prelude.{◌≡◌, ◌≢◌, ◌+◌, ◌^◌, ◌<◌, ◌≤◌, [], ◌∷◌, length, take, MatchOption, IfSome, IfOk, suc, ℕ};
-ghost use Rattle.bench_lines.specs.Lines.{blanks, shown, words, line_place, line_of, unless_empty, end_from, end_of, lines, split};
+ghost use Rattle.std.specs.Prelude.{◌≡◌, ◌+◌, ◌^◌, ◌<◌, ◌≤◌, [], ◌∷◌, length, MatchOption, IfSome, IfOk, suc, ℕ};
+ghost use Rattle.bench_lines.specs.Lines.{shown, words, line_place, line_of, unless_empty, end_of, lines};
 ghost use Rattle.bench_lines.specs.Reading.{lines_left, seen_line, texts};
 
 use crate::bytes::{Class, cut_at, next_word, run_len};

@@ -1,10 +1,10 @@
 // What the words of lines say.
-ghost use Rattle.std.specs.Prelude.{◌≡◌, ◌+◌, ◌*◌, ◌^◌, ◌<◌, ◌≤◌, length, IfOk, IfSome, IsTrue, option_map, is_some, not, Some, get_or, true, false, nat_le, min, map, drop, ◌&&◌, ◌||◌, ◌-◌, if◌then◌else◌};
+ghost use Rattle.std.specs.Prelude.{◌≡◌, ◌+◌, ◌*◌, ◌^◌, ◌<◌, ◌≤◌, length, IfOk, IfSome, IsTrue, option_map, is_some, not, Some, get_or, true, false, nat_le, map, drop, ◌&&◌, ◌||◌, ◌-◌, if◌then◌else◌};
 ghost use Rattle.std.specs.Str.{bytes_eq};
 ghost use Rattle.std.specs.List.{list_all, list_any};
 ghost use Rattle.std.specs.Char.{is_ascii_hexdigit};
 ghost use Rattle.ij_bits.specs.BitLists.{number_of};
-ghost use Rattle.ij_text.specs.Numbers.{InDecimal, InBits, bits_in, seen, tern_bits, hex_value, number_of_text};
+ghost use Rattle.ij_text.specs.Numbers.{InDecimal, InBits, bits_in, seen, tern_bits, hex_value};
 ghost use Rattle.bench_lines.specs.Words.{care_in, number, decimal, in_decimal, is_open, is_one, is_wide, value_in, without_x, plain, hex, hex_from};
 ghost use Rattle.bench_lines.specs.Reading.{plain_value};
 

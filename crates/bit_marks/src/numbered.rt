@@ -4,7 +4,7 @@ ghost use Rattle.std.specs.List.{list_any, position};
 ghost use Rattle.std.specs.Option.{IfNone, IfSome};
 ghost use Rattle.net_graph.specs.declared.net.BitId.{BitId as ABit};
 ghost use Rattle.net_graph.specs.Path.{same_place};
-ghost use Rattle.bit_marks.specs.Marks.{HasMark, mark_at};
+ghost use Rattle.bit_marks.specs.Marks.{HasMark, mark_at, set_mark};
 ghost use Rattle.bit_marks.specs.Numbered.{AreNumbered, bits_compared, bits_written, first_bits};
 
 use crate::laws::marks_law;
@@ -36,7 +36,8 @@ fn place_of(marks: &BitMarks, bit: BitId, count: usize) -> Option<usize>
 pub fn mark_next(_net: &Net, marks: &mut BitMarks, bit: BitId, count: usize)
     requires few { count + 1 < 2 ^ 32 }
     requires there { HasMark marks.old bit }
-    ensures { (bits : List ABit) → AreNumbered _net.now marks.old bits → length bits ≡ count → All (λ c. same_place c bit ≡ false) bits → AreNumbered _net.now marks.new (bits ++ bit ∷ []) }
+    ensures mark { marks.new ≡ set_mark marks.old bit (count + 1) }
+    ensures numbered { (bits : List ABit) → AreNumbered _net.now marks.old bits → length bits ≡ count → All (λ c. same_place c bit ≡ false) bits → AreNumbered _net.now marks.new (bits ++ bit ∷ []) }
 {
     marks_law();
     marks.set(bit, count as u32 + 1);

@@ -1,5 +1,5 @@
 // The modules that each made design has.
-ghost use Rattle.std.specs.Prelude.{◌≡◌, [], ◌∷◌, ◌++◌, OnOk, IfOk};
+ghost use Rattle.std.specs.Prelude.{◌≡◌, [], ◌∷◌, OnOk, IfOk};
 ghost use Rattle.icl_syntax.specs.Views.{seen_instr, seen_module};
 ghost use Rattle.design_maker.specs.Parts.{HasAdded};
 ghost use Rattle.design_maker.specs.Modules.{chip_module, client_side, data_register, host_side, inner_instrument, ins_module, link_instruction, segment_mux, select_bit, sib_module, wrap_module, wrap_ports};

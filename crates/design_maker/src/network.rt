@@ -1,6 +1,6 @@
 // The network of a made design.
-ghost use Rattle.std.specs.Prelude.{◌≡◌, ◌≤◌, ◌<◌, suc, [], ◌∷◌, ◌++◌, length, map, codes, OnOk, IfOk};
-ghost use Rattle.icl_syntax.specs.Views.{seen_bind, seen_design, seen_module, seen_list};
+ghost use Rattle.std.specs.Prelude.{◌≡◌, ◌≤◌, ◌<◌, [], ◌∷◌, length, codes, OnOk, IfOk};
+ghost use Rattle.icl_syntax.specs.Views.{seen_bind, seen_design, seen_module};
 ghost use Rattle.design_maker.specs.Numbered.{numbered};
 ghost use Rattle.design_maker.specs.Parts.{HasAdded, bound};
 ghost use Rattle.design_maker.specs.Network.{chain_items, inner_of, made_design, net_module, net_ports, outer_of, sib_item, sib_items, sib_name, wrap_item, wrap_name};

@@ -1,7 +1,6 @@
 // The procedure of a made design.
-ghost use Rattle.std.specs.Prelude.{◌≡◌, ◌*◌, ◌≤◌, ◌<◌, suc, [], ◌∷◌, ◌++◌, length, map, OnOk, OnErr, IfOk};
-ghost use Rattle.ij_io.specs.Bytes.{Adds};
-ghost use Rattle.design_maker.specs.Procedure.{after_turn, change_at, drawn_turn, procedure_text, turn_text, turns_text, width_at, word_at, run, written};
+ghost use Rattle.std.specs.Prelude.{◌≡◌, ◌*◌, ◌≤◌, ◌<◌, ◌++◌, length, map, OnOk, IfOk};
+ghost use Rattle.design_maker.specs.Procedure.{after_turn, drawn_turn, procedure_text, turn_text, turns_text, word_at, run, written};
 
 use crate::draws::draw;
 use crate::instrument::Instrument;

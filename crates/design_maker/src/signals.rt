@@ -1,6 +1,5 @@
 // Expressions, signals and properties of a made design, which stand at no place of a text.
 ghost use Rattle.std.specs.Prelude.{◌≡◌, [], ◌∷◌, map, option_map, IfOk};
-ghost use Rattle.icl_syntax.specs.Values.{ASource, APath};
 ghost use Rattle.icl_syntax.specs.Views.{bytes_of, seen_expr, seen_range, seen_sig};
 ghost use Rattle.design_maker.specs.Parts.{lowest, ranged, signal, the_width, whole_width};
 

@@ -1,5 +1,5 @@
 // The tables of the instruments of a made design, and the device.
-ghost use Rattle.std.specs.Prelude.{◌≡◌, ◌≤◌, suc, ◌++◌, length, OnOk, IfOk};
+ghost use Rattle.std.specs.Prelude.{◌≡◌, ◌≤◌, ◌++◌, length, OnOk, IfOk};
 ghost use Rattle.design_maker.specs.Numbered.{numbered};
 ghost use Rattle.design_maker.specs.Tables.{device_text, instrument_table, table_text, tables_text};
 

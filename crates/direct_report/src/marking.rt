@@ -3,7 +3,6 @@ ghost use Rattle.std.specs.Prelude.{◌≤◌, length, map, All};
 ghost use Rattle.bit_marks.specs.Marks.{HasMark};
 ghost use Rattle.direct_report.specs.Marked.{AreBlank, AreMarked, HaveMarks};
 ghost use Rattle.ij_bits.specs.Different.{AreDifferent};
-ghost use Rattle.net_graph.specs.Named.{IsBitOf};
 ghost use Rattle.net_graph.specs.declared.net.Net.{Net};
 
 use bit_marks::BitMarks;

@@ -1,7 +1,6 @@
 // The direct meaning of a whole procedure, printed.
 ghost use Rattle.std.specs.Prelude.{◌≡◌, ◌<◌, ◌≤◌, ◌+◌, ◌*◌, ◌^◌, All, None, MatchOption, length, map, IfOk, IfErr, OnOk, OnErr};
 ghost use Rattle.bit_steps.specs.BitSteps.{nothing_left, given_first_bit};
-ghost use Rattle.direct_report.specs.Kept.{Keeps};
 ghost use Rattle.direct_report.specs.Report.{direct_differs, direct_report};
 ghost use Rattle.direct_report.specs.Whole.{PrintsSteps, PrintsStepsPart, KeepsSteps};
 ghost use Rattle.ij_io.specs.Bytes.{Adds, AddsPart};

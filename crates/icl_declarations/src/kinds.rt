@@ -1,7 +1,7 @@
 // Kinds of ports and items.
 ghost use Rattle.std.specs.Prelude.{◌≡◌};
-ghost use Rattle.icl_syntax.specs.Views.{seen_what, seen_prop, seen_list};
-ghost use Rattle.icl_declarations.specs.Parts.{is_scan_in, is_scan_out, is_data_in, is_data_out, is_control_in, is_input, is_register, is_mux, is_child, is_signal, is_interface, is_link, is_enum, is_parameter, is_part, is_rival, is_source, has_source, is_data_port, is_not_of_instrument, port_that};
+ghost use Rattle.icl_syntax.specs.Views.{seen_what};
+ghost use Rattle.icl_declarations.specs.Parts.{is_scan_in, is_scan_out, is_data_in, is_data_out, is_control_in, is_input, is_register, is_mux, is_child, is_signal, is_interface, is_link, is_enum, is_parameter, is_part};
 
 use icl_syntax::{PortKind, Prop, What};
 
@@ -125,18 +125,4 @@ pub fn is_part(what: &What) -> bool
     ensures { result ≡ is_part (seen_what what.now) }
 {
     is_signal(what) || is_interface(what) || is_link(what)
-}
-
-/// Whether the name of an item differs from that of another one.
-pub fn is_rival(what: &What, other: &What) -> bool
-    ensures { result ≡ is_rival (seen_what what.now) (seen_what other.now) }
-{
-    match what {
-        What::Interface { .. } => is_interface(other),
-        What::Link { .. } => is_link(other),
-        What::Words { .. } => is_enum(other),
-        What::Parameter { .. } => is_parameter(other),
-        What::Attribute { .. } => false,
-        _ => is_signal(other),
-    }
 }

@@ -1,5 +1,5 @@
 // Names that differ.
-ghost use Rattle.std.specs.Prelude.{◌≡◌, List, [], map};
+ghost use Rattle.std.specs.Prelude.{List, map};
 ghost use Rattle.icl_syntax.specs.Values.{SeenItem};
 ghost use Rattle.icl_syntax.specs.Views.{seen_item, seen_what};
 ghost use Rattle.icl_values.specs.Faults.{Gives};

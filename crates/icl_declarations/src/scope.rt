@@ -1,6 +1,5 @@
 // The parts of a module by their names.
 ghost use Rattle.std.specs.Prelude.{ℕ, List, None, ◌||◌, ◌≡◌, ◌<◌, ◌≤◌, ◌+◌, ◌^◌, map, length, IfOk, OnOk, OnErr};
-ghost use Rattle.std.specs.Option.{option_map};
 ghost use Rattle.icl_syntax.specs.Views.{seen_item};
 ghost use Rattle.icl_declarations.specs.Scopes.{GoesOn, IsAdded, IsKept, IsScopeOf, entry_of};
 ghost use Rattle.icl_declarations.specs.Taken.{KeepsNames, has_entry};

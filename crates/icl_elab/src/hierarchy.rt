@@ -15,8 +15,8 @@ ghost use Rattle.icl_elab.specs.Laws.{AreNumbered, AreWired};
 ghost use Rattle.icl_elab.specs.Preorder.{AreInstances};
 ghost use Rattle.icl_elab.specs.Placing.{bound_by, cell_with, first_port, rest_ports, home_at, home_in, is_of_cell, made, parent_in, part_with, parts_with, port_of, ports_from, first_ports, other_ports, resolved, seen_cell_ports, seen_ports};
 ghost use Rattle.icl_references.specs.Roles.{seen_body, seen_cell, seen_hier, seen_part};
-ghost use Rattle.icl_elab.specs.SeenCells.{heads_of_cells, heads_of_frame, seen_cell_parts, seen_pass};
-ghost use Rattle.icl_references.specs.Tables.{AreTables, IsHere, frames_of, here_in};
+ghost use Rattle.icl_elab.specs.SeenCells.{heads_of_cells, heads_of_frame, seen_pass};
+ghost use Rattle.icl_references.specs.Tables.{AreTables, frames_of};
 
 use crate::pass::{CellParts, Placed, second_pass};
 use icl_frames::{Bounds, Frame, first_pass};

@@ -1,9 +1,9 @@
 // The tokens that are expressions by themselves.
-ghost use Rattle.std.specs.Prelude.{◌≡◌, ◌-◌, ◌<◌, ◌≤◌, ◌+◌, ◌*◌, ◌==◌, cond, ℕ, length, drop, slice_range, IfOk, Option, true, Some, None};
+ghost use Rattle.std.specs.Prelude.{◌≡◌, ◌-◌, ◌<◌, ◌≤◌, ◌+◌, ◌*◌, ◌==◌, cond, length, drop, slice_range, IfOk, Option, true, Some, None};
 ghost use Rattle.std.specs.Option.{option_map};
 ghost use Rattle.icl_syntax.specs.Tokens.{decimal_of, decimal_at};
 ghost use Rattle.icl_syntax.specs.Values.{ASized};
-ghost use Rattle.icl_syntax.specs.Grammar.{Counted, number_of, leaf_at, with_count};
+ghost use Rattle.icl_syntax.specs.Grammar.{number_of, leaf_at, with_count};
 ghost use Rattle.icl_syntax.specs.Views.{seen_expr};
 ghost use Rattle.icl_expressions.specs.Seen.{tok, toks, seen_read, seen_counting, same, Gives};
 ghost use Rattle.icl_expressions.specs.Reading.{read_leaf, read_decimal};

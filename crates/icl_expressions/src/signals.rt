@@ -1,9 +1,9 @@
 // Values, ranges and signals.
-ghost use Rattle.std.specs.Prelude.{◌≡◌, ◌<◌, ◌≤◌, [], IfOk, length};
+ghost use Rattle.std.specs.Prelude.{◌<◌, ◌≤◌, [], IfOk, length};
 ghost use Rattle.std.specs.Option.{option_map};
 ghost use Rattle.icl_syntax.specs.Views.{bytes_of, seen_expr, seen_list, seen_range, seen_sig};
 ghost use Rattle.icl_syntax.specs.Grammar.{appended};
-ghost use Rattle.icl_expressions.specs.Seen.{toks, tok, seen_read, Gives};
+ghost use Rattle.icl_expressions.specs.Seen.{toks, seen_read, Gives};
 ghost use Rattle.icl_expressions.specs.SeenParts.{seen_located};
 ghost use Rattle.icl_expressions.specs.Reading.{read_put, read_after, read_expr, read_value, read_expr_behind, read_maybe, read_range, read_number, read_name, read_path_behind, read_named_behind, read_named_sig, read_plain_sig, read_inverted, read_sig, read_sigs};
 

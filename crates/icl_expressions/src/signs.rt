@@ -1,5 +1,5 @@
 // Operators, and the limits of an expression.
-ghost use Rattle.std.specs.Prelude.{◌≡◌, ◌-◌, ◌<◌, ◌≤◌, ℕ, length, IfOk, Option};
+ghost use Rattle.std.specs.Prelude.{◌≡◌, ◌-◌, ◌<◌, length, IfOk, Option};
 ghost use Rattle.std.specs.Option.{option_map};
 ghost use Rattle.icl_syntax.specs.Grammar.{sum_sign, product_sign};
 ghost use Rattle.icl_expressions.specs.Seen.{tok, toks, seen_read, seen_sign, Gives};

@@ -1,9 +1,9 @@
 // The items of a cell, one after another.
-ghost use Rattle.std.specs.Prelude.{◌≡◌, ◌≤◌, ◌++◌, ◌∷◌, ℕ, List, [], map, IfOk, IfErr};
+ghost use Rattle.std.specs.Prelude.{◌≡◌, ◌≤◌, ◌++◌, ◌∷◌, List, [], map, IfOk, IfErr};
 ghost use Rattle.std.specs.List.{list_any};
 ghost use Rattle.std.specs.Str.{bytes_eq};
 ghost use Rattle.icl_syntax.specs.Values.{SeenItem, AChild};
-ghost use Rattle.icl_syntax.specs.Views.{seen_what, seen_item, seen_module, seen_bind, seen_list};
+ghost use Rattle.icl_syntax.specs.Views.{seen_what, seen_item, seen_module, seen_bind};
 ghost use Rattle.icl_values.specs.Faults.{Gives, over};
 ghost use Rattle.icl_values.specs.Tables.{seen_table};
 ghost use Rattle.icl_frames.specs.FirstPass.{request, bounds_of, look_at, with_added, pass_item, nothing_passed};

@@ -1,11 +1,10 @@
 // The instances that a module declares, and the parameters that they bind.
-ghost use Rattle.std.specs.Prelude.{◌≡◌, [], ◌&&◌, map, not, IfOk};
+ghost use Rattle.std.specs.Prelude.{◌≡◌, [], ◌&&◌, map};
 ghost use Rattle.std.specs.Option.{option_map};
-ghost use Rattle.std.specs.List.{list_any};
 ghost use Rattle.std.specs.Str.{bytes_eq};
 ghost use Rattle.ij_bits.specs.BitLists.{same_bit};
 ghost use Rattle.icl_syntax.specs.Values.{ABoundParameter};
-ghost use Rattle.icl_syntax.specs.Views.{seen_expr, seen_what, seen_item, seen_bind, seen_module};
+ghost use Rattle.icl_syntax.specs.Views.{seen_expr, seen_what, seen_bind, seen_module};
 ghost use Rattle.icl_values.specs.Faults.{Gives, over};
 ghost use Rattle.icl_values.specs.Tables.{seen_table};
 ghost use Rattle.icl_declarations.specs.Parts.{block_named, is_parameter_that, has_parameter, is_open};

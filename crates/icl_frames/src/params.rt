@@ -1,12 +1,11 @@
 // The parameters of a cell.
-ghost use Rattle.std.specs.Prelude.{◌≡◌, [], map, not};
+ghost use Rattle.std.specs.Prelude.{◌≡◌, [], map};
 ghost use Rattle.std.specs.Option.{option_map};
-ghost use Rattle.icl_syntax.specs.Views.{seen_expr, seen_what, seen_item, seen_bind, seen_module, bytes_of};
+ghost use Rattle.icl_syntax.specs.Views.{seen_expr, seen_what, seen_item};
 ghost use Rattle.icl_values.specs.Faults.{Gives, over};
 ghost use Rattle.icl_values.specs.Values.{seen_value};
 ghost use Rattle.icl_values.specs.Tables.{seen_table};
-ghost use Rattle.icl_declarations.specs.Parts.{has_parameter, is_parameter_that, is_open};
-ghost use Rattle.icl_frames.specs.FirstPass.{bound_worth, worth_in, with_parameter, with_binding};
+ghost use Rattle.icl_frames.specs.FirstPass.{bound_worth, worth_in, with_parameter};
 
 use crate::ElabFault;
 use icl_syntax::{Bind, Expr, Item, Module, What};

@@ -1,5 +1,5 @@
 // Whole texts.
-ghost use Rattle.std.specs.Prelude.{◌≡◌, ◌≢◌, ◌⊎◌, ◌+◌, ◌^◌, ◌<◌, ◌≤◌, ◌++◌, length, OnOk, OnErr, IfOk, IsErrOf};
+ghost use Rattle.std.specs.Prelude.{◌≡◌, ◌⊎◌, ◌+◌, ◌^◌, ◌<◌, ◌≤◌, ◌++◌, length, OnOk, OnErr, IfOk, IsErrOf};
 ghost use Rattle.icl_lexer.specs.Cutting.{AreTokens, HasFault, Tokens, fault_of, token_of};
 ghost use Rattle.icl_lexer.specs.Answers.{Gives};
 

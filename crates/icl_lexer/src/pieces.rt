@@ -1,5 +1,5 @@
 // The piece at the front of a text.
-ghost use Rattle.std.specs.Prelude.{◌≡◌, ◌≤◌, length, option_map, IfSome, IfNone};
+ghost use Rattle.std.specs.Prelude.{◌≡◌, ◌≤◌, length, IfSome, IfNone};
 ghost use Rattle.ij_text.specs.Words.{in_name};
 ghost use Rattle.icl_lexer.specs.Cutting.{IsPiece, NoPiece, opens_block, opens_comment};
 ghost use Rattle.icl_lexer.specs.Matches.{longest_match, longer, run_len};

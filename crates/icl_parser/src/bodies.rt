@@ -1,7 +1,7 @@
 // Properties and bodies.
 ghost use Rattle.std.specs.Prelude.{◌≡◌, ◌<◌, ◌≤◌, [], Some, IfOk, length, map};
 ghost use Rattle.std.specs.Option.{option_map};
-ghost use Rattle.icl_syntax.specs.Views.{seen_expr, seen_list, seen_prop, seen_sig};
+ghost use Rattle.icl_syntax.specs.Views.{seen_list, seen_prop, seen_sig};
 ghost use Rattle.icl_syntax.specs.Grammar.{is_prop, stands, takes, lacks, with_property, free_prop_at};
 ghost use Rattle.icl_expressions.specs.Seen.{toks, tok, seen_read, same, Gives};
 ghost use Rattle.icl_parser.specs.SeenParts.{seen_said};

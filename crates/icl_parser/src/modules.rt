@@ -1,5 +1,5 @@
 // Items, modules and designs.
-ghost use Rattle.std.specs.Prelude.{◌≡◌, ◌<◌, ◌≤◌, IfOk, length};
+ghost use Rattle.std.specs.Prelude.{◌<◌, ◌≤◌, IfOk, length};
 ghost use Rattle.icl_syntax.specs.Views.{seen_list, seen_item, seen_module, seen_what};
 ghost use Rattle.icl_syntax.specs.Grammar.{appended};
 ghost use Rattle.icl_expressions.specs.Seen.{toks, seen_read, Gives};

@@ -1,5 +1,5 @@
 // Parsing a text.
-ghost use Rattle.std.specs.Prelude.{◌≡◌, ◌≤◌, ◌<◌, ◌^◌, ◌-◌, IfOk, IfErr, OnErr, IsErrOf, length, drop, map};
+ghost use Rattle.std.specs.Prelude.{◌≡◌, ◌≤◌, ◌<◌, ◌-◌, IfOk, IfErr, OnErr, IsErrOf, length};
 ghost use Rattle.icl_lexer.specs.Cutting.{AreTokens};
 ghost use Rattle.icl_lexer.specs.Laws.{AreInText};
 ghost use Rattle.icl_syntax.specs.Tokens.{seen_tokens};

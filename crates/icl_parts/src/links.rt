@@ -5,7 +5,6 @@ ghost use Rattle.icl_syntax.specs.Views.{bytes_of, seen_instr, seen_what};
 ghost use Rattle.icl_values.specs.Expressions.{same};
 ghost use Rattle.icl_values.specs.Faults.{Gives, each};
 ghost use Rattle.icl_declarations.specs.Parts.{is_interface, is_port};
-ghost use Rattle.icl_references.specs.Names.{known_member, member_that};
 ghost use Rattle.icl_references.specs.Roles.{seen_selection};
 ghost use Rattle.icl_parts.specs.FoundParts.{port_number, selection};
 ghost use Rattle.icl_parts.specs.SeenParts.{first_member, known_number, seen_numbers, seen_selections};

@@ -1,6 +1,6 @@
 // What each part of a cell is, its signals and values resolved.
 ghost use Rattle.std.specs.Prelude.{◌≡◌, map};
-ghost use Rattle.icl_syntax.specs.Views.{seen_bind, seen_what};
+ghost use Rattle.icl_syntax.specs.Views.{seen_bind};
 ghost use Rattle.icl_values.specs.Faults.{Gives};
 ghost use Rattle.icl_references.specs.Roles.{seen_body};
 ghost use Rattle.icl_parts.specs.FoundParts.{found, instance_found, part_found};

@@ -1,5 +1,5 @@
 // What registers are.
-ghost use Rattle.std.specs.Prelude.{◌≡◌, map};
+ghost use Rattle.std.specs.Prelude.{map};
 ghost use Rattle.icl_syntax.specs.Views.{seen_prop};
 ghost use Rattle.icl_values.specs.Faults.{Gives, over};
 ghost use Rattle.icl_parts.specs.FoundParts.{nothing_said, register_prop};

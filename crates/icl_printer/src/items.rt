@@ -1,10 +1,9 @@
 // Items, modules and designs.
-ghost use Rattle.std.specs.Prelude.{◌≡◌, map, OnOk, OnErr};
-ghost use Rattle.std.specs.Option.{option_map};
+ghost use Rattle.std.specs.Prelude.{◌≡◌, OnOk, OnErr};
 ghost use Rattle.ij_io.specs.Bytes.{Adds, AddsPart};
 ghost use Rattle.ij_io.specs.Causes.{HasCause};
 ghost use Rattle.icl_syntax.specs.Words.{link_word};
-ghost use Rattle.icl_printer.specs.Layout.{word, mark, layout};
+ghost use Rattle.icl_printer.specs.Layout.{word, layout};
 ghost use Rattle.icl_printer.specs.Canonical.{mux_tokens, child_tokens, words_tokens, parameter_tokens, parameter_word, interface_tokens, in_turn, member_tokens, link_tokens};
 ghost use Rattle.icl_syntax.specs.Views.{bytes_of, seen_bind, seen_enum_word, seen_expr, seen_instr, seen_list, seen_row, seen_sig};
 

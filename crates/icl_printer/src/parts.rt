@@ -1,9 +1,9 @@
 // Rows, bindings, words of an `Enum` and instructions of a link.
-ghost use Rattle.std.specs.Prelude.{[], ◌∷◌, ◌++◌, OnOk, OnErr};
+ghost use Rattle.std.specs.Prelude.{OnOk, OnErr};
 ghost use Rattle.ij_io.specs.Bytes.{Adds, AddsPart};
 ghost use Rattle.ij_io.specs.Causes.{HasCause};
 ghost use Rattle.std.specs.Option.{option_map};
-ghost use Rattle.icl_printer.specs.Layout.{word, mark, layout};
+ghost use Rattle.icl_printer.specs.Layout.{word, layout};
 ghost use Rattle.icl_printer.specs.Canonical.{attribute_tokens, port_binding_tokens, parameter_binding_tokens};
 ghost use Rattle.icl_syntax.specs.Views.{seen_expr, seen_list, seen_range, seen_sig};
 

@@ -1,5 +1,5 @@
 // The rows of a multiplexer.
-ghost use Rattle.std.specs.Prelude.{◌≡◌, length, map, Ok};
+ghost use Rattle.std.specs.Prelude.{length, map, Ok};
 ghost use Rattle.ij_text.specs.Numbers.{tern_bits};
 ghost use Rattle.icl_syntax.specs.Views.{seen_expr, seen_list, seen_sig, seen_row};
 ghost use Rattle.icl_values.specs.Expressions.{same};

@@ -1,5 +1,5 @@
 // Paths of names.
-ghost use Rattle.std.specs.Prelude.{◌≡◌, map, IfOk};
+ghost use Rattle.std.specs.Prelude.{map, IfOk};
 ghost use Rattle.icl_syntax.specs.Views.{bytes_of};
 ghost use Rattle.icl_values.specs.Faults.{Gives};
 ghost use Rattle.icl_references.specs.Names.{path_from};

@@ -1,5 +1,5 @@
 // What a signal names, bit by bit.
-ghost use Rattle.std.specs.Prelude.{◌≡◌, ◌==◌, length, map, cond, Ok, Err, None};
+ghost use Rattle.std.specs.Prelude.{◌≡◌, ◌==◌, map, Ok, Err, None};
 ghost use Rattle.std.specs.Option.{option_map};
 ghost use Rattle.icl_syntax.specs.Views.{bytes_of, seen_expr, seen_range, seen_sig, seen_sig_what};
 ghost use Rattle.icl_syntax.specs.Values.{ANumber};

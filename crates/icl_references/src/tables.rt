@@ -1,12 +1,10 @@
 // The cells of a design, with tables of their parts.
-ghost use Rattle.std.specs.Prelude.{◌≡◌, ◌<◌, ◌^◌, ℕ, None, map, length, get_or, IfOk, OnOk};
-ghost use Rattle.icl_syntax.specs.Views.{seen_item, seen_what};
+ghost use Rattle.std.specs.Prelude.{◌≡◌, ◌<◌, ◌^◌, None, map, length, get_or, IfOk, OnOk};
+ghost use Rattle.icl_syntax.specs.Views.{seen_what};
 ghost use Rattle.icl_values.specs.Faults.{Gives};
 ghost use Rattle.icl_values.specs.Expressions.{same};
 ghost use Rattle.icl_values.specs.Tables.{seen_table};
 ghost use Rattle.icl_declarations.specs.Ranges.{one_bit, width};
-ghost use Rattle.icl_declarations.specs.Scopes.{entry_of};
-ghost use Rattle.icl_declarations.specs.declared.scope.Scope.{Scope as ScopeAt};
 ghost use Rattle.icl_frames.specs.SeenFrames.{seen_frame};
 ghost use Rattle.icl_references.specs.Names.{child_cell, inside, known_cell, members, named};
 ghost use Rattle.icl_references.specs.Tables.{AreAllChildren, AreCellTables, AreEmpty, AreTables, IsCellTable, IsChildAdded, IsFrameAdded, IsHere, frames_in, frames_of, here_in, seen_member};

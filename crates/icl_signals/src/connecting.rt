@@ -1,5 +1,5 @@
 // The network of a hierarchy.
-ghost use Rattle.std.specs.Prelude.{◌≡◌, map, IfOk};
+ghost use Rattle.std.specs.Prelude.{IfOk};
 ghost use Rattle.icl_references.specs.Roles.{seen_hier};
 ghost use Rattle.icl_elab.specs.WellFormed.{IsHierarchy};
 ghost use Rattle.net_graph.specs.Nets.{IsNet};

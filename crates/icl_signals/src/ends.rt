@@ -1,15 +1,14 @@
 // What the end of a trace is in the network: a data signal, or where a scan path comes from.
-ghost use Rattle.std.specs.Prelude.{◌≡◌, true, false, map};
-ghost use Rattle.ij_bits.specs.BitLists.{flip_if};
+ghost use Rattle.std.specs.Prelude.{◌≡◌, false};
 ghost use Rattle.icl_values.specs.Expressions.{same};
-ghost use Rattle.icl_elab.specs.WellFormed.{is_register, is_mux};
+ghost use Rattle.icl_elab.specs.WellFormed.{is_mux};
 ghost use Rattle.icl_signals.specs.Refusals.{Gives};
 ghost use Rattle.icl_signals.specs.Wirings.{IsWiring, cells_of};
 ghost use Rattle.icl_signals.specs.Moves.{stands_for};
 ghost use Rattle.icl_signals.specs.Told.{IsTold};
 ghost use Rattle.net_graph.specs.declared.net.Sig.TheVariants.{Out};
 ghost use Rattle.icl_signals.specs.declared.wires.StandsFor.TheVariants.{ARegisterBit, AMuxOutput, AnInstrumentOutput};
-ghost use Rattle.icl_signals.specs.Connecting.{constant, register_bit, data_at, data_end, scan_at, scan_end, data_from, scan_from, select_bit, select_from, input_bit, input_from, signal_from, or_absent, number_among, instrument_number, output_number};
+ghost use Rattle.icl_signals.specs.Connecting.{constant, register_bit, data_end, scan_end, data_from, scan_from, select_from, input_from, signal_from, or_absent, number_among, instrument_number, output_number};
 
 use crate::ConnectFault;
 use crate::following::trace;

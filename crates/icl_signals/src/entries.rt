@@ -1,10 +1,10 @@
 // The parts of a kind in all cells, in the order of the cells and in a cell in that of the text.
-ghost use Rattle.std.specs.Prelude.{◌≡◌, ◌+◌, ◌++◌, map, filter, All, Some, slice_get, IfOk};
+ghost use Rattle.std.specs.Prelude.{◌≡◌, ◌+◌, ◌++◌, map, filter, Some, IfOk};
 ghost use Rattle.icl_references.specs.Roles.{seen_part, seen_cell, seen_hier};
 ghost use Rattle.icl_signals.specs.Moves.{entries_in};
 ghost use Rattle.icl_signals.specs.Connecting.{entries_that, own_bits, parts_that};
 ghost use Rattle.icl_signals.specs.Kinds.{test_of};
-ghost use Rattle.icl_signals.specs.Told.{seen_entry, ArePlaced};
+ghost use Rattle.icl_signals.specs.Told.{seen_entry};
 ghost use Rattle.icl_signals.specs.Inside.{numbered};
 
 use crate::parts::{Kind, is_of, width_of};

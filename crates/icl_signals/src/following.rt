@@ -1,10 +1,10 @@
 // Following a signal bit to where its trace ends.
-ghost use Rattle.std.specs.Prelude.{◌≡◌, Bool, get_or, false, slice_get};
+ghost use Rattle.std.specs.Prelude.{◌≡◌, Bool, false};
 ghost use Rattle.ij_bits.specs.BitLists.{flip_if};
 ghost use Rattle.icl_references.specs.Roles.{seen_body, seen_refs};
 ghost use Rattle.icl_signals.specs.Wirings.{IsWiring, cells_of};
 ghost use Rattle.icl_signals.specs.Told.{IsTold, IsToldNext, IsConstant, resume};
-ghost use Rattle.icl_signals.specs.Moves.{stands_for, role_move, one_ref, ref_in, data_input, data_output, is_instrument_cell, is_entry};
+ghost use Rattle.icl_signals.specs.Moves.{stands_for, role_move, one_ref, ref_in, is_instrument_cell, is_entry};
 ghost use Rattle.icl_signals.specs.Traces.{follow, trace, from_ref, from_move};
 ghost use Rattle.std.specs.Option.{option_map};
 

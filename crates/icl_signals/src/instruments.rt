@@ -1,9 +1,8 @@
 // The instruments of a network.
 ghost use Rattle.std.specs.Prelude.{◌≡◌, ◌∷◌, [], map, filter, IfOk};
-ghost use Rattle.std.specs.List.{enumerate_from};
 ghost use Rattle.icl_values.specs.Faults.{each};
 ghost use Rattle.icl_elab.specs.WellFormed.{is_instrument};
-ghost use Rattle.icl_references.specs.Roles.{part_width, seen_part, seen_cell, seen_hier};
+ghost use Rattle.icl_references.specs.Roles.{seen_cell};
 ghost use Rattle.icl_signals.specs.Refusals.{Gives, behind};
 ghost use Rattle.icl_signals.specs.Wirings.{IsWiring, cells_of};
 ghost use Rattle.icl_signals.specs.Told.{seen_entry};

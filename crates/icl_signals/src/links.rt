@@ -1,12 +1,11 @@
 // Access links: where the network begins and ends that an instruction selects.
-ghost use Rattle.std.specs.Prelude.{◌≡◌, ℕ, List, ◌==◌, ◌&&◌, true, map, filter, find, get_or, slice_get, [], Some, None, IfOk, IfSome};
-ghost use Rattle.std.specs.List.{list_all};
+ghost use Rattle.std.specs.Prelude.{◌≡◌, ◌==◌, ◌&&◌, map, filter, find, get_or, [], Some, None, IfOk};
 ghost use Rattle.std.specs.Option.{option_map};
 ghost use Rattle.std.specs.Str.{bytes_eq};
-ghost use Rattle.icl_references.specs.Roles.{Role, part_at, seen_body, seen_part, seen_cell, seen_hier, seen_selection};
+ghost use Rattle.icl_references.specs.Roles.{part_at, seen_body, seen_part, seen_hier, seen_selection};
 ghost use Rattle.icl_values.specs.Expressions.{same};
 ghost use Rattle.icl_signals.specs.Refusals.{Gives, NoLink, seen_fault};
-ghost use Rattle.icl_signals.specs.Connecting.{Ends as EndsOf, selections_in, is_access_link, link_at, ports_in, is_scan_in, is_scan_out, passes, only, only_port, known, known_selection, place_of, ends};
+ghost use Rattle.icl_signals.specs.Connecting.{selections_in, link_at, passes, only, only_port, known, known_selection, place_of, ends};
 ghost use Rattle.icl_signals.specs.Links.{test_of_side, seen_ends, named_link};
 
 use crate::ConnectFault;

@@ -1,5 +1,5 @@
 // The multiplexers of a network.
-ghost use Rattle.std.specs.Prelude.{◌≡◌, map};
+ghost use Rattle.std.specs.Prelude.{map};
 ghost use Rattle.icl_values.specs.Faults.{each};
 ghost use Rattle.icl_references.specs.Roles.{seen_row as seen_choice};
 ghost use Rattle.icl_signals.specs.Refusals.{Gives};

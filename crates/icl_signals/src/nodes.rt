@@ -1,5 +1,5 @@
 // The nodes of a network: each cell with its path of instance names.
-ghost use Rattle.std.specs.Prelude.{◌≡◌, ◌++◌, ◌∷◌, [], map, get_or, Some, None, IfOk};
+ghost use Rattle.std.specs.Prelude.{◌≡◌, [], map, get_or, Some, None, IfOk};
 ghost use Rattle.icl_references.specs.Roles.{seen_cell, seen_hier};
 ghost use Rattle.icl_signals.specs.PlainNets.{seen_node};
 ghost use Rattle.icl_signals.specs.Connecting.{path_with, nodes_of};

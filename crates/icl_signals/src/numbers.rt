@@ -1,5 +1,5 @@
 // The numbers of registers, multiplexers, things, instruments and their outputs: for each, how many of its kind stand in front.
-ghost use Rattle.std.specs.Prelude.{◌≡◌, ◌+◌, [], map, get_or, IfOk};
+ghost use Rattle.std.specs.Prelude.{◌≡◌, ◌+◌, map, get_or, IfOk};
 ghost use Rattle.icl_references.specs.Roles.{seen_part, seen_cell};
 ghost use Rattle.icl_signals.specs.Kinds.{is_of, one_if, in_front, with_all, numbers_from, number_at};
 

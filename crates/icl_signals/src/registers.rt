@@ -5,7 +5,7 @@ ghost use Rattle.net_graph.specs.declared.net.Sig.TheVariants.{Absent};
 ghost use Rattle.icl_values.specs.Faults.{each};
 ghost use Rattle.icl_values.specs.Expressions.{same};
 ghost use Rattle.icl_elab.specs.WellFormed.{is_thing};
-ghost use Rattle.icl_references.specs.Roles.{part_width, seen_part, seen_refs};
+ghost use Rattle.icl_references.specs.Roles.{seen_part, seen_refs};
 ghost use Rattle.icl_signals.specs.Refusals.{Gives};
 ghost use Rattle.icl_signals.specs.Wirings.{IsWiring, cells_of};
 ghost use Rattle.icl_signals.specs.Told.{IsPlaced, ArePlaced, seen_entry};

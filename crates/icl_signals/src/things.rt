@@ -1,10 +1,9 @@
 // What procedures may name in a network.
 ghost use Rattle.std.specs.Prelude.{◌≡◌, map, true, Some, None, IfOk};
-ghost use Rattle.std.specs.Option.{option_map};
 ghost use Rattle.icl_elab.specs.WellFormed.{is_register};
 ghost use Rattle.icl_references.specs.Roles.{seen_part, part_at};
 ghost use Rattle.icl_signals.specs.Wirings.{IsWiring, cells_of};
-ghost use Rattle.icl_signals.specs.Told.{IsPlaced, ArePlaced, seen_entry};
+ghost use Rattle.icl_signals.specs.Told.{seen_entry};
 ghost use Rattle.icl_signals.specs.PlainNets.{seen_thing};
 ghost use Rattle.icl_signals.specs.Connecting.{own_bits, spot_of, thing_of, number_among};
 

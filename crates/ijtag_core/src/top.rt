@@ -1,5 +1,5 @@
 // The top call.
-ghost use Rattle.std.specs.Prelude.{◌≡◌, ◌⊎◌, Bool, Some, IsNone, IfSome, List, ℕ};
+ghost use Rattle.std.specs.Prelude.{◌≡◌, Bool, Some, IsNone, IfSome, List, ℕ};
 ghost use Rattle.std.specs.Bool.{OnFalse};
 ghost use Rattle.ij_io.specs.Bytes.{AddsPart};
 ghost use Rattle.ij_io.specs.Files.{file_at};

@@ -1,5 +1,5 @@
 // The hierarchy of the design (IEEE 1687-2014, ICL).
-ghost use Rattle.std.specs.Prelude.{◌≡◌, codes, IfOk};
+ghost use Rattle.std.specs.Prelude.{◌≡◌, IfOk};
 ghost use Rattle.std.specs.Option.{option_map};
 ghost use Rattle.icl_elab.specs.WellFormed.{IsHierarchy};
 ghost use Rattle.icl_frames.specs.Written.{AreWritten};

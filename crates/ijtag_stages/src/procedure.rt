@@ -1,5 +1,5 @@
 // The bit steps of the procedure (IEEE 1687-2014, PDL level 0).
-ghost use Rattle.std.specs.Prelude.{◌≡◌, ◌<◌, ◌^◌, ◌∷◌, [], Some, None, OnOk, codes, length, map};
+ghost use Rattle.std.specs.Prelude.{◌≡◌, ◌<◌, ◌^◌, ◌∷◌, [], Some, None, OnOk, codes, length};
 ghost use Rattle.std.specs.Option.{option_map};
 ghost use Rattle.bit_steps.specs.BitSteps.{bit_steps};
 ghost use Rattle.bit_steps.specs.Seen.{expand_fault, feed_fault};

@@ -1,5 +1,5 @@
 // The command `migrate`.
-ghost use Rattle.std.specs.Prelude.{◌≡◌, [], ◌∷◌, All, OnOk, OnErr, IfOk, IfErr};
+ghost use Rattle.std.specs.Prelude.{◌≡◌, [], ◌∷◌, All, OnErr, IfOk, IfErr};
 ghost use Rattle.bench_file.specs.Written.{tables_text};
 ghost use Rattle.instruments.specs.Models.{IsModel};
 ghost use Rattle.instruments.specs.Seen.{seen_model};

@@ -1,5 +1,5 @@
 // What register bits are used for, in flags that are made once for all muxes.
-ghost use Rattle.std.specs.Prelude.{◌≡◌, ◌↔◌, ◌≤◌, true, false, IsTrue, IsFalse, All, IfOk};
+ghost use Rattle.std.specs.Prelude.{◌≡◌, ◌↔◌, true, IsTrue, All, IfOk};
 ghost use Rattle.net_graph.specs.Held.{AreHolds};
 ghost use Rattle.net_graph.specs.Named.{IsBitOf, IsInputOf};
 ghost use Rattle.net_graph.specs.Nets.{IsInst, IsNet};

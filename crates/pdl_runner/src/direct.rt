@@ -1,5 +1,5 @@
 // The direct meaning of bit steps, with all that they read.
-ghost use Rattle.std.specs.Prelude.{◌≡◌, ◌++◌, ◌+◌, ◌<◌, ◌≤◌, ◌^◌, IfOk, OnOk, OnErr, IfSome, length, get_or, map, All};
+ghost use Rattle.std.specs.Prelude.{◌≡◌, ◌++◌, ◌+◌, ◌<◌, ◌≤◌, IfOk, OnOk, OnErr, IfSome, length, get_or, map, All};
 ghost use Rattle.instruments.specs.Machine.{count_log};
 ghost use Rattle.instruments.specs.OnNetwork.{inner_at};
 ghost use Rattle.net_graph.specs.Named.{IsBitOf};

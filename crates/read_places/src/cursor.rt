@@ -1,5 +1,5 @@
 // How far the reads of a procedure are noted.
-ghost use Rattle.std.specs.Prelude.{◌≡◌, ◌⊎◌, ◌+◌, ◌*◌, ◌<◌, ◌≤◌, ◌^◌, [], None, MatchOption, length, map, IfOk, IfErr, OnOk, true, false};
+ghost use Rattle.std.specs.Prelude.{◌≡◌, ◌⊎◌, ◌+◌, ◌*◌, ◌<◌, ◌≤◌, ◌^◌, [], None, MatchOption, length, map, IfOk, OnOk, true, false};
 ghost use Rattle.bit_steps.specs.BitSteps.{bit_steps, given_first_bit, nothing_left};
 ghost use Rattle.ij_text.specs.Numbering.{AreDistinct};
 ghost use Rattle.net_graph.specs.SeenSteps.{seen_step};

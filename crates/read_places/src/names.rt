@@ -1,5 +1,5 @@
 // The iReads of a procedure by scan and position.
-ghost use Rattle.std.specs.Prelude.{◌≡◌, ◌≤◌, ◌<◌, ◌^◌, ℕ, IfOk, IfSome, length, map};
+ghost use Rattle.std.specs.Prelude.{◌≡◌, ◌≤◌, ◌<◌, ◌^◌, IfOk, IfSome, length, map};
 ghost use Rattle.bench_report.specs.Report.{Names};
 ghost use Rattle.bit_steps.specs.BitSteps.{bit_steps};
 ghost use Rattle.ij_text.specs.Numbering.{AreDistinct};

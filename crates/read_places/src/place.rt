@@ -1,5 +1,5 @@
 // Where reads stand in scans.
-ghost use Rattle.std.specs.Prelude.{◌≡◌, ◌==◌, ◌&&◌, ◌++◌, ◌<◌, ◌^◌, All, Contains, length, map, reverse, OnOk};
+ghost use Rattle.std.specs.Prelude.{◌≡◌, ◌==◌, ◌&&◌, ◌++◌, ◌<◌, ◌^◌, All, length, map, reverse, OnOk};
 ghost use Rattle.net_graph.specs.Chain.{chain};
 ghost use Rattle.net_graph.specs.Chain as chains;
 ghost use Rattle.net_graph.specs.Named.{IsBitOf};

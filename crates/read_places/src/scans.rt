@@ -11,7 +11,7 @@ ghost use Rattle.group_scans.specs.Retargeting.{IsRetargetable};
 ghost use Rattle.group_scans.specs.Rounds.{IsPlannable, StepIsPlannable};
 ghost use Rattle.group_scans.specs.Scans.{holds_after};
 ghost use Rattle.retargeter.specs.Scanning.{CanScanAll};
-ghost use Rattle.retargeter.specs.Writing.{IsAfterGroup, IsAfterRounds, round_count};
+ghost use Rattle.retargeter.specs.Writing.{IsAfterGroup, round_count};
 ghost use Rattle.read_places.specs.Places.{plans_places, scan_places};
 ghost use Rattle.read_places.specs.Noting.{NotesGroup, ScansGroup, NotesRounds, ScansRounds, HoldsRounds, NotesStep, ScansStep, HoldsStep};
 

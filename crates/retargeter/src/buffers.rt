@@ -1,5 +1,5 @@
 // What a scan is packed into.
-ghost use Rattle.std.specs.Prelude.{◌≤◌, length, IfOk};
+ghost use Rattle.std.specs.Prelude.{◌≤◌, IfOk};
 ghost use Rattle.net_graph.specs.Nets.{IsNet};
 ghost use Rattle.retargeter.specs.Room.{HasScanRoom};
 

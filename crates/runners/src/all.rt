@@ -1,5 +1,5 @@
 // All instruments of a network.
-ghost use Rattle.std.specs.Prelude.{◌≡◌, ◌≤◌, map, length, All, ℕ, IfOk};
+ghost use Rattle.std.specs.Prelude.{◌≡◌, map, length, All, ℕ, IfOk};
 ghost use Rattle.instruments.specs.Arrays.{StandFor};
 ghost use Rattle.instruments.specs.Machine.{Run, Reset, count_log};
 ghost use Rattle.instruments.specs.Models.{IsModel};

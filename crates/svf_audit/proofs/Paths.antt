@@ -157,11 +157,6 @@ both_next holds bits whole path old i k w l m e wide within last was =
       omega (arith, size, ap length all, length-append front (own ++ rest), length-append own rest),
     )
 
--- so many more bits
-pub grown : (now done : List BitId) (r w : ℕ) → now ≡ done ++ bits_from r 0 w → length now ≡ length done + w
-grown now done r w e =
-    omega (arith, ap length e, length-append done (bits_from r 0 w), length-bits_from r 0 w)
-
 -- the bits of the active path are few
 pub bits_fit : (net : Net) (holds : Holds) (path : List ℕ) → IsNet net → AreHolds net holds → path ≡ path_of net holds → length (bits_on holds path) ≤ 4096
 bits_fit net holds path w h e =

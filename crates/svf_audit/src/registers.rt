@@ -1,5 +1,5 @@
 // The scan registers of a network, before and behind a scan.
-ghost use Rattle.std.specs.Prelude.{◌≡◌, ◌+◌, ◌<◌, ◌≤◌, ◌++◌, [], true, false, length, drop, map, vec_len, vec_capacity, All, IfOk};
+ghost use Rattle.std.specs.Prelude.{◌≡◌, ◌+◌, ◌<◌, ◌≤◌, ◌++◌, [], true, false, length, drop, map, vec_capacity, All, IfOk};
 ghost use Rattle.std.specs.List.{list_all, list_any};
 ghost use Rattle.net_graph.specs.declared.net.BitId.{BitId as ABit};
 ghost use Rattle.net_graph.specs.Chain.{IsRoute, chain};

@@ -1,5 +1,5 @@
 // Pieces of a file's text.
-ghost use Rattle.std.specs.Prelude.{◌≡◌, [], OnOk, OnErr, IfOk};
+ghost use Rattle.std.specs.Prelude.{◌≡◌, OnOk, OnErr, IfOk};
 ghost use Rattle.ij_io.specs.Causes.{HasCauseAt, SameCounts};
 ghost use Rattle.ij_io.specs.Files.{OthersStay, told_bytes};
 ghost use Rattle.svf_file.specs.Pieces.{HoldsFront, IsThere, with_piece};

@@ -1,5 +1,5 @@
 // Classes of bytes, and runs of them.
-ghost use Rattle.std.specs.Prelude.{◌≡◌, ◌+◌, ◌^◌, ◌<◌, ◌≤◌, ◌&&◌, false, drop, length, take};
+ghost use Rattle.std.specs.Prelude.{◌≡◌, ◌+◌, ◌<◌, ◌≤◌, ◌&&◌, false, drop, length};
 ghost use Rattle.std.specs.List.{list_all};
 ghost use Rattle.svf_reader.specs.Reading.{in_class, run_length};
 ghost use Rattle.svf_reader.specs.Passed.{is_passed, is_end, ends_gap};
@@ -79,7 +79,8 @@ pub(crate) fn run_len(text: &[u8], class: Class) -> usize
     n
 }
 
-/// Whether a byte is surely of a class outside of comments, and begins none. It is found without a branch.
+/// Whether a byte outside of comments is surely of a class and begins no comment. A byte of which this is false may be of the class all
+/// the same. It is found without a branch.
 #[inline(always)]
 fn is_passed(class: Class, b: u8) -> bool
     ensures { result ≡ is_passed class b }

@@ -1,5 +1,5 @@
 // The commands of the grammar.
-ghost use Rattle.std.specs.Prelude.{MatchBool, MatchOption, ◌≡◌, ◌<◌, ◌∷◌, ◌==◌, false, codes, length, option_map, Some, None, IfSome};
+ghost use Rattle.std.specs.Prelude.{MatchBool, MatchOption, ◌≡◌, ◌<◌, ◌==◌, false, codes, option_map, Some, None, IfSome};
 ghost use Rattle.std.specs.List.{list_all};
 ghost use Rattle.svf_reader.specs.Commands.{is_word, with_part, behind_hex, one_part, parts, no_parts, state, cycles, run_test, in_real, is_frequency, is_trst, no_effect_if, parsed_by};
 ghost use Rattle.svf_reader.specs.Reading.{words_of};

@@ -14,7 +14,7 @@ use ij_bits::{Bits, OutOfMemory};
 use std::alloc::Global;
 use svf_writer::Part;
 
-/// The values of digits by their bytes; 16 is as 0.
+/// The values of digits by their bytes, modulo 16.
 static DIGIT_VALUES: [u8; 256] = [
     0, 0, 0, 0, 0, 0, 0, 0, 0, 0, 0, 0, 0, 0, 0, 0, 0, 0, 0, 0, 0, 0, 0, 0, 0, 0, 0, 0, 0, 0, 0, 0,
     0, 0, 0, 0, 0, 0, 0, 0, 0, 0, 0, 0, 0, 0, 0, 0, 0, 1, 2, 3, 4, 5, 6, 7, 8, 9, 3, 4, 5, 6, 7, 8,
@@ -27,7 +27,7 @@ static DIGIT_VALUES: [u8; 256] = [
     4, 5, 6, 7, 8, 9, 10, 11, 12, 13, 14, 15, 0, 1, 2, 3, 4, 5, 6, 7, 8,
 ];
 
-/// A digit's value, from a table; 16 is as 0.
+/// A digit's value modulo 16, from a table.
 fn digit_value(b: u8) -> u8
     ensures value { result ≡ digit_value b % 16 }
     ensures small { result < 16 }

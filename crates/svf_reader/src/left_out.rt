@@ -1,6 +1,6 @@
 // Commands of SVF that are left out.
 ghost use Rattle.std.specs.Prelude.{◌≡◌, ◌∷◌, nat_le, length, option_map};
-ghost use Rattle.svf_reader.specs.Commands.{begins_with_length, begins_with_on, is_left_out, left_out, left_out_names, headers, any_is_one_of};
+ghost use Rattle.svf_reader.specs.Commands.{begins_with_length, begins_with_on, is_left_out, left_out, left_out_names, any_is_one_of};
 ghost use Rattle.svf_reader.specs.Reading.{words_of, runs_of};
 ghost use Rattle.svf_reader.specs.Texts.{plain};
 

@@ -1,7 +1,7 @@
 // What a line whose faults were ruled out says of a model.
-ghost use Rattle.std.specs.Prelude.{◌≡◌, ◌+◌, ◌-◌, ◌^◌, ◌<◌, ◌≤◌, ◌++◌, ◌∷◌, [], ◌||◌, false, map, length, option_map, unwrap_or, IfOk, IfSome, All};
+ghost use Rattle.std.specs.Prelude.{◌≡◌, ◌-◌, ◌^◌, ◌<◌, ◌≤◌, map, length, IfOk, IfSome, All};
 ghost use Rattle.instruments.specs.Seen.{seen_out, seen_row as seen_model_row, seen_model};
-ghost use Rattle.table_file.specs.Tables.{known, word_named, operand_of, cond_width, cond_said, slot_said, amount_said, set_said, row_said, out_said};
+ghost use Rattle.table_file.specs.Tables.{known, operand_of, cond_width, cond_said, slot_said, amount_said, set_said, row_said, out_said};
 ghost use Rattle.table_lines.specs.SeenSaid.{seen_slot, seen_cond, seen_slice, seen_amount, seen_set, seen_row};
 ghost use Rattle.instruments.specs.Models.{word_width};
 ghost use Rattle.table_file.specs.Small.{AreNarrow, IsFewAmount};

@@ -1,5 +1,5 @@
 // The blocks of a table file, line by line.
-ghost use Rattle.std.specs.Prelude.{◌≡◌, ◌+◌, ◌^◌, ◌<◌, ◌≤◌, ◌++◌, ◌∷◌, [], List, map, length, option_map, IfOk, IfSome, Ok, Some};
+ghost use Rattle.std.specs.Prelude.{◌≡◌, ◌+◌, ◌^◌, ◌<◌, ◌≤◌, ◌++◌, ◌∷◌, [], List, map, length, IfOk, Ok, Some};
 ghost use Rattle.ij_text.specs.declared.Place.{Place};
 ghost use Rattle.instruments.specs.Seen.{seen_model};
 ghost use Rattle.bench_lines.specs.Lines.{split};

@@ -1,8 +1,8 @@
 // A model with one more line.
-ghost use Rattle.std.specs.Prelude.{◌≡◌, ◌+◌, ◌^◌, ◌<◌, ◌≤◌, ◌++◌, ◌∷◌, [], false, map, length, option_map, IfOk, IfSome, OnOk, All};
+ghost use Rattle.std.specs.Prelude.{◌≡◌, ◌^◌, ◌<◌, ◌≤◌, false, option_map, IfOk, IfSome, OnOk};
 ghost use Rattle.instruments.specs.Seen.{seen_model, seen_word, seen_memory, seen_port};
 ghost use Rattle.bench_lines.specs.Reading.{plain_value};
-ghost use Rattle.table_lines.specs.Said.{Starts, Input, Word, Memory, Output, Change, Run};
+ghost use Rattle.table_lines.specs.Said.{Input, Word, Memory, Output, Change, Run};
 ghost use Rattle.table_lines.specs.SeenSaid.{seen_slice, seen_row, seen_starts, seen_said};
 ghost use Rattle.table_file.specs.Small.{IsSmall, AreFewStarts};
 ghost use Rattle.table_file.specs.Tables.{with_line, width_fault, limit_fault};

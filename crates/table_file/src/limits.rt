@@ -1,6 +1,6 @@
 // Lines that pass a limit.
-ghost use Rattle.std.specs.Prelude.{◌≡◌, ◌+◌, ◌^◌, ◌<◌, ◌≤◌, ◌==◌, ◌||◌, nat_lt, nat_le, length, map, option_map, is_some};
-ghost use Rattle.instruments.specs.Seen.{seen_model, seen_row, seen_memory};
+ghost use Rattle.std.specs.Prelude.{◌≡◌, ◌+◌, ◌<◌, ◌≤◌, ◌==◌, ◌||◌, nat_le, length, map, is_some};
+ghost use Rattle.instruments.specs.Seen.{seen_model, seen_row};
 ghost use Rattle.table_file.specs.Tables.{no_width, limit_fault, rank};
 ghost use Rattle.table_lines.specs.SeenSaid.{seen_said};
 

@@ -1,10 +1,9 @@
 // What the names of a table line mean, and which of them are at fault.
-ghost use Rattle.std.specs.Prelude.{◌≡◌, ◌+◌, ◌^◌, ◌<◌, ◌≤◌, ◌&&◌, ◌||◌, not, map, length, option_map, is_some, IfSome};
+ghost use Rattle.std.specs.Prelude.{◌≡◌, ◌+◌, ◌<◌, ◌≤◌, ◌||◌, not, map, length, option_map, is_some, IfSome};
 ghost use Rattle.std.specs.List.{list_any};
-ghost use Rattle.std.specs.Str.{bytes_eq};
 ghost use Rattle.instruments.specs.Seen.{seen_word, seen_port, seen_memory, seen_out, seen_model};
 ghost use Rattle.instruments.specs.Models.{memory_names, names};
-ghost use Rattle.table_file.specs.Tables.{named, stands_in, word_named, input_named, is_memory, operand_named, cond_operand, no_operand, no_entry, no_slot, no_amount, target, row_names, name_fault, has_twice};
+ghost use Rattle.table_file.specs.Tables.{named, stands_in, word_named, input_named, operand_named, cond_operand, no_operand, no_entry, no_slot, no_amount, target, row_names, name_fault, has_twice};
 ghost use Rattle.table_lines.specs.SeenSaid.{seen_entry, seen_slot, seen_amount, seen_cond, seen_set, seen_row, seen_said};
 
 use bench_lines::words::is;

@@ -1,12 +1,11 @@
 // Numbers and names of a table line that don't fit a width.
-ghost use Rattle.std.specs.Prelude.{◌≡◌, ◌+◌, ◌^◌, ◌<◌, ◌≤◌, ◌==◌, ◌||◌, not, nat_le, nat_lt, map, length, get_or, option_map, unwrap_or};
+ghost use Rattle.std.specs.Prelude.{◌≡◌, ◌<◌, ◌≤◌, ◌||◌, map, length, option_map, unwrap_or};
 ghost use Rattle.std.specs.List.{list_any};
-ghost use Rattle.instruments.specs.Seen.{seen_word, seen_port, seen_memory, seen_model};
+ghost use Rattle.instruments.specs.Seen.{seen_memory, seen_model};
 ghost use Rattle.instruments.specs.After.{memory_width};
 ghost use Rattle.instruments.specs.Models.{word_width, input_width, operand_width};
 ghost use Rattle.bench_lines.specs.Words.{is_wide};
-ghost use Rattle.bench_lines.specs.Reading.{plain_value};
-ghost use Rattle.table_file.specs.Tables.{known, word_named, name_width, cond_width, slot_width, is_above, reset_above, starts_above, bounds_outside, amount_width, row_widths, width_fault};
+ghost use Rattle.table_file.specs.Tables.{known, word_named, name_width, cond_width, slot_width, starts_above, bounds_outside, amount_width, row_widths, width_fault};
 ghost use Rattle.table_lines.specs.SeenSaid.{seen_slot, seen_amount, seen_cond, seen_set, seen_row, seen_starts, seen_said};
 
 use crate::names::{cond_operand, operand_named, word_named};

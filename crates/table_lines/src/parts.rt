@@ -1,5 +1,5 @@
 // The parts of a row between commas.
-ghost use Rattle.std.specs.Prelude.{◌≡◌, ◌+◌, ◌<◌, ◌≤◌, [], ◌∷◌, length, IfSome};
+ghost use Rattle.std.specs.Prelude.{◌≡◌, ◌+◌, ◌<◌, ◌≤◌, length, IfSome};
 ghost use Rattle.bench_lines.specs.Reading.{texts};
 ghost use Rattle.table_lines.specs.Said.{parts};
 ghost use Rattle.table_lines.specs.Parted.{part_length, part_list};

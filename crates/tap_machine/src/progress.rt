@@ -1,9 +1,9 @@
 // How far a play has come in its list of commands.
-ghost use Rattle.std.specs.Prelude.{◌≡◌, ◌<◌, ◌+◌, ◌^◌, ◌++◌, ◌∷◌, [], length, drop, get_or, replicate, true, false, Some, None, unwrap_or, option_map, IsTrue, ◌↔◌};
-ghost use Rattle.svf_writer.specs.Fits.{HasLength, FitsAfter};
+ghost use Rattle.std.specs.Prelude.{◌≡◌, ◌<◌, ◌+◌, ◌^◌, ◌∷◌, length, drop, get_or, replicate, true, false, Some, None, unwrap_or};
+ghost use Rattle.svf_writer.specs.Fits.{FitsAfter};
 ghost use Rattle.svf_writer.specs.SeenCommands.{SIR, SDR, seen_scan, seen_command};
 ghost use Rattle.tap_machine.specs.Remaining.{lent, seen_held, last_length, AreHeldBits, at_hand, phase_pins, pins_at_hand, later_pins, remaining_pins, rests_at_end, remaining_commands, to_begin, IsWithin, IsUnderWay, first_of};
-ghost use Rattle.tap_machine.specs.Play.{no_shift, after_scan, expected, mask_now};
+ghost use Rattle.tap_machine.specs.Play.{no_shift, after_scan, expected};
 
 use crate::{Pins, Stable};
 use svf_writer::{Command, Commands, Part, Scan};
