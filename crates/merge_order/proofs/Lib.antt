@@ -1,10 +1,11 @@
 pub mod Examples
 pub mod Alone
-pub mod Joins
 pub mod Tabled
 pub mod Arounds
-pub mod Candidates
 pub mod Turning
+pub mod Insertions
+pub mod Telling
+pub mod Words
 pub mod Refusing
 pub mod Kept
 pub mod OfNetwork

@@ -1,5 +1,5 @@
 -- What tables say of rounds that join.
-use Rattle.std.proofs.Common.{◌≡◌, ℕ, ◌+◌, ◌<◌, ◌==◌, Bool, true, false, List, [], ◌∷◌, ◌++◌, length, get_or, map, take, refl, sym, ap, ◌∙◌}
+use Rattle.std.proofs.Common.{◌≡◌, ℕ, ◌+◌, ◌<◌, ◌==◌, Bool, true, false, cond, List, [], ◌∷◌, ◌++◌, length, get_or, map, take, refl, sym, ap, ◌∙◌}
 use Rattle.std.specs.Prelude.{not, ◌&&◌, ◌||◌, flat_map}
 use Rattle.std.specs.List.{list_any}
 use Rattle.std.proofs.lemmas.Bool.{eqb-true, eq-eqb}
@@ -9,10 +9,8 @@ use Rattle.net_graph.specs.declared.net.BitId.{BitId}
 use Rattle.net_graph.specs.Path.{same_place}
 use Rattle.net_graph.specs.SeenSteps.{SeenGroup}
 use Rattle.pdl_targets.specs.Rounds.{Places, clash, exclude}
-use Rattle.merge_order.specs.declared.named.Named.{Named}
 use Rattle.merge_order.specs.Merge.{both, can_join, clashes_with, names, part_ways, share_bit}
-use Rattle.merge_order.specs.Named.{Tells}
-use Rattle.merge_order.specs.Tables.{SameRows, StampedBits, StampedRows, excluded, has_bit, rows_around}
+use Rattle.merge_order.specs.Tables.{SameRows, rows_around}
 
 -- ---- either one or the other
 
@@ -60,10 +58,10 @@ module _ {A B : Type 0} where
   any_turned p [] ys = sym (any_none ys)
   any_turned p (x ∷ xs) ys = ap (λ t. list_any (p x) ys || t) (any_turned p xs ys) ∙ sym (any_or (p x) (λ y. list_any (λ z. p z y) xs) ys)
 
--- one more of those that are put in
-pub any_step : {A : Type 0} (p : A → Bool) (xs : List A) (i : ℕ) (d : A) (before current now : Bool) → i < length xs
-    → current ≡ (list_any p (take i xs) || before) → now ≡ (p (get_or xs i d) || current) → now ≡ (list_any p (take (i + 1) xs) || before)
-any_step p xs i d before current now within so_far here =
+-- one more of those that are put in at a place
+pub any_step_there : {A : Type 0} (there : Bool) (p : A → Bool) (xs : List A) (i : ℕ) (d : A) (before current now : Bool) → i < length xs
+    → current ≡ (there && list_any p (take i xs) || before) → now ≡ (there && p (get_or xs i d) || current) → now ≡ (there && list_any p (take (i + 1) xs) || before)
+any_step_there true p xs i d before current now within so_far here =
     here
     ∙ ap (λ t. p (get_or xs i d) || t) so_far
     ∙ turned (p (get_or xs i d)) (list_any p (take i xs)) before
@@ -74,16 +72,24 @@ any_step p xs i d before current now within so_far here =
     turned true false c = refl
     turned false true c = refl
     turned false false c = refl
+any_step_there false p xs i d before current now within so_far here = here ∙ so_far
 
--- writes, and then reads
-pub both_put : (w r old middle now : Bool) → middle ≡ (w || old) → now ≡ (r || middle) → now ≡ ((w || r) || old)
-both_put w r old middle now one two = two ∙ ap (λ t. r || t) one ∙ turned w r old
+-- writes, and then reads, at a place
+pub both_put : (there w r old middle now : Bool) → middle ≡ (there && w || old) → now ≡ (there && r || middle) → now ≡ (there && (w || r) || old)
+both_put true w r old middle now one two = two ∙ ap (λ t. r || t) one ∙ turned w r old
   where
     turned : (a b c : Bool) → (b || (a || c)) ≡ ((a || b) || c)
     turned true true c = refl
     turned true false c = refl
     turned false true c = refl
     turned false false c = refl
+both_put false w r old middle now one two = two ∙ one
+
+-- one more that is looked at, in a word
+pub any_word : {A : Type 0} (p : A → Bool) (xs : List A) (i : ℕ) (d : A) (before here now : Bool) → i < length xs
+    → before ≡ list_any p (take i xs) → here ≡ p (get_or xs i d) → now ≡ (before || here) → now ≡ list_any p (take (i + 1) xs)
+any_word p xs i d before here now within so_far is both =
+    both ∙ ap (λ t. t || here) so_far ∙ ap (λ t. list_any p (take i xs) || t) is ∙ sym (list_any_more p xs i d within)
 
 -- ---- one bit that a round names
 
@@ -162,49 +168,39 @@ module _ (places : Places) where
 
   -- ---- tables
 
-  -- tables tell whether a round can join
-  pub can_join_told : (t : Named) (g h : SeenGroup) (around : List Branch) → SameRows around (rows_around places h) → Tells places t g
-      → (not (list_any (λ w. has_bit t.bits w.bit) h.writes || list_any (λ r. has_bit t.bits r.bit) h.reads) && not (list_any (excluded t.rows) around)) ≡ can_join places g h
-  can_join_told t g h around same tells =
-      ap (λ s. not s && not (list_any (excluded t.rows) around)) (some_same (has_bit t.bits) (names g) tells.bits h ∙ share_turned g h)
-      ∙ ap (λ s. not (share_bit g h) && not s)
-      (same (excluded t.rows) ∙ any_same (excluded t.rows) (λ b. list_any (λ a. exclude a b) (rows_around places g)) tells.rows (rows_around places h) ∙ parts_turned g h)
+  -- what is told of one join tells whether a round can join it
+  pub takes_told : (shut closed : Bool) (has : BitId → Bool) (out : Branch → Bool) (g h : SeenGroup) (around : List Branch) → SameRows around (rows_around places h)
+      → shut ≡ closed → ((b : BitId) → has b ≡ names g b) → ((b : Branch) → out b ≡ list_any (λ a. exclude a b) (rows_around places g))
+      → not ((shut || some_bit has h) || list_any out around) ≡ (not closed && can_join places g h)
+  takes_told shut closed has out g h around same shuts bits rows =
+      parted shut (some_bit has h) (list_any out around)
+      ∙ ap (λ t. not t && (not (some_bit has h) && not (list_any out around))) shuts
+      ∙ ap (λ t. not closed && (not t && not (list_any out around))) (some_same has (names g) bits h ∙ share_turned g h)
+      ∙ ap (λ t. not closed && (not (share_bit g h) && not t))
+      (same out ∙ any_same out (λ b. list_any (λ a. exclude a b) (rows_around places g)) rows (rows_around places h) ∙ parts_turned g h)
+    where
+      parted : (a b c : Bool) → not ((a || b) || c) ≡ (not a && (not b && not c))
+      parted true b c = refl
+      parted false true c = refl
+      parted false false c = refl
 
-  -- empty tables with one round
-  pub first_told : (no_bits bits : StampedBits) (no_rows rows : StampedRows) (h : SeenGroup) (around : List Branch) → SameRows around (rows_around places h)
-      → ((b : BitId) → has_bit no_bits b ≡ false) → ((b : Branch) → excluded no_rows b ≡ false)
-      → ((b : BitId) → has_bit bits b ≡ (names h b || has_bit no_bits b)) → ((b : Branch) → excluded rows b ≡ (list_any (λ a. exclude a b) around || excluded no_rows b))
-      → Tells places (record { bits = bits; rows = rows }) h
-  first_told no_bits bits no_rows rows h around same no_bit no_row put_bits put_rows = record {
-    bits = λ b. put_bits b ∙ ap (λ t. names h b || t) (no_bit b) ∙ or_none (names h b);
-    rows = λ b. put_rows b ∙ ap (λ t. list_any (λ a. exclude a b) around || t) (no_row b) ∙ or_none (list_any (λ a. exclude a b) around) ∙ same (λ a. exclude a b);
-  }
+  -- a bit, where a join may have got one round more
+  pub bit_told : (there : Bool) (g h : SeenGroup) (b : BitId) (old now : Bool) → old ≡ names g b → now ≡ (there && names h b || old) → now ≡ names (cond there (both g h) g) b
+  bit_told true g h b old now told put = put ∙ ap (λ t. names h b || t) told ∙ or_turned (names h b) (names g b) ∙ sym (some_both (same_place b) g h)
+  bit_told false g h b old now told put = put ∙ told
 
-  -- tables with one round more
-  pub both_told : (old : Named) (bits : StampedBits) (rows : StampedRows) (g h : SeenGroup) (around : List Branch) → SameRows around (rows_around places h) → Tells places old g
-      → ((b : BitId) → has_bit bits b ≡ (names h b || has_bit old.bits b)) → ((b : Branch) → excluded rows b ≡ (list_any (λ a. exclude a b) around || excluded old.rows b))
-      → Tells places (record { bits = bits; rows = rows }) (both g h)
-  both_told old bits rows g h around same tells put_bits put_rows = record {
-    bits = λ b. put_bits b ∙ ap (λ t. names h b || t) (tells.bits b) ∙ or_turned (names h b) (names g b) ∙ sym (some_both (same_place b) g h);
-    rows = λ b.
-        let p = λ (a : Branch). exclude a b in
-        put_rows b
-        ∙ ap (λ t. t || excluded old.rows b) (same p)
-        ∙ ap (λ t. list_any p (rows_around places h) || t) (tells.rows b)
-        ∙ or_turned (list_any p (rows_around places h)) (list_any p (rows_around places g))
-        ∙ ap (λ t. t || list_any p (rows_around places h)) (any_around p g)
-        ∙ ap (λ t. some_bit (λ c. list_any p (places c.reg)) g || t) (any_around p h)
-        ∙ sym (some_both (λ c. list_any p (places c.reg)) g h)
-        ∙ sym (any_around p (both g h));
-  }
-
--- a test that comes first decides
-pub early : (s shares parts : Bool) → s ≡ shares → s ≡ true → not s ≡ (not shares && not parts)
-early true true parts is here = refl
-early true false parts is here = absurd cc
-early false shares parts is here = absurd cc
-
-pub late : (s shares e parts : Bool) → s ≡ shares → s ≡ false → e ≡ parts → not e ≡ (not shares && not parts)
-late false false e parts is none last = ap not last
-late false true e parts is none last = absurd cc
-late true shares e parts is none last = absurd cc
+  -- a row, where a join may have got one round more
+  pub row_told : (there : Bool) (g h : SeenGroup) (around : List Branch) (b : Branch) (old now : Bool) → SameRows around (rows_around places h)
+      → old ≡ list_any (λ a. exclude a b) (rows_around places g) → now ≡ (there && list_any (λ a. exclude a b) around || old)
+      → now ≡ list_any (λ a. exclude a b) (rows_around places (cond there (both g h) g))
+  row_told true g h around b old now same told put =
+      let p = λ (a : Branch). exclude a b in
+      put
+      ∙ ap (λ t. t || old) (same p)
+      ∙ ap (λ t. list_any p (rows_around places h) || t) told
+      ∙ or_turned (list_any p (rows_around places h)) (list_any p (rows_around places g))
+      ∙ ap (λ t. t || list_any p (rows_around places h)) (any_around p g)
+      ∙ ap (λ t. some_bit (λ c. list_any p (places c.reg)) g || t) (any_around p h)
+      ∙ sym (some_both (λ c. list_any p (places c.reg)) g h)
+      ∙ sym (any_around p (both g h))
+  row_told false g h around b old now same told put = put ∙ told

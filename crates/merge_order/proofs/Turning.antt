@@ -1,17 +1,14 @@
 -- Joins and turns, one after the other.
-use Rattle.std.proofs.Common.{◌≡◌, ◌<◌, ◌≤◌, ◌+◌, ◌-◌, ◌==◌, ℕ, zero, suc, Bool, true, false, cond, List, [], ◌∷◌, ◌++◌, length, map, take, drop, get_or, refl, sym, ap, ◌∙◌, append_assoc, subst, arith}
+use Rattle.std.proofs.Common.{◌≡◌, ◌<◌, ◌≤◌, ◌+◌, ◌-◌, ◌==◌, ℕ, zero, suc, Bool, true, false, cond, List, [], ◌∷◌, ◌++◌, length, refl, sym, ap, ◌∙◌, append_assoc, arith}
 use Rattle.std.specs.Borrow.{Bor}
-use Rattle.std.specs.Prelude.{All}
-use Rattle.std.proofs.lemmas.List.{get_or-map, length-map, map-append, take_all}
+use Rattle.std.proofs.lemmas.List.{map-append}
 use Rattle.ij_bits.specs.Room.{Listed}
 use Rattle.net_graph.specs.declared.step.BitStep.{BitStep}
 use Rattle.net_graph.specs.declared.step.BitStep.TheVariants.{Apply as ApplyStep}
 use Rattle.net_graph.specs.declared.step.Group.{Group}
 use Rattle.net_graph.specs.SeenSteps.{SeenGroup, SeenStep, Apply, seen_step}
 use Rattle.pdl_targets.specs.Rounds.{Places}
-use Rattle.merge_order.specs.declared.candidate.Candidate.{Candidate}
-use Rattle.merge_order.specs.Merge.{Branch, all_joins, behind_first, first_join, firsts, joins, joins_upto, later, longest, merged, turn, turns, unjoined, with_first}
-use Rattle.merge_order.specs.Named.{AreCandidates, IsCandidate, seen_candidate, seen_candidates}
+use Rattle.merge_order.specs.Merge.{Branch, behind_first, firsts, joins, later, longest, merged, turn, turns, unjoined, with_first}
 use Rattle.merge_order.specs.SeenJoins.{seen_rounds}
 use Rattle.merge_order.specs.SeenTurns.{seen_slices, seen_steps}
 
@@ -31,24 +28,6 @@ module _ (places : Places) where
   behind_few [] more = omega arith
   behind_few (g ∷ []) more = unjoined_few g more
   behind_few (g ∷ h ∷ rest) more = omega arith
-
-  -- enough is enough
-  joins_enough : (n m : ℕ) (applies : List (List SeenGroup)) → length applies ≤ n → length applies ≤ m → joins_upto places n applies ≡ joins_upto places m applies
-  joins_enough zero zero applies h k = refl
-  joins_enough zero (suc m) [] h k = refl
-  joins_enough zero (suc m) (a ∷ rest) h k = absurd (omega (arith, h))
-  joins_enough (suc n) zero [] h k = refl
-  joins_enough (suc n) zero (a ∷ rest) h k = absurd (omega (arith, k))
-  joins_enough (suc n) (suc m) [] h k = refl
-  joins_enough (suc n) (suc m) (a ∷ rest) h k =
-      let few = behind_few a rest in
-      ap (λ l. first_join places a rest ∷ l) (joins_enough n m (behind_first places a rest) (omega (arith, h, few)) (omega (arith, k, few)))
-
-  pub joins_next : (first : List SeenGroup) (more : List (List SeenGroup))
-      → all_joins places (first ∷ more) ≡ first_join places first more ∷ all_joins places (behind_first places first more)
-  joins_next first more =
-      let few = behind_few first more in
-      ap (λ l. first_join places first more ∷ l) (joins_enough (length more) (length (behind_first places first more)) (behind_first places first more) few (omega arith))
 
 -- ---- turns
 
@@ -88,57 +67,6 @@ turn_smaller [] bs = let l = longest_later bs in let few = later_few bs in omega
 turn_smaller (s ∷ ss) bs = let l = longest_later ((s ∷ ss) ∷ bs) in let few = later_few bs in omega (arith, l, few)
 
 -- ---- loops
-
--- the first of a list, and those behind it
-whole : {T : Type 0} → (xs : List T) (x : T) → 1 ≤ length xs → x ≡ get_or xs 0 x → xs ≡ x ∷ take (length xs - 1) (drop 1 xs)
-whole [] x some is = absurd (omega (arith, some))
-whole (y ∷ ys) x some is =
-    ap (λ z. z ∷ ys) (sym is) ∙ ap (λ l. x ∷ l) (sym (take_all (length (y ∷ ys) - 1) ys (omega arith)))
-
-module _ (places : Places) (lefts xs nexts : List (Bor Candidate)) (first : Bor Candidate) where
-  abbrev behind : List (List SeenGroup)
-  behind = seen_candidates (take (length xs - 1) (drop 1 xs))
-
-  abbrev AreNext : Type 0
-  AreNext = seen_candidates nexts ≡ behind_first places (seen_candidate first.now) behind
-
-  cut : xs ≡ lefts → 1 ≤ length xs → first ≡ get_or xs 0 first → seen_candidates lefts ≡ seen_candidate first.now ∷ behind
-  cut same some is = ap seen_candidates (sym same ∙ whole xs first some is)
-
-  pub fewer_applies : xs ≡ lefts → 1 ≤ length xs → first ≡ get_or xs 0 first → AreNext → length (seen_candidates nexts) < length (seen_candidates lefts)
-  fewer_applies same some is next =
-      let few = behind_few places (seen_candidate first.now) behind in
-      let n = ap length next in
-      let l = ap length (cut same some is) in
-      omega (arith, few, n, l)
-
-  pub one_join_more : (old new all : List SeenStep) (rounds : List SeenGroup) → xs ≡ lefts → 1 ≤ length xs → first ≡ get_or xs 0 first → AreNext
-      → rounds ≡ first_join places (seen_candidate first.now) behind → new ≡ old ++ Apply rounds ∷ []
-      → old ++ map Apply (all_joins places (seen_candidates lefts)) ≡ all → new ++ map Apply (all_joins places (seen_candidates nexts)) ≡ all
-  one_join_more old new all rounds same some is next join pushed so_far =
-      let more = map Apply (all_joins places (seen_candidates nexts)) in
-      ap (λ l. l ++ more) pushed
-      ∙ append_assoc old (Apply rounds ∷ []) more
-      ∙ ap (λ l. old ++ l)
-      (ap (λ r. Apply r ∷ more) join
-      ∙ ap (λ l. Apply (first_join places (seen_candidate first.now) behind) ∷ map Apply (all_joins places l)) next
-      ∙ ap (map Apply) (sym (joins_next places (seen_candidate first.now) behind))
-      ∙ ap (λ l. map Apply (all_joins places l)) (sym (cut same some is)))
-      ∙ so_far
-
--- references to iApplys
-seen_through : (applies : List (Bor Candidate)) → seen_candidates applies ≡ map seen_candidate (map (λ c. c.now) applies)
-seen_through [] = refl
-seen_through (a ∷ more) = ap (λ l. seen_candidate a.now ∷ l) (seen_through more)
-
-pub seen_all : (applies : List (Bor Candidate)) (all : List Candidate) → map (λ c. c.now) applies ≡ all → seen_candidates applies ≡ map seen_candidate all
-seen_all applies all same = seen_through applies ∙ ap (map seen_candidate) same
-
-pub are_all : (places : Places) (applies : List (Bor Candidate)) (all : List Candidate) → map (λ c. c.now) applies ≡ all → All (IsCandidate places) all → AreCandidates places applies
-are_all places applies all same are k d within =
-    let P : List Candidate → Type 0 = λ l. All (IsCandidate places) l in
-    let there = get_or-map (λ (c : Bor Candidate). c.now) applies k d d.now within in
-    subst (IsCandidate places) there (subst P (sym same) are k d.now (omega (arith, within, length-map applies (λ (c : Bor Candidate). c.now))))
 
 pub pushed_apply : (old new : List BitStep) (rounds : Listed Group) → new ≡ old ++ ApplyStep rounds ∷ [] → seen_steps new ≡ seen_steps old ++ Apply (seen_rounds rounds.items) ∷ []
 pushed_apply old new rounds h = ap seen_steps h ∙ map-append seen_step old (ApplyStep rounds ∷ [])

@@ -1,4 +1,5 @@
 pub mod Merge
+pub mod Insertion
 pub mod Tables
 pub mod Around
 pub mod Named

@@ -1,5 +1,6 @@
 -- iApplys by their rounds, without where these lie in memory.
-use Rattle.std.specs.Prelude.{List, map}
+use Rattle.std.specs.Prelude.{List, Vec, map}
+use Rattle.std.specs.declared.alloc.Global.{Global}
 use Rattle.std.specs.Borrow.{Bor}
 use Rattle.net_graph.specs.SeenSteps.{SeenGroup, seen_group}
 use Rattle.net_graph.specs.declared.step.Group.{Group}
@@ -9,3 +10,6 @@ seen_rounds rounds = map seen_group rounds
 
 abbrev pub seen_applies : List (Bor (List Group)) → List (List SeenGroup)
 seen_applies applies = map (λ a. seen_rounds a.now) applies
+
+abbrev pub seen_joins : List (Vec Group Global) → List (List SeenGroup)
+seen_joins joins = map (λ j. seen_rounds j.items) joins

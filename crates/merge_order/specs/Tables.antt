@@ -1,66 +1,50 @@
--- What a round names, in tables that grow as they are asked. A mark counts where it is the stamp of the table, so that a new
--- stamp empties the table.
-use Rattle.std.specs.Prelude.{◌≡◌, ◌≤◌, ℕ, ◌==◌, Bool, false, not, ◌&&◌, ◌||◌, cond, List, [], ◌∷◌, ◌++◌, flat_map, slice_index_or}
-use Rattle.std.specs.Option.{IfNone, IfSome}
-use Rattle.std.specs.Borrow.{Bor}
+-- What the joins of a turn name, in tables that grow as they are asked. A set counts where its stamp is that of the table, so that
+-- a new stamp empties the table.
+use Rattle.std.specs.Prelude.{◌≡◌, ◌≤◌, ℕ, Bool, ◌||◌, List, [], ◌++◌, flat_map, slice_index_or}
 use Rattle.std.specs.List.{list_any}
 use Rattle.net_graph.specs.declared.branch.Branch.{Branch}
 use Rattle.net_graph.specs.declared.net.BitId.{BitId}
-use Rattle.net_graph.specs.SeenSteps.{SeenGroup, seen_group}
-use Rattle.pdl_targets.specs.Rounds.{Places, exclude}
-use Rattle.merge_order.specs.declared.row_table.MuxRow.{MuxRow}
-use Rattle.merge_order.specs.Merge.{names}
+use Rattle.net_graph.specs.SeenSteps.{SeenGroup}
+use Rattle.pdl_targets.specs.Rounds.{Places}
+use Rattle.round_sets.specs.Sets.{StampedSet, has_round, no_set}
 
 -- ---- bits
 
--- the mark of a position, and the marks of a register
-abbrev pub mark_at : List ℕ → ℕ → ℕ
-mark_at marks pos = slice_index_or marks pos 0
+-- the joins that name the bit at a position
+abbrev pub set_at : List StampedSet → ℕ → StampedSet
+set_at sets pos = slice_index_or sets pos no_set
 
-abbrev pub marks_of : List (List ℕ) → ℕ → List ℕ
-marks_of regs reg = slice_index_or regs reg []
+-- those of each position of a register
+abbrev pub sets_of : List (List StampedSet) → ℕ → List StampedSet
+sets_of regs reg = slice_index_or regs reg []
 
+-- no set has a stamp above this one
+abbrev pub AreStamped : ℕ → List StampedSet → Type 0
+AreStamped stamp sets = (pos : ℕ) → (set_at sets pos).stamp ≤ stamp
+
+-- a set for each bit, and one for the joins that nothing joins
 pub record StampedBits : Type 0 where
   pub stamp : ℕ
-  pub regs : List (List ℕ)
+  pub closed : StampedSet
+  pub regs : List (List StampedSet)
 
--- the bits that are in
-abbrev pub has_bit : StampedBits → BitId → Bool
-has_bit t b = mark_at (marks_of t.regs b.reg) b.pos == t.stamp
+-- a join names a bit
+abbrev pub has_bit : StampedBits → BitId → ℕ → Bool
+has_bit t b k = has_round t.stamp (set_at (sets_of t.regs b.reg) b.pos) k
 
--- no mark is above the stamp
-pub record AreBitsStamped (stamp : ℕ) (regs : List (List ℕ)) : Type 0 where
+-- a join names a bit that a round names
+abbrev pub names_one : StampedBits → SeenGroup → ℕ → Bool
+names_one t g k = list_any (λ w. has_bit t w.bit k) g.writes || list_any (λ r. has_bit t r.bit k) g.reads
+
+-- nothing joins a join
+abbrev pub is_shut : StampedBits → ℕ → Bool
+is_shut t k = has_round t.stamp t.closed k
+
+-- no stamp is above that of the table
+pub record AreBitsStamped (stamp : ℕ) (closed : StampedSet) (regs : List (List StampedSet)) : Type 0 where
   pub some : 1 ≤ stamp
-  pub below : (reg pos : ℕ) → mark_at (marks_of regs reg) pos ≤ stamp
-
--- ---- rows
-
-abbrev pub no_row : MuxRow
-no_row = record { stamp = 0; row = 0; several = false }
-
-abbrev pub row_at : List MuxRow → ℕ → MuxRow
-row_at muxes mux = slice_index_or muxes mux no_row
-
-pub record StampedRows : Type 0 where
-  pub stamp : ℕ
-  pub muxes : List MuxRow
-
--- a row of a mux is in that is another one
-abbrev pub has_other : ℕ → MuxRow → ℕ → Bool
-has_other stamp m row = (m.stamp == stamp) && (m.several || not (m.row == row))
-
--- one row more of a mux is in
-abbrev pub with_row : ℕ → MuxRow → ℕ → MuxRow
-with_row stamp m row = cond (m.stamp == stamp) (record { stamp = stamp; row = m.row; several = m.several || not (m.row == row) }) (record { stamp = stamp; row = row; several = false })
-
--- a row excludes one that is in
-abbrev pub excluded : StampedRows → Branch → Bool
-excluded t b = has_other t.stamp (row_at t.muxes b.mux) b.row
-
--- no mark is above the stamp
-pub record AreRowsStamped (stamp : ℕ) (muxes : List MuxRow) : Type 0 where
-  pub some : 1 ≤ stamp
-  pub below : (mux : ℕ) → (row_at muxes mux).stamp ≤ stamp
+  pub of_closed : closed.stamp ≤ stamp
+  pub of_regs : (reg : ℕ) → AreStamped stamp (sets_of regs reg)
 
 -- ---- rounds
 

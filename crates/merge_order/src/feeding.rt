@@ -1,5 +1,5 @@
 // What was taken in, and what is ready.
-ghost use Rattle.std.specs.Prelude.{◌≡◌, ◌<◌, ◌+◌, ◌^◌, ◌++◌, [], ◌∷◌, IsNone, Some, None, MatchOption, OnOk, OnErr, IfErr};
+ghost use Rattle.std.specs.Prelude.{◌≡◌, ◌<◌, ◌+◌, ◌^◌, [], ◌∷◌, IsNone, Some, None, MatchOption, OnOk, OnErr, IfErr};
 ghost use Rattle.net_graph.specs.Nets.{IsNet};
 ghost use Rattle.net_graph.specs.SeenSteps.{seen_step as seen_bits};
 ghost use Rattle.pdl_expand.specs.Values.{seen_step};

@@ -3,8 +3,7 @@
 #![tactic(auto)]
 
 mod around;
-mod bit_table;
-mod candidate;
+mod bit_sets;
 mod copies;
 mod fault;
 mod feeder;
@@ -12,7 +11,6 @@ mod feeding;
 mod joining;
 mod laws;
 mod named;
-mod row_table;
 mod turns;
 
 pub use fault::FeedFault;

@@ -1,15 +1,13 @@
 // The bit steps of a merge, turn by turn.
-ghost use Rattle.std.specs.Prelude.{◌≡◌, ◌++◌, [], ◌∷◌, All, map, IfOk, OnOk};
+ghost use Rattle.std.specs.Prelude.{◌≡◌, ◌++◌, [], ◌∷◌, map, IfOk, OnOk};
 ghost use Rattle.net_graph.specs.SeenSteps.{Apply, seen_step};
 ghost use Rattle.pdl_targets.specs.Binding.{run_of};
 ghost use Rattle.pdl_targets.specs.SeenPlaces.{places_in};
 ghost use Rattle.merge_order.specs.Merge as merge;
-ghost use Rattle.merge_order.specs.Named.{IsCandidate, seen_candidate};
-ghost use Rattle.merge_order.specs.SeenJoins.{seen_applies};
+ghost use Rattle.merge_order.specs.SeenJoins.{seen_applies, seen_joins};
 ghost use Rattle.merge_order.specs.SeenTurns.{seen_heads, seen_lists, seen_slices, seen_steps};
 
-use crate::candidate::{Candidate, candidates, references};
-use crate::joining::first_join;
+use crate::joining::all_joins;
 use crate::named::Named;
 use ij_bits::{List, OutOfMemory};
 use net_graph::{BitStep, Group};
@@ -51,23 +49,16 @@ fn longest_run(heads: &[&BitStep]) -> u32
     longest
 }
 
-/// Puts the joins of these iApplys behind bit steps.
+/// Puts joins behind bit steps, each as one iApply.
 fn with_joins(
-    alloc: Global,
-    _tree: &Tree,
-    named: &mut Named,
-    applies: &[Candidate],
+    joins: Vec<Vec<Group>>,
     steps: List<BitStep>,
 ) -> Result<List<BitStep>, OutOfMemory>
-    requires { All (IsCandidate (places_in _tree.now)) applies.now }
-    ensures { IfOk result (λ l. seen_steps l.items ≡ seen_steps steps.items ++ map Apply (merge.all_joins (places_in _tree.now) (map seen_candidate applies.now))) }
+    ensures { IfOk result (λ l. seen_steps l.items ≡ seen_steps steps.items ++ map Apply (seen_joins joins.items)) }
 {
     let mut steps = steps;
-    let mut left = references(alloc, applies)?;
-    while let [first, later @ ..] = left.as_slice() {
-        let join = first_join(alloc, _tree, named, first, later)?;
-        steps.push(BitStep::Apply(join.rounds))?;
-        left = join.left;
+    for join in joins {
+        steps.push(BitStep::Apply(List::from(join)))?;
     }
     Ok(steps)
 }
@@ -94,8 +85,8 @@ fn with_turn(
     ensures { IfOk result (λ l. seen_steps l.items ≡ seen_steps steps.items ++ merge.turn (places_in tree.now) (seen_heads heads.now)) }
 {
     let applies = applies_in(alloc, heads)?;
-    let applies = candidates(alloc, tree, &applies)?;
-    let steps = with_joins(alloc, tree, named, &applies, steps)?;
+    let joins = all_joins(alloc, tree, named, &applies)?;
+    let steps = with_joins(joins, steps)?;
     with_run(steps, longest_run(heads))
 }
 

@@ -1,5 +1,5 @@
 -- Each write and each read is put into the group of its round.
-use Rattle.std.proofs.Common.{◌≡◌, ◌≤◌, ◌<◌, ◌+◌, ℕ, zero, suc, Bool, true, false, cond, List, [], ◌∷◌, ◌++◌, length, get_or, set, map, Option, Some, None, refl, sym, ap, ◌∙◌, arith}
+use Rattle.std.proofs.Common.{◌≡◌, ◌≤◌, ◌<◌, ℕ, zero, suc, Bool, true, false, cond, List, [], ◌∷◌, ◌++◌, length, get_or, set, map, Some, None, refl, sym, ap, ◌∙◌, arith}
 use Rattle.std.specs.Prelude.{◌||◌, filter, Result, Ok, Err, OnOk}
 use Rattle.std.proofs.lemmas.List.Elements.{filter-append}
 use Rattle.ij_bits.specs.declared.memory.OutOfMemory.{OutOfMemory}

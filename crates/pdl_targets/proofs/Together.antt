@@ -43,11 +43,11 @@ any_none : {X : Type 0} (xs : List X) → false ≡ list_any (λ x. false) xs
 any_none [] = refl
 any_none (x ∷ xs) = any_none xs
 
-any_same : {X : Type 0} (f g : X → Bool) → ((x : X) → f x ≡ g x) → (xs : List X) → list_any f xs ≡ list_any g xs
+pub any_same : {X : Type 0} (f g : X → Bool) → ((x : X) → f x ≡ g x) → (xs : List X) → list_any f xs ≡ list_any g xs
 any_same f g h [] = refl
 any_same f g h (x ∷ xs) = ap (λ t. t || list_any f xs) (h x) ∙ ap (λ t. g x || t) (any_same f g h xs)
 
-any_swapped : (e : Branch → Branch → Bool) (xs ys : List Branch) → list_any (λ a. list_any (e a) ys) xs ≡ list_any (λ b. list_any (λ a. e a b) xs) ys
+pub any_swapped : (e : Branch → Branch → Bool) (xs ys : List Branch) → list_any (λ a. list_any (e a) ys) xs ≡ list_any (λ b. list_any (λ a. e a b) xs) ys
 any_swapped e [] ys = any_none ys
 any_swapped e (x ∷ xs) ys = ap (λ t. list_any (e x) ys || t) (any_swapped e xs ys) ∙ sym (any_or (e x) (λ b. list_any (λ a. e a b) xs) ys)
 

@@ -1,5 +1,6 @@
 -- Rounds and groups that were made, and the round of a register.
-use Rattle.std.specs.Prelude.{◌≡◌, ◌<◌, ◌≤◌, ◌||◌, ◌++◌, ℕ, zero, suc, Bool, true, false, List, [], ◌∷◌, get_or, length, map, Option, Some, None}
+use Rattle.std.specs.Prelude.{◌≡◌, ◌<◌, ◌≤◌, ◌++◌, ℕ, zero, suc, Bool, true, false, List, [], ◌∷◌, get_or, length, map, Option, Some, None}
+use Rattle.std.specs.List.{list_any}
 use Rattle.ij_bits.specs.Room.{Listed}
 use Rattle.net_graph.specs.declared.step.Group.{Group}
 use Rattle.net_graph.specs.declared.step.ReadBit.{ReadBit}
@@ -19,8 +20,7 @@ abbrev pub AreOnceInAll : List (List ℕ) → Type 0
 AreOnceInAll rounds = (r : ℕ) → times_in_all rounds r ≤ 1
 
 abbrev pub is_in_any : List (List ℕ) → ℕ → Bool
-is_in_any [] r = false
-is_in_any (rs ∷ rss) r = is_in rs r || is_in_any rss r
+is_in_any rounds r = list_any (λ rs. is_in rs r) rounds
 
 -- a round that a register is in, if it is in any
 abbrev pub IsRoundOf : List (List ℕ) → ℕ → Option ℕ → Type 0

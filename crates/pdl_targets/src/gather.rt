@@ -21,6 +21,7 @@ use ij_text::{Number, Place, Which};
 use net_graph::{BitStep, Group, Net, ReadBit, WriteBit};
 use net_tree::Tree;
 use pdl_parser::Value;
+use round_sets::RowSets;
 use std::alloc::Global;
 
 /// What came since the last iApply, and what was counted from the begin on.
@@ -38,6 +39,8 @@ pub(crate) struct Gathered {
     pub read_marks: BitMarks,
     /// Where a register stands.
     pub register_marks: BitMarks,
+    /// In which rounds of the last iApply the rows around its registers are.
+    pub rows: RowSets,
     /// The place of the first iWrite or iRead.
     pub pending: Option<Place>,
     /// How many iReads there were.
@@ -106,6 +109,7 @@ impl Gathered {
             write_marks: BitMarks::zeros(alloc, net)?,
             read_marks: BitMarks::zeros(alloc, net)?,
             register_marks: BitMarks::zeros(alloc, net)?,
+            rows: RowSets::new(alloc),
             pending: None,
             asked: 0,
             rounds: 0,
@@ -176,6 +180,7 @@ impl Gathered {
         let groups = groups(
             alloc,
             tree,
+            &mut self.rows,
             &self.register_marks,
             self.writes.as_slice(),
             self.reads.as_slice(),

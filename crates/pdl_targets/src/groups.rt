@@ -11,6 +11,7 @@ use bit_marks::BitMarks;
 use ij_bits::{List, OutOfMemory};
 use net_graph::{BitId, Group, ReadBit, WriteBit};
 use net_tree::Tree;
+use round_sets::RowSets;
 use std::alloc::Global;
 
 /// Where a register is thought to stand: in which round, and at which place there.
@@ -20,14 +21,14 @@ struct Hint {
     place: usize,
 }
 
-/// Where registers stand in rounds, by their marks.
+/// Where registers are thought to stand, in the order of their marks. A hint is looked at before it is believed.
 #[derive(Drop)]
 struct Hints<'a> {
     marks: &'a BitMarks,
     hints: Vec<Hint>,
 }
 
-/// Which hint is that of a register.
+/// Which hint is that of a register, whose mark counts from 1.
 fn hint_number(marks: &BitMarks, register: u32) -> usize {
     let first = BitId {
         reg: register,
@@ -46,7 +47,7 @@ fn note_round(marks: &BitMarks, hints: &mut [Hint], round: usize, registers: &[u
     }
 }
 
-/// Where the registers of rounds stand, of which there are so many.
+/// The hints for so many registers, which stand in these rounds.
 fn hints_of<'a>(
     alloc: Global,
     marks: &'a BitMarks,
@@ -215,7 +216,7 @@ fn no_groups(alloc: Global, rounds: &[List<u32>]) -> Result<Vec<Group>, OutOfMem
     Ok(groups)
 }
 
-/// The groups of a queue of so many registers, one for each round.
+/// The groups of a queue, one for each of these rounds.
 fn groups_in(
     alloc: Global,
     rounds: &[List<u32>],
@@ -232,10 +233,12 @@ fn groups_in(
     Ok(List::from(groups))
 }
 
-/// The groups of a queue, one for each round. The marks of its registers are their places, counted from 1.
+/// The groups of a queue, one for each round. The table is emptied first. The marks of the registers are their places, counted
+/// from 1.
 pub(crate) fn groups(
     alloc: Global,
     tree: &Tree,
+    rows: &mut RowSets,
     marks: &BitMarks,
     writes: &[WriteBit],
     reads: &[ReadBit],
@@ -244,7 +247,7 @@ pub(crate) fn groups(
     requires { AreEachOnce registers.now }
     ensures { IfOk result (λ gs. map seen_group gs.items ≡ groups (places_in tree.now) writes.now reads.now registers.now) }
 {
-    let rounds = rounds(alloc, tree, registers)?;
+    let rounds = rounds(alloc, tree, rows, registers)?;
     let hints = hints_of(alloc, marks, &rounds, registers.len())?;
     groups_in(alloc, &rounds, &hints, writes, reads)
 }

@@ -1,5 +1,5 @@
 // The names of the cells, in an index.
-ghost use Rattle.std.specs.Prelude.{◌≡◌, ◌<◌, ◌≤◌, ◌+◌, ◌^◌, ◌++◌, [], length, map, take, IfOk, codes};
+ghost use Rattle.std.specs.Prelude.{◌≡◌, ◌<◌, ◌+◌, ◌^◌, ◌++◌, length, map, take, IfOk, codes};
 ghost use Rattle.ij_text.specs.Numbering.{AreDistinct};
 ghost use Rattle.net_graph.specs.Nets.{IsNet};
 ghost use Rattle.pdl_parser.specs.Views.{bytes_of};

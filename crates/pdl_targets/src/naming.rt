@@ -2,12 +2,11 @@
 ghost use Rattle.std.specs.Prelude.{◌≡◌, ◌<◌, ◌^◌, length, None, Some, IfOk};
 ghost use Rattle.std.specs.Option.{option_map};
 ghost use Rattle.net_graph.specs.Nets.{IsNet, IsThing};
-ghost use Rattle.ij_text.specs.Numbers.{tern_bits};
 ghost use Rattle.pdl_parser.specs.Views.{seen_target, seen_value};
 ghost use Rattle.pdl_targets.specs.Index.{IsIndex};
 ghost use Rattle.pdl_targets.specs.Seen.{Finds};
 ghost use Rattle.pdl_targets.specs.SeenNamed.{seen_named};
-ghost use Rattle.pdl_targets.specs.Targets.{found_then, named, read_bits, spots_of, target_thing, thing_at, write_bits};
+ghost use Rattle.pdl_targets.specs.Targets.{named, read_bits, spots_of, target_thing, thing_at, write_bits};
 
 use crate::fault::TargetFault;
 use crate::index::Index;

@@ -1,7 +1,6 @@
 // The queue of writes and reads up to the next iApply.
-ghost use Rattle.std.specs.Prelude.{◌≡◌, ◌<◌, ◌≤◌, ◌+◌, ◌^◌, [], ◌∷◌, length, map, position, All};
+ghost use Rattle.std.specs.Prelude.{◌≡◌, ◌<◌, ◌≤◌, ◌+◌, ◌^◌, [], ◌∷◌, length, map, All};
 ghost use Rattle.net_graph.specs.Named.{IsBitOf};
-ghost use Rattle.net_graph.specs.Path.{same_place};
 ghost use Rattle.pdl_targets.specs.Marked.{AreNumbered, bits_compared, bits_written, first_bits};
 ghost use Rattle.pdl_targets.specs.Rounds.{is_in, mention, put_read, put_reads, put_write, put_writes};
 

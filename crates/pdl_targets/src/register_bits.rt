@@ -1,5 +1,5 @@
 // The register bits that the bits of a target stand for.
-ghost use Rattle.std.specs.Prelude.{◌≡◌, ◌<◌, ◌≤◌, ◌+◌, ◌^◌, [], ◌∷◌, ◌++◌, length, drop, Some};
+ghost use Rattle.std.specs.Prelude.{◌≡◌, ◌<◌, ◌^◌, length, Some};
 ghost use Rattle.ij_text.specs.Numbers.{tern_bits};
 ghost use Rattle.pdl_targets.specs.Captors.{AreCaptors};
 ghost use Rattle.pdl_targets.specs.Marked.{AreSelects};

@@ -1,14 +1,14 @@
 // What a target names.
-ghost use Rattle.std.specs.Prelude.{◌≡◌, ◌==◌, ◌&&◌, ◌<◌, ◌≤◌, ◌+◌, ◌-◌, ◌^◌, ◌++◌, [], length, map, IfOk};
-ghost use Rattle.std.specs.Option.{option_map, IfSome};
+ghost use Rattle.std.specs.Prelude.{◌≡◌, ◌==◌, ◌&&◌, ◌<◌, ◌≤◌, ◌+◌, ◌-◌, ◌++◌, [], length, map, IfOk};
+ghost use Rattle.std.specs.Option.{option_map};
 ghost use Rattle.std.specs.Str.{bytes_eq};
-ghost use Rattle.net_graph.specs.Nets.{IsNet, IsThing};
+ghost use Rattle.net_graph.specs.Nets.{IsNet};
 ghost use Rattle.pdl_parser.specs.Views.{bytes_of};
-ghost use Rattle.pdl_expand.specs.Expansion.{dotted, but_last, last, cell, cell_at};
+ghost use Rattle.pdl_expand.specs.Expansion.{but_last, last, cell, cell_at};
 ghost use Rattle.pdl_expand.specs.Values.{cells_of};
 ghost use Rattle.pdl_targets.specs.Index.{IsIndex};
 ghost use Rattle.pdl_targets.specs.Seen.{Finds};
-ghost use Rattle.pdl_targets.specs.Targets.{has_index, position_of, slice_of, spots_of, thing_at, thing_in, thing_of};
+ghost use Rattle.pdl_targets.specs.Targets.{has_index, position_of, slice_of, spots_of, thing_at, thing_in};
 
 use crate::fault::TargetFault;
 use crate::index::{Index, put_names, thing_key};

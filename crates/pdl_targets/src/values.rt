@@ -1,5 +1,5 @@
 // The bits of a value.
-ghost use Rattle.std.specs.Prelude.{◌≡◌, ◌<◌, ◌^◌, length, get_or, Some, false, IfOk};
+ghost use Rattle.std.specs.Prelude.{◌≡◌, ◌<◌, length, get_or, Some, false, IfOk};
 ghost use Rattle.std.specs.Option.{option_map};
 ghost use Rattle.ij_text.specs.Numbers.{InBits, seen, tern_bits};
 ghost use Rattle.pdl_parser.specs.Views.{seen_value};

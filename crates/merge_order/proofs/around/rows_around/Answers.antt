@@ -1,6 +1,5 @@
 use Rattle.std.proofs.Common.{ap, List}
 use Rattle.std.specs.Prelude.{flat_map}
-use Rattle.net_graph.specs.declared.branch.Branch.{Branch}
 use Rattle.net_graph.specs.declared.step.ReadBit.{ReadBit}
 use Rattle.net_graph.specs.declared.step.WriteBit.{WriteBit}
 use Rattle.net_graph.specs.SeenSteps.{seen_group}

@@ -27,5 +27,5 @@ pub returns-in-None-clause-numbered : goal.returns-in-None-clause-numbered
 returns-in-None-clause-numbered c =
     let P : List BitId → Type 0 = AreNumbered c.args.net.now c.mark_next.new.marks in
     subst P (sym (ap bits_compared c.push_reserved.ensures.items ∙ bits_more (λ r. r.bit) c.args.reads.now.items c.args.read))
-    (c.mark_next.ensures (bits_compared c.args.reads.now.items) c.requires.numbered (length-map c.args.reads.now.items (λ r. r.bit) ∙ sym c.len.ensures)
+    (c.mark_next.ensures.numbered (bits_compared c.args.reads.now.items) c.requires.numbered (length-map c.args.reads.now.items (λ r. r.bit) ∙ sym c.len.ensures)
     (others_differ (λ r. r.bit) c.args.reads.now.items c.args.read (c.in-None.ensures ∙ ap (position (λ v. same_place v.bit c.args.read.bit)) c.as_slice.ensures)))

@@ -27,5 +27,5 @@ pub returns-in-None-clause-numbered : goal.returns-in-None-clause-numbered
 returns-in-None-clause-numbered c =
     let P : List BitId → Type 0 = AreNumbered c.args.net.now c.mark_next.new.marks in
     subst P (sym (ap bits_written c.push_reserved.ensures.items ∙ bits_more (λ w. w.bit) c.args.writes.now.items c.args.write))
-    (c.mark_next.ensures (bits_written c.args.writes.now.items) c.requires.numbered (length-map c.args.writes.now.items (λ w. w.bit) ∙ sym c.len.ensures)
+    (c.mark_next.ensures.numbered (bits_written c.args.writes.now.items) c.requires.numbered (length-map c.args.writes.now.items (λ w. w.bit) ∙ sym c.len.ensures)
     (others_differ (λ w. w.bit) c.args.writes.now.items c.args.write (c.in-None.ensures ∙ ap (position (λ v. same_place v.bit c.args.write.bit)) c.as_slice.ensures)))

@@ -1,4 +1,4 @@
-use Rattle.std.proofs.Common.{◌≡◌, ◌++◌, ◌∙◌, ap}
+use Rattle.std.proofs.Common.{◌++◌, ◌∙◌, ap}
 use Rattle.std.specs.Prelude.{List}
 use Rattle.net_graph.specs.declared.branch.Branch.{Branch}
 use Rattle.pdl_targets.specs.SeenPlaces.{places_in}

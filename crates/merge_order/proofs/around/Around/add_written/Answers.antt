@@ -1,4 +1,3 @@
-use Rattle.std.proofs.Common.{◌+◌}
 use Rattle.std.specs.List.{list_any}
 use Rattle.pdl_targets.specs.SeenPlaces.{places_in}
 use Rattle.merge_order.proofs.Arounds.{around_step}

@@ -1,9 +1,0 @@
-use Rattle.std.proofs.Common.{◌≡◌, ◌-◌, ℕ, vec_len}
-use Rattle.merge_order.specs.Tables.{marks_of}
-use Rattle.merge_order.proofs.bit_table.grow_regs.Given as goal
-
-abbrev pub invariant-loop-alloc : goal.invariant-loop-alloc
-invariant-loop-alloc l = (reg : ℕ) → marks_of l.regs.items reg ≡ marks_of l.fn.regs.items reg
-
-abbrev pub decreases-loop-alloc : goal.decreases-loop-alloc
-decreases-loop-alloc l = l.len - vec_len l.regs
