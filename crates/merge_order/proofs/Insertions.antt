@@ -184,6 +184,7 @@ open_there places h joins p within at =
   where
     below : p ≢ length joins → p < length joins
     below away = omega arith
+
     taken : (closed can : Bool) → (not closed && can) ≡ true → closed ≡ false
     taken true can e = absurd cc
     taken false can e = refl

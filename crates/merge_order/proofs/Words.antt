@@ -12,5 +12,6 @@ before_or_in f from n k before within below =
   where
     there : from ≤ k → k ≡ from + (k - from)
     there high = omega arith
+
     short : from ≤ k → k - from < n
     short high = omega (arith, below)

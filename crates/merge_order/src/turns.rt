@@ -50,10 +50,7 @@ fn longest_run(heads: &[&BitStep]) -> u32
 }
 
 /// Puts joins behind bit steps, each as one iApply.
-fn with_joins(
-    joins: Vec<Vec<Group>>,
-    steps: List<BitStep>,
-) -> Result<List<BitStep>, OutOfMemory>
+fn with_joins(joins: Vec<Vec<Group>>, steps: List<BitStep>) -> Result<List<BitStep>, OutOfMemory>
     ensures { IfOk result (λ l. seen_steps l.items ≡ seen_steps steps.items ++ map Apply (seen_joins joins.items)) }
 {
     let mut steps = steps;
