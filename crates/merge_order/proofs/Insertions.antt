@@ -15,7 +15,7 @@ use Rattle.merge_order.proofs.Turning.{behind_few}
 
 module _ (places : Places) where
   -- a join of one round takes all that can join it
-  pub put_joined : (g : SeenGroup) (joins applies : List (List SeenGroup))
+  put_joined : (g : SeenGroup) (joins applies : List (List SeenGroup))
       → put_all places ((g ∷ []) ∷ joins) applies ≡ (joined places g applies ∷ []) ∷ put_all places joins (unjoined places g applies)
   put_joined g joins [] = refl
   put_joined g joins ([] ∷ applies) = put_joined g (joins ++ [] ∷ []) applies
@@ -83,14 +83,14 @@ module _ (places : Places) where
 -- ---- joins by number
 
 -- the join that a round goes into
-pub put_same : (h : SeenGroup) (joins : List (List SeenGroup)) (p : ℕ) → p ≤ length joins → join_at (put_at p h joins) p ≡ with_round (join_at joins p) h
+put_same : (h : SeenGroup) (joins : List (List SeenGroup)) (p : ℕ) → p ≤ length joins → join_at (put_at p h joins) p ≡ with_round (join_at joins p) h
 put_same h [] zero within = refl
 put_same h [] (suc p) within = absurd (omega (arith, within))
 put_same h (join ∷ joins) zero within = refl
 put_same h (join ∷ joins) (suc p) within = put_same h joins p (omega (arith, within))
 
 -- the others stay
-pub put_other : (h : SeenGroup) (joins : List (List SeenGroup)) (p k : ℕ) → p ≤ length joins → k ≢ p → join_at (put_at p h joins) k ≡ join_at joins k
+put_other : (h : SeenGroup) (joins : List (List SeenGroup)) (p k : ℕ) → p ≤ length joins → k ≢ p → join_at (put_at p h joins) k ≡ join_at joins k
 put_other h [] zero zero within away = absurd (away refl)
 put_other h [] zero (suc k) within away = refl
 put_other h [] (suc p) k within away = absurd (omega (arith, within))
@@ -190,13 +190,13 @@ open_there places h joins p within at =
     taken false can e = refl
 
 -- a round goes into a join that is there
-pub put_set : (h : SeenGroup) (joins : List (List SeenGroup)) (p : ℕ) → p < length joins → put_at p h joins ≡ set joins p (with_round (join_at joins p) h)
+put_set : (h : SeenGroup) (joins : List (List SeenGroup)) (p : ℕ) → p < length joins → put_at p h joins ≡ set joins p (with_round (join_at joins p) h)
 put_set h [] p within = absurd (omega (arith, within))
 put_set h (join ∷ joins) zero within = refl
 put_set h (join ∷ joins) (suc p) within = ap (λ js. join ∷ js) (put_set h joins p (omega (arith, within)))
 
 -- or is one behind
-pub put_behind : (h : SeenGroup) (joins : List (List SeenGroup)) (p : ℕ) → length joins ≤ p → put_at p h joins ≡ joins ++ (h ∷ []) ∷ []
+put_behind : (h : SeenGroup) (joins : List (List SeenGroup)) (p : ℕ) → length joins ≤ p → put_at p h joins ≡ joins ++ (h ∷ []) ∷ []
 put_behind h [] p past = refl
 put_behind h (join ∷ joins) zero past = absurd (omega (arith, past))
 put_behind h (join ∷ joins) (suc p) past = ap (λ js. join ∷ js) (put_behind h joins p (omega (arith, past)))
