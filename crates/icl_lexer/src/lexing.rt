@@ -46,12 +46,13 @@ fn put(
     Ok(())
 }
 
-/// The tokens of a text, or its first fault.
+/// The tokens of a text, or its first fault. A text has mostly more than four bytes for each token, so the list seldom grows.
 fn cut(alloc: Global, src: &[u8]) -> Result<List<Token>, LexFault>
     requires { length src.now ≤ 134217728 }
     ensures { Gives src.now result }
 {
     let mut tokens = List::new(alloc);
+    tokens.reserve(src.len() / 4)?;
     let mut start = 0;
     let mut at = Place { line: 1, col: 1 };
     while start < src.len() {
