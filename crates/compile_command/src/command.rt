@@ -16,7 +16,9 @@ ghost use Rattle.ijtag_work.specs.Stops.{IsEarly};
 use crate::svf::write_svf;
 use icl_syntax::Design;
 use ij_io::{Shelf, Sink, StoreFault};
-use ijtag_stages::{Network, StageFault, check_procedure, read_device, read_icl, read_network, read_pdl};
+use ijtag_stages::{
+    Network, StageFault, check_procedure, read_device, read_icl, read_network, read_pdl,
+};
 use ijtag_work::{Compilable, CompileWords, Stop, Verdict, load_all};
 use net_graph::Device;
 use pdl_parser::Procs;

@@ -27,7 +27,10 @@ use direct_report::put_direct;
 use icl_syntax::Design;
 use ij_bits::List;
 use ij_io::{Shelf, Sink, StoreFault};
-use ijtag_stages::{Network, StageFault, check_procedure, fit_tables, read_device, read_icl, read_network, read_pdl, read_tables};
+use ijtag_stages::{
+    Network, StageFault, check_procedure, fit_tables, read_device, read_icl, read_network,
+    read_pdl, read_tables,
+};
 use ijtag_work::{DirectWords, Instrumented, Runnable, Stop, Verdict, load_all, steps_again};
 use net_graph::Device;
 use pdl_parser::Procs;

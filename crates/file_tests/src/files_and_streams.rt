@@ -2,7 +2,10 @@
 // written and read whole. Expected bytes are written out by hand.
 
 use crate::calls::{append, begin, flush, load, write};
-use ij_io::{HostSink, LoadFault, MemShelf, MemSink, Shelf, ShelfFile, StoreFault, SureShelf, SureSink, Word, put_words, read_up_to};
+use ij_io::{
+    HostSink, LoadFault, MemShelf, MemSink, Shelf, ShelfFile, StoreFault, SureShelf, SureSink,
+    Word, put_words, read_up_to,
+};
 use std::alloc::Global;
 use std::io;
 use std::io::{BufWriter, ErrorKind, Read, Write};

@@ -8,7 +8,9 @@ ghost use Rattle.icl_expressions.specs.Reading.{read_put, read_operand, read_fac
 
 use crate::leaves::read_leaf;
 use crate::lexeme::{Lexeme, Read, begins_mark, read_mark};
-use crate::signs::{SignAt, begins_product_sign, begins_sum_sign, read_product_sign, read_sum_sign};
+use crate::signs::{
+    SignAt, begins_product_sign, begins_sum_sign, read_product_sign, read_sum_sign,
+};
 use crate::stop::Stop;
 use icl_syntax::{Expr, Limit};
 use std::alloc::Global;

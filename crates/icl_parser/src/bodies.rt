@@ -9,7 +9,10 @@ ghost use Rattle.icl_expressions.specs.Reading.{read_put};
 ghost use Rattle.icl_parser.specs.Reading.{read_free_prop, read_attribute_said, read_one_sig, read_sources, read_prop_behind, read_property, read_properties, read_body_end, read_braced_body, read_body};
 
 use crate::words::prop_word;
-use icl_expressions::{Lexeme, Read, Stop, before_close, begins_mark, maybe_expr_behind, pushed, read_decimal, read_mark, read_name, read_sig, read_sigs, read_value};
+use icl_expressions::{
+    Lexeme, Read, Stop, before_close, begins_mark, maybe_expr_behind, pushed, read_decimal,
+    read_mark, read_name, read_sig, read_sigs, read_value,
+};
 use icl_syntax::{Expr, Owner, Prop, PropWord, Sig};
 use ij_bits::{List, OutOfMemory};
 use ij_text::Name;

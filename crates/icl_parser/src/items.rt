@@ -11,7 +11,10 @@ ghost use Rattle.icl_parser.specs.Reading.{read_port_range, read_port, read_regi
 
 use crate::bodies::{read_attribute_said, read_body};
 use crate::words::bind_word;
-use icl_expressions::{Lexeme, Read, Stop, before_close, begins_mark, maybe_expr_behind, maybe_range, pushed, read_expr_behind, read_mark, read_name, read_sig, read_sigs, read_value, read_word};
+use icl_expressions::{
+    Lexeme, Read, Stop, before_close, begins_mark, maybe_expr_behind, maybe_range, pushed,
+    read_expr_behind, read_mark, read_name, read_sig, read_sigs, read_value, read_word,
+};
 use icl_syntax::{Bind, BindWord, Expr, MuxRow, Owner, PortKind, Range, What};
 use ij_bits::List;
 use ij_text::Place;

@@ -11,7 +11,9 @@ ghost use Rattle.icl_parser.specs.Reading.{read_enum_word, read_many_words, read
 
 use crate::bodies::read_attribute_said;
 use crate::words::{link_kind, member_word};
-use icl_expressions::{Lexeme, Read, Stop, before_close, pushed, read_mark, read_name, read_value, read_word};
+use icl_expressions::{
+    Lexeme, Read, Stop, before_close, pushed, read_mark, read_name, read_value, read_word,
+};
 use icl_syntax::{EnumWord, LinkInstr, LinkKind, MemberWord, What};
 use ij_bits::{List, OutOfMemory};
 use ij_text::Name;

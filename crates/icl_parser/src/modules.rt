@@ -7,7 +7,9 @@ ghost use Rattle.icl_parser.specs.SeenParts.{seen_item_begin};
 ghost use Rattle.icl_expressions.specs.Reading.{read_put};
 ghost use Rattle.icl_parser.specs.Reading.{read_item_begin, read_meaning_behind, read_item, read_items, read_module, whole_design};
 
-use crate::items::{read_alias, read_attribute, read_child, read_mux, read_parameter, read_port, read_register};
+use crate::items::{
+    read_alias, read_attribute, read_child, read_mux, read_parameter, read_port, read_register,
+};
 use crate::links::{read_interface, read_link, read_words};
 use crate::words::item_word;
 use icl_expressions::{Lexeme, Read, Stop, before_close, pushed, read_mark, read_name, read_word};

@@ -10,7 +10,9 @@ ghost use Rattle.icl_parts.specs.SeenParts.{alias_answer, seen_resolved};
 ghost use Rattle.icl_references.specs.Tables.{IsHere, frames_of, here_in, seen_member};
 
 use crate::words::words_named;
-use icl_references::{Body, Member, Ref, Tables, alias_signals, control_signals, data_signals, scan_signal, width_of};
+use icl_references::{
+    Body, Member, Ref, Tables, alias_signals, control_signals, data_signals, scan_signal, width_of,
+};
 use icl_syntax::{PortKind, Prop, Sig};
 use icl_values::ElabFault;
 use ij_bits::{List, Tern};

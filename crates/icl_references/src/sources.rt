@@ -4,7 +4,9 @@ ghost use Rattle.icl_syntax.specs.Views.{bytes_of, seen_what};
 ghost use Rattle.icl_declarations.specs.Parts.{is_data_in, is_data_out, is_data_port, is_register, is_scan_in, is_scan_out, port_that};
 ghost use Rattle.icl_references.specs.Signals.{is_data_source, is_of_child, is_own, is_scan_source};
 
-use icl_frames::{is_data_in, is_data_out, is_data_port, is_mux, is_register, is_scan_in, is_scan_out};
+use icl_frames::{
+    is_data_in, is_data_out, is_data_port, is_mux, is_register, is_scan_in, is_scan_out,
+};
 use icl_syntax::What;
 use ij_text::Name;
 

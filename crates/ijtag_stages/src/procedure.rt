@@ -19,7 +19,9 @@ ghost use Rattle.ijtag_stages.specs.Seen.{seen_network};
 use crate::elab::which_name;
 use crate::net_names::bit_arg;
 use crate::network::Network;
-use crate::refusal::{Arg, Stage, StageFault, refused_at, refused_three, refused_two, refused_word};
+use crate::refusal::{
+    Arg, Stage, StageFault, refused_at, refused_three, refused_two, refused_word,
+};
 use bit_steps::{StepFault, check};
 use ij_text::{Place, Which, name_of};
 use merge_order::FeedFault;

@@ -1,5 +1,7 @@
 // Calls of files that fail.
-use crate::commands::{COMMANDS, COMPILE, COUNTER_FILES, Command, Ended, Failing, PLAY, SVF, run, words};
+use crate::commands::{
+    COMMANDS, COMPILE, COUNTER_FILES, Command, Ended, Failing, PLAY, SVF, run, words,
+};
 use ij_io::{SureShelf, SureSink};
 use ijtag_core::{Status, ijtag_in_memory};
 use std::alloc::Global;

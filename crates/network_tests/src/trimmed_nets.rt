@@ -1,7 +1,9 @@
 // Copies of networks and devices that have no room to spare.
 use ij_bits::{Bits, List, OutOfMemory, Tern};
 use ij_text::name_of;
-use net_graph::{BitId, Device, Inst, Mux, Net, Node, Point, PortIn, PortOut, Reg, Row, Sig, Spot, Thing};
+use net_graph::{
+    BitId, Device, Inst, Mux, Net, Node, Point, PortIn, PortOut, Reg, Row, Sig, Spot, Thing,
+};
 use std::alloc::Global;
 use std::test::Fail;
 use trimmed_net::{trim, trim_device};

@@ -21,7 +21,9 @@ use bench_report::put_play;
 use icl_syntax::Design;
 use ij_bits::List;
 use ij_io::{Shelf, Sink, StoreFault};
-use ijtag_stages::{StageFault, fit_tables, read_device, read_icl, read_network, read_svf, read_tables};
+use ijtag_stages::{
+    StageFault, fit_tables, read_device, read_icl, read_network, read_svf, read_tables,
+};
 use ijtag_work::{PlayWords, Playable, PlayedFiles, Stop, Verdict, load_all};
 use net_graph::{Device, Net};
 use std::alloc::Global;
