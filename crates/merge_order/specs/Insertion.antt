@@ -24,7 +24,7 @@ open_round (g ∷ h ∷ more) = no_group
 abbrev pub takes : Places → List SeenGroup → SeenGroup → Bool
 takes places join h = not (is_closed join) && can_join places (open_round join) h
 
--- a join with one round more
+-- an open join whose round does this one too; of a closed one its rounds would be lost
 abbrev pub with_round : List SeenGroup → SeenGroup → List SeenGroup
 with_round join h = both (open_round join) h ∷ []
 

@@ -1,4 +1,4 @@
--- What the joins of a turn name, in tables that grow as they are asked. A set counts where its stamp is that of the table, so that
+-- What the joins of a turn name, in tables that grow as joins are put in. A set counts where its stamp is that of the table, so that
 -- a new stamp empties the table.
 use Rattle.std.specs.Prelude.{◌≡◌, ◌≤◌, ℕ, Bool, ◌||◌, List, [], ◌++◌, flat_map, slice_index_or}
 use Rattle.std.specs.List.{list_any}
@@ -40,7 +40,7 @@ names_one t g k = list_any (λ w. has_bit t w.bit k) g.writes || list_any (λ r.
 abbrev pub is_shut : StampedBits → ℕ → Bool
 is_shut t k = has_round t.stamp t.closed k
 
--- no stamp is above that of the table
+-- the stamp of the table is 1 or more, and no other is above it
 pub record AreBitsStamped (stamp : ℕ) (closed : StampedSet) (regs : List (List StampedSet)) : Type 0 where
   pub some : 1 ≤ stamp
   pub of_closed : closed.stamp ≤ stamp
@@ -52,6 +52,6 @@ pub record AreBitsStamped (stamp : ℕ) (closed : StampedSet) (regs : List (List
 abbrev pub rows_around : Places → SeenGroup → List Branch
 rows_around places g = flat_map (λ w. places w.bit.reg) g.writes ++ flat_map (λ r. places r.bit.reg) g.reads
 
--- the same rows, as often as they may be
+-- the same rows, however often each is there
 abbrev pub SameRows : List Branch → List Branch → Type 0
 SameRows xs ys = (test : Branch → Bool) → list_any test xs ≡ list_any test ys

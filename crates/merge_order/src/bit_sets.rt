@@ -155,7 +155,7 @@ impl BitSets {
         }
     }
 
-    /// Nothing joins a join.
+    /// Closes a join: nothing joins it.
     pub fn close(&mut self, join: u32) -> Result<(), OutOfMemory>
         ensures bits { OnOk result ((b : ABit) (k : ℕ) → has_bit self.new b k ≡ has_bit self.old b k) }
         ensures closed { OnOk result ((k : ℕ) → is_shut self.new k ≡ (k == join || is_shut self.old k)) }

@@ -12,7 +12,8 @@ ghost use Rattle.merge_order.specs.SeenFeeder.{Feeds, HasItsTree, behind, seen_b
 ghost use Rattle.merge_order.specs.SeenTurns.{seen_steps};
 
 use crate::fault::FeedFault;
-use crate::turns::merged;
+use crate::named::Named;
+use crate::turns::merged_by;
 use ij_bits::{List, OutOfMemory};
 use ij_text::Place;
 use net_graph::{BitStep, Net};
@@ -97,6 +98,8 @@ pub(crate) struct Feed<'a> {
     pub binder: Binder<'a>,
     /// The merge that is begun, if one is.
     pub merging: Option<Begun>,
+    /// The tables by which the iApplys of a turn are joined. They are kept from one merge to the next, so that a merge costs what it names.
+    pub named: Named,
     /// The bit steps that are ready, in order.
     pub ready: VecDeque<BitStep>,
 }
@@ -113,6 +116,7 @@ impl<'a> Feed<'a> {
             tree,
             binder: Binder::new(alloc, net, tree),
             merging: None,
+            named: Named::new(alloc),
             ready: VecDeque::new(alloc),
         }
     }
@@ -165,7 +169,12 @@ impl<'a> Feed<'a> {
         ensures tree { HasItsTree self.new }
     {
         if let Some(begun) = &self.merging {
-            let steps = merged(self.alloc, self.tree, begun.branches.as_slice())?;
+            let steps = merged_by(
+                self.alloc,
+                self.tree,
+                &mut self.named,
+                begun.branches.as_slice(),
+            )?;
             let mut steps = VecDeque::from(steps.into_vec());
             self.ready.append(&mut steps)?;
             self.merging = None;

@@ -15,7 +15,7 @@ use net_graph::Group;
 use net_tree::Tree;
 use std::alloc::Global;
 
-/// How many joins there are. More than a number of 32 bits counts find no memory.
+/// How many joins there are. 2^32 of them count as want of memory.
 fn count_of(joins: &[Vec<Group>]) -> Result<u32, OutOfMemory>
     ensures { IfOk result (λ n. n ≡ length joins.now) }
 {

@@ -50,7 +50,7 @@ impl Named {
         self.rows.clear();
     }
 
-    /// What a join names, and what a round names that goes into it.
+    /// A round goes into a join, or is a join behind the others. After want of memory the tables want to be cleared.
     pub fn add(&mut self, group: &Group, around: &[Branch], join: u32) -> Result<(), OutOfMemory>
         ensures { (places : Places) (joins : List (List SeenGroup)) → SameRows around.now (rows_around places (seen_group group.now)) → Tells places self.old joins → join ≤ length joins → is_closed (join_at joins join) ≡ false → OnOk result (Tells places self.new (put_at join (seen_group group.now) joins)) }
     {

@@ -137,6 +137,25 @@ fn branch_references<'a>(
     Ok(all)
 }
 
+/// The bit steps of a merge of these branches. The tables may be those of an earlier merge.
+pub(crate) fn merged_by(
+    alloc: Global,
+    tree: &Tree,
+    named: &mut Named,
+    branches: &[List<BitStep>],
+) -> Result<List<BitStep>, OutOfMemory>
+    ensures { IfOk result (λ l. seen_steps l.items ≡ merge.merged (places_in tree.now) (seen_lists branches.now)) }
+{
+    let mut steps = List::new(alloc);
+    let mut left = branch_references(alloc, branches)?;
+    while !left.is_empty() {
+        let turn = next_turn(alloc, &left)?;
+        steps = with_turn(alloc, tree, named, &turn.heads, steps)?;
+        left = turn.left;
+    }
+    Ok(steps)
+}
+
 /// The bit steps of a merge of these branches.
 pub fn merged(
     alloc: Global,
@@ -145,13 +164,6 @@ pub fn merged(
 ) -> Result<List<BitStep>, OutOfMemory>
     ensures { IfOk result (λ l. seen_steps l.items ≡ merge.merged (places_in tree.now) (seen_lists branches.now)) }
 {
-    let mut steps = List::new(alloc);
     let mut named = Named::new(alloc);
-    let mut left = branch_references(alloc, branches)?;
-    while !left.is_empty() {
-        let turn = next_turn(alloc, &left)?;
-        steps = with_turn(alloc, tree, &mut named, &turn.heads, steps)?;
-        left = turn.left;
-    }
-    Ok(steps)
+    merged_by(alloc, tree, &mut named, branches)
 }

@@ -83,7 +83,7 @@ fn first_of(first: Option<Place>, at: Place) -> Option<Place>
     }
 }
 
-/// Makes room for so many more, of fewer than 2^32 in all.
+/// Makes room for so many more; fewer than 2^32 are there then.
 fn room_for<T: Drop>(list: &mut List<T>, more: usize) -> Result<(), OutOfMemory>
     ensures items { list.new.items ≡ list.old.items }
     ensures room { OnOk result (more ≤ list.new.spare) }

@@ -90,7 +90,7 @@ fn is_at(round: &[u32], place: usize, register: u32) -> bool
     place < round.len() && round[place] == register
 }
 
-/// The first of some rounds that a register is in.
+/// The first of some rounds that a register is in. It is asked where a hint is wrong.
 fn round_among(rounds: &[List<u32>], register: u32) -> Option<usize>
     ensures { IsRoundOf (seen_rounds rounds.now) register result }
 {

@@ -43,6 +43,7 @@ mux_at muxes mux = slice_index_or muxes mux no_mux
 abbrev pub excluded_at : StampedRows → Branch → ℕ → Bool
 excluded_at t b k = has_other t.stamp (mux_at t.muxes b.mux) b.row k
 
+-- the stamp of the table is 1 or more, and its muxes are as they must be
 pub record AreRowsStamped (stamp : ℕ) (muxes : List MuxSets) : Type 0 where
   pub some : 1 ≤ stamp
   pub each : (mux : ℕ) → AreMuxSets stamp (mux_at muxes mux)

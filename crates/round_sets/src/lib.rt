@@ -1,5 +1,5 @@
 //! Sets of rounds, 64 to a word, and in which rounds rows of muxes are: whether a round has another row of a mux is found for 64
-//! rounds at once.
+//! rounds at once. A round is one of an iApply, or what iApplys of a merge are joined to.
 #![tactic(auto)]
 
 mod mux_rounds;
@@ -9,4 +9,4 @@ mod words;
 
 pub use rows::RowSets;
 pub use sets::RoundSet;
-pub use words::{either, first_open, without};
+pub use words::{either, first_open};

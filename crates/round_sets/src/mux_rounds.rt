@@ -80,7 +80,7 @@ impl MuxRounds {
         }
     }
 
-    /// 64 rounds of a row.
+    /// Which of the 64 rounds from `64 * w` on a row has.
     fn row_word(&self, stamp: u32, row: u32, w: usize) -> u64
         ensures { result ≡ word_of stamp (row_at self.now.rows row) w }
     {
@@ -100,7 +100,7 @@ impl MuxRounds {
         at < self.rows.len() && self.rows[at].has(stamp, round)
     }
 
-    /// Which of 64 rounds have another row. Takes no memory.
+    /// Which of the 64 rounds from `64 * w` on have another row. Takes no memory.
     pub fn other_word(&self, stamp: u32, row: u32, w: usize) -> u64
         ensures { (j : ℕ) → j < 64 → (bit_at result j == 1) ≡ has_other stamp self.now row (64 * w + j) }
     {

@@ -87,13 +87,13 @@ impl RowSets {
     }
 
     /// Puts a row into a round.
-    pub fn add(&mut self, branch: Branch, round: u32) -> Result<(), OutOfMemory>
+    fn add(&mut self, branch: Branch, round: u32) -> Result<(), OutOfMemory>
         ensures { OnOk result ((b : ABranch) (k : ℕ) → excluded_at self.new b k ≡ ((k == round && exclude branch b) || excluded_at self.old b k)) }
     {
         put(self.alloc, &mut self.muxes, self.stamp, branch, round)
     }
 
-    /// Puts rows into a round.
+    /// Puts rows into a round. After want of memory some may be in, and the table wants to be cleared.
     pub fn add_all(&mut self, branches: &[Branch], round: u32) -> Result<(), OutOfMemory>
         ensures { OnOk result ((b : ABranch) (k : ℕ) → excluded_at self.new b k ≡ ((k == round && list_any (λ a. exclude a b) branches.now) || excluded_at self.old b k)) }
     {
@@ -103,7 +103,7 @@ impl RowSets {
         Ok(())
     }
 
-    /// Which of 64 rounds have a row that a row excludes.
+    /// Which of the 64 rounds from `64 * w` on have a row that a row excludes.
     fn other_word(&self, branch: Branch, w: usize) -> u64
         ensures { (j : ℕ) → j < 64 → (bit_at result j == 1) ≡ excluded_at self.now branch (64 * w + j) }
     {

@@ -66,7 +66,7 @@ impl RoundSet {
     }
 
     /// Whether a round is in. Takes no memory.
-    pub fn has(&self, stamp: u32, round: u32) -> bool
+    pub(crate) fn has(&self, stamp: u32, round: u32) -> bool
         ensures { result ≡ has_round stamp self.now round }
     {
         let word = self.word(stamp, (round / 64) as usize);

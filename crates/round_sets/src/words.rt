@@ -23,7 +23,7 @@ pub fn either(word: u64, other: u64) -> u64
 }
 
 /// The bits of a word without those of another one.
-pub fn without(word: u64, other: u64) -> u64
+pub(crate) fn without(word: u64, other: u64) -> u64
     ensures { (j : ℕ) → j < 64 → (bit_at result j == 1) ≡ (bit_at word j == 1 && not (bit_at other j == 1)) }
 {
     word & !other

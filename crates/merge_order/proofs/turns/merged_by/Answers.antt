@@ -4,7 +4,7 @@ use Rattle.pdl_targets.specs.SeenPlaces.{places_in}
 use Rattle.merge_order.specs.Merge as merge
 use Rattle.merge_order.specs.SeenTurns.{seen_heads, seen_lists, seen_slices, seen_steps}
 use Rattle.merge_order.proofs.Turning.{fewer_branches, one_turn_more}
-use Rattle.merge_order.proofs.turns.merged.Goals as goal
+use Rattle.merge_order.proofs.turns.merged_by.Goals as goal
 
 pub loop-alloc-smaller : goal.loop-alloc-smaller
 loop-alloc-smaller c =
