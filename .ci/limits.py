@@ -76,6 +76,24 @@ with tempfile.TemporaryDirectory() as folder:
         check(f'{branches} branches', run(words), wanted)
     check('their scans', (folder / 'merge.svf').read_bytes().count(b'SDR'), GROUP_LIMIT)
 
+    # so many registers, each in a row of its own of one multiplexer, written by one iApply: a round each, in the order of their mention,
+    # and before each but the first a scan that opens its row, since row 0 is selected at power-up
+    rows, order = 200, [(7 * i) % 200 for i in range(200)]
+    icl.write_text('Module Rows {\n  ScanInPort SI; ScanOutPort SO { Source M; }\n  ScanInterface client { Port SI; Port SO; }\n'
+                   '  ScanRegister S[7:0] { ScanInSource SI; ResetValue 8\'d0; }\n'
+                   + ''.join(f'  ScanRegister R{i} {{ ScanInSource S[0]; }}\n' for i in range(rows))
+                   + '  ScanMux M SelectedBy S {\n' + ''.join(f'    8\'d{i} : R{i};\n' for i in range(rows)) + '  }\n}\n'
+                   'Module chip {\n  Instance net Of Rows;\n  AccessLink tap Of STD_1149_1_2001 {\n'
+                   '    BSDLEntity chip; IJTAG { ScanInterface { net.client; } }\n  }\n}\n')
+    pdl.write_text('iProcsForModule chip\niProc p {} {\n' + ''.join(f'  iWrite net.R{i} 1\n' for i in order) + '  iApply\n}\n')
+    words = ['compile', icl, pdl, FLAT / 'chip.dev', 'chip', 'p', folder / 'rounds.svf']
+    check(f'{rows} rounds of one iApply', run(words), (0, b'', b''))
+    scans = [line for line in (folder / 'rounds.svf').read_text().split('\n') if line.startswith('SDR')]
+    check('their scans', len(scans), 2 * rows - 1)
+    # position 0 is the register of the row, and the select bits follow
+    opened = [int(line.split('TDI (')[1].split(')')[0], 16) >> 1 for line in scans[1::2]]
+    check('the rows that they open', opened, order[1:])
+
     # a device that takes nothing, and one that was closed
     check('SVF on a full device', compile_to('/dev/full'), (5, b'', b'write fault /dev/full\n'))
     with open('/dev/full', 'wb') as full:
