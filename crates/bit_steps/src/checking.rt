@@ -14,6 +14,16 @@ use net_tree::Tree;
 use pdl_parser::Proc;
 use std::alloc::Global;
 
+/// Goes through the bit steps that are left and keeps none.
+#[tactic(auto, using(crate::proofs::Refusing::refused_ends))]
+fn pass(steps: &mut BitSteps) -> Result<(), StepFault>
+    ensures passes { IfOk result (λ u. steps.old.fault ≡ None) }
+    ensures refused { IfErr result (EndsIn steps.old.fault) }
+{
+    while let Some(_step) = steps.next()? {}
+    Ok(())
+}
+
 /// Goes through the bit steps of a procedure of the top module and keeps none. The conditions are those of
 /// [`BitSteps::new`].
 ///
@@ -35,6 +45,5 @@ pub fn check(
     ensures refused { IfErr result (EndsIn (bit_steps (map seen_proc procs.now) net.now tree.now name.now).fault) }
 {
     let mut steps = BitSteps::new(alloc, procs, net, tree, name)?;
-    while let Some(_step) = steps.next()? {}
-    Ok(())
+    pass(&mut steps)
 }
