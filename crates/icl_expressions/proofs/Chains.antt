@@ -1,7 +1,7 @@
 -- One round of the loops that read factors and products.
 use Rattle.std.proofs.Common.{◌≡◌, ℕ, Bool, true, false, List, Option, Ok, refl}
 use Rattle.grammar.specs.Reading.{read_repeat}
-use Rattle.icl_syntax.specs.Tokens.{SeenToken}
+use Rattle.icl_lexer.specs.Seen.{SeenToken}
 use Rattle.icl_syntax.specs.Grammar.{Counted, Signed, sum_sign, product_sign, factor, term, operand, with_operand}
 use Rattle.icl_expressions.specs.declared.stop.Stop.{Stop}
 use Rattle.icl_expressions.specs.Seen.{Fails}

@@ -1,7 +1,7 @@
 -- How a factor is read.
 use Rattle.std.proofs.Common.{◌≡◌, ℕ, zero, suc, ◌<◌, ◌-◌, Bool, true, false, List, [], ◌∷◌, refl, arith}
 use Rattle.grammar.specs.Reading.{read_barred}
-use Rattle.icl_syntax.specs.Tokens.{SeenToken, is_mark}
+use Rattle.icl_lexer.specs.Seen.{SeenToken, is_mark}
 use Rattle.icl_syntax.specs.Grammar.{too_deep}
 use Rattle.icl_expressions.specs.Reading.{begins, read_leaf, read_parentheses, read_sum, read_factor}
 

@@ -6,7 +6,7 @@ use Rattle.grammar.specs.Symbol.{give, ◌>>=◌, repeat}
 use Rattle.grammar.specs.Reading.{read_repeat, read_in_turn}
 use Rattle.grammar.proofs.Combinators.{Reads, turn_reads, wider_reads}
 use Rattle.grammar.proofs.Laws.{repeat_reads}
-use Rattle.icl_syntax.specs.Tokens.{SeenToken, is_mark}
+use Rattle.icl_lexer.specs.Seen.{SeenToken, is_mark}
 use Rattle.icl_syntax.specs.Grammar.{Of, mark, appended, parted, ended_by}
 use Rattle.icl_expressions.specs.declared.stop.Stop.{Stop}
 use Rattle.icl_expressions.specs.Seen.{Fails}

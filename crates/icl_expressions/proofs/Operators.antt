@@ -1,7 +1,7 @@
 -- The operator that a token is.
 use Rattle.std.proofs.Common.{◌≡◌, ℕ, zero, suc, ◌<◌, ◌≤◌, ◌-◌, Bool, true, false, List, Some, None, Ok, Err, refl, arith}
 use Rattle.icl_syntax.specs.declared.words.Limit.TheVariants.{OfExpression}
-use Rattle.icl_syntax.specs.Tokens.{SeenToken}
+use Rattle.icl_lexer.specs.Seen.{SeenToken}
 use Rattle.icl_syntax.specs.Grammar.{Signed}
 use Rattle.icl_expressions.specs.Reading.{operator_of}
 

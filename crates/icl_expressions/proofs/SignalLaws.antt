@@ -8,7 +8,7 @@ use Rattle.icl_lexer.specs.declared.token.TokenKind.{TokenKind}
 use Rattle.icl_lexer.specs.declared.token.TokenKind.TheVariants.{Word, Decimal, Sized, Quoted, Param, Mark}
 use Rattle.ij_text.specs.declared.Place.{Place}
 use Rattle.icl_syntax.specs.declared.words.Limit.{Limit}
-use Rattle.icl_syntax.specs.Tokens.{SeenToken, if_word, if_mark, is_mark, name_at}
+use Rattle.icl_lexer.specs.Seen.{SeenToken, if_word, if_mark, is_mark, name_at}
 use Rattle.icl_syntax.specs.Values.{APath}
 use Rattle.icl_syntax.specs.Grammar.{Of, mark, name, expr, value, maybe, expr_behind, range, number_of, number_located, number_at, Named, named_at, path_behind, named_sig, plain_sig, sig, sigs}
 use Rattle.icl_expressions.specs.Reading.{Reading, gives, any, is_name, no_close, read_name, read_maybe, read_value, read_expr_behind, read_range, read_number, read_path_behind, read_named_behind, read_named_sig, read_plain_sig, read_inverted, read_straight, read_sig, read_sigs}

@@ -4,7 +4,7 @@ use Rattle.grammar.specs.Reading.{Stop as Unfit, read_on, read_repeat}
 use Rattle.grammar.proofs.Combinators.{Reads, ok_is, err_is}
 use Rattle.grammar.proofs.Laws.{repeat_step, repeat_end}
 use Rattle.icl_syntax.specs.declared.words.Limit.{Limit}
-use Rattle.icl_syntax.specs.Tokens.{SeenToken}
+use Rattle.icl_lexer.specs.Seen.{SeenToken}
 use Rattle.icl_syntax.specs.Grammar.{Of}
 use Rattle.icl_expressions.specs.declared.stop.Stop.{Stop}
 use Rattle.icl_expressions.specs.declared.stop.Stop.TheVariants.{Memory, At}

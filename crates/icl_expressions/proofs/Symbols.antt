@@ -11,7 +11,7 @@ use Rattle.icl_lexer.specs.declared.token.TokenKind.TheVariants.{Word, Decimal, 
 use Rattle.ij_text.specs.declared.Place.{Place}
 use Rattle.icl_syntax.specs.declared.words.Limit.{Limit}
 use Rattle.icl_syntax.specs.declared.words.Limit.TheVariants.{OfExpression}
-use Rattle.icl_syntax.specs.Tokens.{SeenToken, if_mark, is_mark, mark_at}
+use Rattle.icl_lexer.specs.Seen.{SeenToken, if_mark, is_mark, mark_at}
 use Rattle.icl_syntax.specs.Grammar.{Of, mark, Counted, leaf_of, leaf_at, Signed, sum_sign, product_sign, too_many, operator, operand, with_operand, chain, in_parentheses, too_deep, factor, term, sum_of, expr}
 use Rattle.icl_expressions.specs.Reading.{Reading, gives, is_sign, no_close, read_mark, read_leaf, operator_of, read_operator, read_operand, read_chain, read_parentheses, read_factor, read_term, read_sum, read_expr}
 use Rattle.icl_expressions.proofs.Tokens.{nothing, no_mark, marks, some_cond, either_true, both_false, right_false, marks_apart, no_mark_is, no_mark_closes, mark_closes}

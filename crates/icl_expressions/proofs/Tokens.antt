@@ -4,7 +4,7 @@ use Rattle.std.proofs.lemmas.Bool.{eqb-true}
 use Rattle.std.specs.Prelude.{◌||◌}
 use Rattle.icl_lexer.specs.declared.token.TokenKind.{TokenKind}
 use Rattle.icl_lexer.specs.declared.token.TokenKind.TheVariants.{Word, Decimal, Sized, Quoted, Param, Mark}
-use Rattle.icl_syntax.specs.Tokens.{SeenToken, if_word, if_mark, is_byte, is_mark}
+use Rattle.icl_lexer.specs.Seen.{SeenToken, if_word, if_mark, is_byte, is_mark}
 use Rattle.icl_expressions.specs.Reading.{no_close}
 
 abbrev pub nothing : SeenToken → Bool

@@ -4,7 +4,7 @@ use Rattle.grammar.specs.Reading.{Stop as Unfit, Reader, read_barred, read_one, 
 use Rattle.ij_text.specs.declared.Place.{Place}
 use Rattle.icl_syntax.specs.declared.words.Limit.{Limit}
 use Rattle.icl_syntax.specs.declared.words.Limit.TheVariants.{OfExpression}
-use Rattle.icl_syntax.specs.Tokens.{SeenToken, if_word, is_mark, mark_at, word_at, name_at}
+use Rattle.icl_lexer.specs.Seen.{SeenToken, if_word, is_mark, mark_at, word_at, name_at}
 use Rattle.icl_syntax.specs.Values.{SeenExpr, SeenRange, APath, SeenSig}
 use Rattle.icl_syntax.specs.Grammar.{Counted, leaf_at, Signed, sum_sign, product_sign, Operand, with_operand, too_deep, appended, Located, number_at, Named, named_at, decimal_token}
 

@@ -2,7 +2,7 @@
 use Rattle.std.specs.Prelude.{◌≡◌, List, map, Result, Ok, Err}
 use Rattle.grammar.specs.Reading.{Stop as Unfit}
 use Rattle.icl_syntax.specs.declared.words.Limit.{Limit}
-use Rattle.icl_syntax.specs.Tokens.{SeenToken}
+use Rattle.icl_lexer.specs.Seen.{SeenToken}
 use Rattle.icl_syntax.specs.Grammar.{Counted, Signed}
 use Rattle.icl_syntax.specs.Views.{seen_expr}
 use Rattle.icl_expressions.specs.declared.stop.Stop.{Stop}

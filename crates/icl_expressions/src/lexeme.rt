@@ -1,7 +1,7 @@
 // Tokens with their texts, and reading one of them.
 ghost use Rattle.std.specs.Prelude.{◌≡◌, ◌<◌, false, length, IfOk, ◌++◌, ◌∷◌, []};
 ghost use Rattle.icl_lexer.specs.declared.token.TokenKind.{TokenKind};
-ghost use Rattle.icl_syntax.specs.Tokens.{is_mark, is_word, if_word};
+ghost use Rattle.icl_lexer.specs.Seen.{is_mark, is_word, if_word};
 ghost use Rattle.icl_syntax.specs.Views.{bytes_of};
 ghost use Rattle.icl_expressions.specs.Seen.{tok, toks, seen_read, same, Gives};
 ghost use Rattle.icl_expressions.specs.Reading.{begins, no_close, read_mark, read_word, read_name};

@@ -3,9 +3,9 @@
 use Rattle.std.specs.Prelude.{◌≡◌, ◌≤◌, ◌<◌, ◌^◌, ℕ, List, length, IfSome, IsTrue, Ok}
 use Rattle.std.specs.List.{AllByRecursion}
 use Rattle.ij_text.specs.Words.{is_name}
-use Rattle.icl_lexer.specs.declared.token.Token.{Token}
+use Rattle.icl_lexer.specs.Token.{Token}
 use Rattle.icl_lexer.specs.Cutting.{AreTokens}
-use Rattle.icl_syntax.specs.Tokens.{seen_tokens}
+use Rattle.icl_lexer.specs.Seen.{seen_tokens}
 use Rattle.icl_syntax.specs.Values.{SeenSig, SeenRow, SeenEnumWord, SeenWhat, AMux, SomeWords, SeenItem, SeenModule}
 use Rattle.icl_syntax.specs.Modules.{design}
 use Rattle.icl_frames.specs.FirstPass.{Frame, first_pass}

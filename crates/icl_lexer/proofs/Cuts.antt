@@ -4,7 +4,7 @@ use Rattle.std.proofs.lemmas.List.{drop-drop, length-take, take-append-drop}
 use Rattle.ij_text.specs.declared.Place.{Place}
 use Rattle.ij_text.specs.Places.{first_place, place_behind}
 use Rattle.ij_text.proofs.Behind.{place_behind-append}
-use Rattle.icl_lexer.specs.declared.token.Token.{Token}
+use Rattle.icl_lexer.specs.Token.{Token}
 use Rattle.icl_lexer.specs.declared.token.Kind.{Kind}
 use Rattle.icl_lexer.specs.Cutting.{IsPiece, Piece, joined, AreLongest, IsCutUpTo, tokens_from, token_of}
 

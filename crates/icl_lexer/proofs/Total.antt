@@ -6,7 +6,7 @@ use Rattle.std.proofs.Math.Seq.{take-append_seam, drop-append_seam}
 use Rattle.ij_text.specs.declared.Place.{Place}
 use Rattle.ij_text.specs.Places.{first_place, place_behind}
 use Rattle.ij_text.proofs.Behind.{place_behind-append}
-use Rattle.icl_lexer.specs.declared.token.Token.{Token}
+use Rattle.icl_lexer.specs.Token.{Token}
 use Rattle.icl_lexer.specs.declared.token.Kind.{Kind}
 use Rattle.icl_lexer.specs.declared.token.Kind.TheVariants.{Gap, Is}
 use Rattle.icl_lexer.specs.declared.fault.LexFault.{LexFault}

@@ -4,7 +4,7 @@ use Rattle.std.proofs.Math.Seq.{take-append_seam, drop-append_seam}
 use Rattle.std.specs.Prelude.{IfOk, OnErr, IsErrOf}
 use Rattle.ij_bits.specs.Room.{Listed}
 use Rattle.ij_text.specs.Places.{first_place, place_behind}
-use Rattle.icl_lexer.specs.declared.token.Token.{Token}
+use Rattle.icl_lexer.specs.Token.{Token}
 use Rattle.icl_lexer.specs.declared.token.Kind.{Kind}
 use Rattle.icl_lexer.specs.declared.fault.LexFault.{LexFault}
 use Rattle.icl_lexer.specs.declared.fault.LexFault.TheVariants.{BadByte, OpenComment, OpenText, OutOfMemory}

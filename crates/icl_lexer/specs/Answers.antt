@@ -1,13 +1,17 @@
 -- What a call answers, against how the text is cut.
-use Rattle.std.specs.Prelude.{List, ℕ, Result, Ok, Err}
-use Rattle.ij_bits.specs.Room.{Listed}
-use Rattle.icl_lexer.specs.declared.token.Token.{Token}
+use Rattle.std.specs.Prelude.{◌≡◌, List, length, ℕ, Result, Ok, Err}
+use Rattle.icl_lexer.specs.Token.{Token}
+use Rattle.icl_lexer.specs.declared.token.Kind.{Kind}
+use Rattle.icl_lexer.specs.declared.token.Kind.TheVariants.{Gap, Is}
 use Rattle.icl_lexer.specs.declared.fault.LexFault.{LexFault}
-use Rattle.icl_lexer.specs.declared.fault.LexFault.TheVariants.{OutOfMemory}
 use Rattle.icl_lexer.specs.Cutting.{AreTokens, HasFault}
 
--- the tokens, or the fault, unless memory ran out
-abbrev pub Gives : List ℕ → Result (Listed Token) LexFault → Type 0
-Gives text (Ok tokens) = AreTokens text tokens.items
-Gives text (Err OutOfMemory) = Unit {0}
+-- how many tokens there are, or the fault
+abbrev pub Gives : List ℕ → Result ℕ LexFault → Type 0
+Gives text (Ok count) = (tokens : List Token) × (AreTokens text tokens) × (count ≡ length tokens)
 Gives text (Err fault) = HasFault text fault
+
+-- how many tokens a piece is
+abbrev pub count_of : Kind → ℕ
+count_of Gap = 0
+count_of (Is kind) = 1

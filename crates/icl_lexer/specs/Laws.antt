@@ -1,7 +1,7 @@
 -- What follows from the definition of a cutting.
 use Rattle.std.specs.Prelude.{◌≡◌, ℕ, ◌<◌, ◌≤◌, ◌⊎◌, List, [], ◌∷◌, length, take, slice_range, Some}
 use Rattle.ij_text.specs.Places.{first_place, place_behind}
-use Rattle.icl_lexer.specs.declared.token.Token.{Token}
+use Rattle.icl_lexer.specs.Token.{Token}
 use Rattle.icl_lexer.specs.declared.token.Kind.TheVariants.{Is}
 use Rattle.icl_lexer.specs.declared.fault.LexFault.{LexFault}
 use Rattle.icl_lexer.specs.Pieces.{kind_of}

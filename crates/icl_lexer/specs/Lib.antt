@@ -1,7 +1,10 @@
 pub mod Pieces
+pub mod Token
 pub mod Cutting
 pub mod States
 pub mod Matches
 pub mod Answers
 pub mod Laws
 pub mod Examples
+pub mod Seen
+pub mod Lexemes

@@ -1,8 +1,4 @@
 // Why a text isn't cut into tokens.
-ghost use Rattle.std.specs.Prelude.{◌≡◌};
-ghost use Rattle.icl_lexer.specs.declared.fault.LexFault.TheVariants as fault;
-
-use ij_bits::OutOfMemory;
 use ij_text::Place;
 
 /// Why an ICL text is not cut into tokens: the first fault of the text, and its place.
@@ -14,14 +10,4 @@ pub enum LexFault {
     OpenComment { at: Place },
     /// The quoted text whose first `"` stands at this place has no end.
     OpenText { at: Place },
-    /// There was no memory for the tokens.
-    OutOfMemory,
-}
-
-impl From<OutOfMemory> for LexFault {
-    ghost from_gives = { λ _ e. e ≡ fault.OutOfMemory };
-
-    fn from(_: OutOfMemory) -> Self {
-        LexFault::OutOfMemory
-    }
 }

@@ -2,14 +2,18 @@
 #![tactic(auto)]
 
 mod bytes;
+mod cursor;
 mod fault;
 mod laws;
+mod lexeme;
 mod lexing;
 mod pieces;
 mod state;
 mod token;
 
+pub use cursor::Cursor;
 pub use fault::LexFault;
 pub use laws::{cuttings_are_one, texts_are_cut_or_at_fault, tokens_are_in_the_text};
+pub use lexeme::Lexeme;
 pub use lexing::lex;
-pub use token::{Kind, Token, TokenKind};
+pub use token::{Kind, TokenKind};

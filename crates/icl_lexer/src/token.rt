@@ -1,6 +1,4 @@
-// Tokens, and what the pieces of a text are.
-
-use ij_text::Place;
+// What the tokens and the pieces of a text are.
 
 /// What a token of ICL is (IEEE 1687-2014).
 #[derive(Clone, Copy, PartialEq, Eq, Debug)]
@@ -18,19 +16,6 @@ pub enum TokenKind {
     Param,
     /// One of `{ } ( ) [ ] ; : , . = ~ | + - * / %`.
     Mark,
-}
-
-/// A token of a text.
-#[derive(Clone, Copy, PartialEq, Eq, Debug)]
-pub struct Token {
-    /// What the token is.
-    pub kind: TokenKind,
-    /// The place of its first byte.
-    pub at: Place,
-    /// The index of its first byte in the text, counted from 0.
-    pub start: u32,
-    /// The index of the byte behind its last one.
-    pub end: u32,
 }
 
 /// What a piece of a text is: a gap, so one blank or one comment, or a token.

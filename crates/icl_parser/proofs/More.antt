@@ -1,7 +1,7 @@
 -- What is read behind some members or modules.
 use Rattle.std.proofs.Common.{ℕ, List}
 use Rattle.grammar.specs.Reading.{read_repeat}
-use Rattle.icl_syntax.specs.Tokens.{SeenToken}
+use Rattle.icl_lexer.specs.Seen.{SeenToken}
 use Rattle.icl_syntax.specs.Values.{SeenModule}
 use Rattle.icl_syntax.specs.Modules.{with_member}
 use Rattle.icl_syntax.specs.Grammar.{appended}

@@ -1,7 +1,7 @@
 -- What follows from the grammar.
 use Rattle.std.specs.Prelude.{◌≡◌, ℕ, List}
 use Rattle.ij_text.specs.declared.Place.{Place}
-use Rattle.icl_syntax.specs.Tokens.{SeenToken}
+use Rattle.icl_lexer.specs.Seen.{SeenToken}
 use Rattle.icl_syntax.specs.Values.{SeenModule}
 use Rattle.icl_syntax.specs.Modules.{design}
 use Rattle.icl_parser.specs.declared.fault.ParseFault.{ParseFault}

@@ -4,7 +4,8 @@ use Rattle.grammar.specs.Refusal.{CantGoOn}
 use Rattle.ij_text.specs.declared.Place.{Place}
 use Rattle.ij_text.specs.Places.{first_place, place_behind}
 use Rattle.icl_syntax.specs.declared.words.Limit.{Limit}
-use Rattle.icl_syntax.specs.Tokens.{SeenToken, if_word, is_left_out}
+use Rattle.icl_lexer.specs.Seen.{SeenToken, if_word}
+use Rattle.icl_syntax.specs.Tokens.{is_left_out}
 use Rattle.icl_syntax.specs.Values.{SeenModule}
 use Rattle.icl_syntax.specs.Modules.{design}
 use Rattle.icl_parser.specs.declared.fault.ParseFault.{ParseFault}

@@ -2,7 +2,7 @@
 ghost use Rattle.std.specs.Prelude.{◌≡◌, ◌≤◌, ◌<◌, ◌-◌, IfOk, IfErr, OnErr, IsErrOf, length};
 ghost use Rattle.icl_lexer.specs.Cutting.{AreTokens};
 ghost use Rattle.icl_lexer.specs.Laws.{AreInText};
-ghost use Rattle.icl_syntax.specs.Tokens.{seen_tokens};
+ghost use Rattle.icl_lexer.specs.Seen.{seen_tokens};
 ghost use Rattle.icl_syntax.specs.Modules.{design};
 ghost use Rattle.icl_syntax.specs.Views.{seen_design};
 ghost use Rattle.icl_expressions.specs.Seen.{toks, tok};

@@ -10,7 +10,8 @@ use Rattle.icl_syntax.specs.declared.words.Owner.TheVariants.{ScanIn, ScanOut, D
 use Rattle.icl_syntax.specs.declared.words.PropWord.{PropWord}
 use Rattle.icl_syntax.specs.declared.words.PropWord.TheVariants.{Source, LaunchEdge, DefaultLoadValue, RefEnum, ActivePolarity, ScanInSource, CaptureSource, ResetValue, AccessTogether, Attribute}
 use Rattle.ij_text.specs.Numbers.{decimal_from}
-use Rattle.icl_syntax.specs.Tokens.{SeenToken, decimal_at}
+use Rattle.icl_lexer.specs.Seen.{SeenToken}
+use Rattle.icl_syntax.specs.Tokens.{decimal_at}
 use Rattle.icl_syntax.specs.Words.{prop_word, prop_named}
 use Rattle.icl_syntax.specs.Values.{SeenProp, ASource, ALaunchEdge, ALoadValue, ARefEnum, APolarity, AScanInSource, ACaptureSource, AResetValue, ATogether}
 use Rattle.icl_syntax.specs.Grammar.{Of, name, value, sig, sigs, sources, prop_behind, property, with_property, body, body_end, lacks, takes, stands, is_prop, free_word, free_prop_at, prop_word_at, decimal_token, mark as a_mark}

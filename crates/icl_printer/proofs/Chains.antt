@@ -3,7 +3,7 @@ use Rattle.std.proofs.Common.{◌≡◌, ◌<◌, ◌+◌, ◌-◌, ℕ, zero, s
 use Rattle.std.specs.Prelude.{max}
 use Rattle.ij_text.specs.declared.Place.{Place}
 use Rattle.grammar.specs.Symbol.{Parts, one}
-use Rattle.icl_syntax.specs.Tokens.{SeenToken}
+use Rattle.icl_lexer.specs.Seen.{SeenToken}
 use Rattle.icl_syntax.specs.declared.tree.Sign.{Sign}
 use Rattle.icl_syntax.specs.declared.tree.Sign.TheVariants.{Plus, Minus, Times, Over, Rest}
 use Rattle.icl_syntax.specs.Values.{SeenExpr, ADecimal, ASized, AQuoted, AParam, AnOp}

@@ -6,7 +6,7 @@ use Rattle.ij_text.specs.declared.Place.{Place}
 use Rattle.grammar.specs.Symbol.{Parts, IsOne, ◌>>=◌, give, repeat}
 use Rattle.icl_syntax.specs.declared.tree.Sign.{Sign}
 use Rattle.icl_syntax.specs.declared.tree.Sign.TheVariants.{Plus, Minus, Times, Over, Rest}
-use Rattle.icl_syntax.specs.Tokens.{SeenToken, is_mark}
+use Rattle.icl_lexer.specs.Seen.{SeenToken, is_mark}
 use Rattle.icl_syntax.specs.Values.{SeenExpr, ADecimal, ASized, AQuoted, AParam, AnOp}
 use Rattle.icl_syntax.specs.Grammar.{Of, Counted, Signed, Operand, operator, operand, with_operand, chain, sum_sign, product_sign, in_parentheses, factor, term, sum_of, leaf_at, expr, mark as a_mark}
 use Rattle.icl_printer.specs.Canonical.{binding, binding_of, formula_tokens}

@@ -5,7 +5,7 @@ use Rattle.grammar.specs.Symbol.{one, ◌>>=◌, give}
 use Rattle.icl_syntax.specs.declared.tree.PortKind.TheVariants.{ScanInPort, ScanOutPort, DataInPort, DataOutPort, SelectPort, CaptureEnPort, ShiftEnPort, UpdateEnPort, ResetPort, TCKPort, TMSPort, TRSTPort, ClockPort, ToSelectPort, ToCaptureEnPort, ToShiftEnPort, ToUpdateEnPort, ToResetPort, ToTCKPort, ToTMSPort, ToTRSTPort, ToClockPort, ToIRSelectPort}
 use Rattle.icl_syntax.specs.declared.words.ItemWord.{ItemWord}
 use Rattle.icl_syntax.specs.declared.words.ItemWord.TheVariants.{OfPort, OfRegister, OfMux, OfChild, OfAlias, OfEnum, OfParameter, OfAttribute, OfInterface, OfLink}
-use Rattle.icl_syntax.specs.Tokens.{SeenToken}
+use Rattle.icl_lexer.specs.Seen.{SeenToken}
 use Rattle.icl_syntax.specs.Words.{port_word, port_named, data_port_named, control_port_named, to_port_named, other_item_named, item_named}
 use Rattle.icl_syntax.specs.Values.{SeenWhat, APort, ARegister, AMux, AChild, AnAlias, SomeWords, AParameter, AnInterface, ALink, AnAttribute, SeenItem, SeenModule}
 use Rattle.icl_syntax.specs.Modules.{ItemBegin, item_begun, item_begin_at, meaning_behind, item, module_of, design}

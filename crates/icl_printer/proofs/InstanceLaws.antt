@@ -11,7 +11,7 @@ use Rattle.icl_syntax.specs.declared.words.BindWord.{BindWord}
 use Rattle.icl_syntax.specs.declared.words.BindWord.TheVariants.{BindsPort, BindsParameter, BindsAttribute}
 use Rattle.icl_syntax.specs.declared.words.MemberWord.{MemberWord}
 use Rattle.icl_syntax.specs.declared.words.MemberWord.TheVariants.{MemberPort, MemberAttribute}
-use Rattle.icl_syntax.specs.Tokens.{SeenToken}
+use Rattle.icl_lexer.specs.Seen.{SeenToken}
 use Rattle.icl_syntax.specs.Words.{link_word, link_named, bind_named, member_named}
 use Rattle.icl_syntax.specs.Values.{SeenBind, ABoundPort, ABoundParameter, ABoundAttribute, SeenEnumWord, SeenLinkInstr, SeenWhat, AChild, SomeWords, AnInterface, ALink}
 use Rattle.icl_syntax.specs.Grammar.{Of, ended_by, AttributeSaid}

@@ -5,7 +5,7 @@ use Rattle.std.specs.Option.{option_map}
 use Rattle.icl_syntax.specs.declared.tree.PortKind.{PortKind}
 use Rattle.icl_syntax.specs.declared.words.Owner.{Owner}
 use Rattle.icl_syntax.specs.declared.words.Owner.TheVariants.{ScanIn, ScanOut, DataIn, DataOut, Control, Register, Alias}
-use Rattle.icl_syntax.specs.Tokens.{SeenToken}
+use Rattle.icl_lexer.specs.Seen.{SeenToken}
 use Rattle.icl_syntax.specs.Values.{SeenExpr, SeenRange, SeenSig, SeenProp, SeenRow, SeenWhat, APort, ARegister, AMux, AnAlias, AParameter, AnAttribute}
 use Rattle.icl_syntax.specs.Grammar.{value, AttributeSaid, attribute_said}
 use Rattle.icl_syntax.specs.Modules.{owner_of, port_range, port, register, alias, parameter, attribute, row, rows, mux}

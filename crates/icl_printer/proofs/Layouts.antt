@@ -4,12 +4,12 @@ use Rattle.std.specs.Prelude.{slice_range}
 use Rattle.std.proofs.lemmas.List.{take_at, drop_at}
 use Rattle.ij_text.specs.declared.Place.{Place}
 use Rattle.ij_text.specs.Places.{first_place, place_behind}
-use Rattle.icl_lexer.specs.declared.token.Token.{Token}
+use Rattle.icl_lexer.specs.Token.{Token}
 use Rattle.icl_lexer.specs.declared.token.Kind.TheVariants.{Gap, Is}
 use Rattle.icl_lexer.specs.Cutting.{Piece, joined, AreLongest, tokens_from, AreTokens}
 use Rattle.icl_lexer.specs.Laws.{AreInText}
 use Rattle.icl_lexer.proofs.Total.{tokens_in_text}
-use Rattle.icl_syntax.specs.Tokens.{seen_tokens}
+use Rattle.icl_lexer.specs.Seen.{seen_tokens}
 use Rattle.icl_printer.specs.Layout.{Spelling, blank_of, layout}
 use Rattle.icl_printer.specs.Canonical.{tokens_of}
 use Rattle.icl_printer.specs.Again.{spellings, AllSpelled, DesignsAreReadAgain}

@@ -8,7 +8,8 @@ use Rattle.icl_lexer.specs.declared.token.TokenKind.TheVariants.{Word, Decimal, 
 use Rattle.icl_lexer.specs.declared.token.Kind.TheVariants.{Is}
 use Rattle.icl_lexer.specs.Pieces.{kind_of}
 use Rattle.ij_text.specs.Numbers.{decimal_from}
-use Rattle.icl_syntax.specs.Tokens.{SeenToken, if_word, decimal_of}
+use Rattle.icl_lexer.specs.Seen.{SeenToken, if_word}
+use Rattle.icl_syntax.specs.Tokens.{decimal_of}
 use Rattle.icl_syntax.specs.Values.{ADecimal, ASized, AParam, ANumber, APath}
 use Rattle.icl_syntax.specs.Grammar.{expr, value, range, expr_behind, maybe, Located, number_located, number_of, number_at, as_decimal, Named, named_at, name, path_behind, named_sig, plain_sig, sig, sigs, mark as a_mark}
 use Rattle.icl_printer.specs.Layout.{Spelling, word, mark}

@@ -2,11 +2,11 @@
 use Rattle.std.specs.Prelude.{◌≡◌, ℕ, List, [], ◌∷◌, map, Some}
 use Rattle.std.specs.Option.{option_map}
 use Rattle.ij_text.specs.declared.Place.{Place}
-use Rattle.icl_lexer.specs.declared.token.Token.{Token}
+use Rattle.icl_lexer.specs.Token.{Token}
 use Rattle.icl_lexer.specs.declared.token.Kind.TheVariants.{Is}
 use Rattle.icl_lexer.specs.Pieces.{kind_of}
 use Rattle.icl_lexer.specs.Cutting.{AreTokens}
-use Rattle.icl_syntax.specs.Tokens.{SeenToken, seen_tokens}
+use Rattle.icl_lexer.specs.Seen.{SeenToken, seen_tokens}
 use Rattle.icl_syntax.specs.Values.{SeenExpr, ADecimal, ASized, AQuoted, AParam, AnOp, SeenRange, SeenSigWhat, ANumber, APath, SeenSig, SeenProp, ASource, ALaunchEdge, ALoadValue, ARefEnum, APolarity, AScanInSource, ACaptureSource, AResetValue, ATogether, SeenRow, SeenBind, ABoundPort, ABoundParameter, ABoundAttribute, SeenEnumWord, SeenWhat, APort, ARegister, AMux, AChild, AnAlias, SomeWords, AParameter, AnInterface, ALink, AnAttribute, SeenItem, SeenModule}
 use Rattle.icl_syntax.specs.Modules.{design}
 use Rattle.icl_printer.specs.Layout.{Spelling}

@@ -12,7 +12,8 @@ use Rattle.icl_syntax.specs.declared.words.Owner.{Owner}
 use Rattle.icl_syntax.specs.declared.words.Owner.TheVariants.{ScanIn, ScanOut, DataIn, DataOut, Control, Register, Alias}
 use Rattle.icl_syntax.specs.declared.words.PropWord.{PropWord}
 use Rattle.icl_syntax.specs.declared.words.PropWord.TheVariants.{Source, LaunchEdge, DefaultLoadValue, RefEnum, ActivePolarity, ScanInSource, CaptureSource, ResetValue, AccessTogether, Attribute}
-use Rattle.icl_syntax.specs.Tokens.{SeenToken, if_word, is_mark, mark_at, word_at, name_at, decimal_of, decimal_at}
+use Rattle.icl_lexer.specs.Seen.{SeenToken, if_word, is_mark, mark_at, word_at, name_at}
+use Rattle.icl_syntax.specs.Tokens.{decimal_of, decimal_at}
 use Rattle.icl_syntax.specs.Words.{prop_named}
 use Rattle.icl_syntax.specs.Values.{SeenExpr, ADecimal, ASized, AQuoted, AParam, AnOp, SeenRange, SeenSigWhat, ANumber, APath, SeenSig, SeenProp, ASource, ALaunchEdge, ALoadValue, ARefEnum, APolarity, AScanInSource, ACaptureSource, AResetValue, ATogether}
 

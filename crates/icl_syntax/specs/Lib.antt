@@ -1,3 +1,4 @@
+pub mod Held
 pub mod Tokens
 pub mod Words
 pub mod Values

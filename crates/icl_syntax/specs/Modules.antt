@@ -13,7 +13,7 @@ use Rattle.icl_syntax.specs.declared.words.MemberWord.{MemberWord}
 use Rattle.icl_syntax.specs.declared.words.MemberWord.TheVariants.{MemberPort, MemberAttribute}
 use Rattle.icl_syntax.specs.declared.words.Owner.{Owner}
 use Rattle.icl_syntax.specs.declared.words.Owner.TheVariants.{ScanIn, ScanOut, DataIn, DataOut, Control, Register, Alias}
-use Rattle.icl_syntax.specs.Tokens.{SeenToken, if_word}
+use Rattle.icl_lexer.specs.Seen.{SeenToken, if_word}
 use Rattle.icl_syntax.specs.Words.{item_named, bind_named, member_named, link_named}
 use Rattle.icl_syntax.specs.Values.{SeenRange, SeenRow, SeenBind, ABoundPort, ABoundParameter, ABoundAttribute, SeenEnumWord, SeenLinkInstr, SeenWhat, APort, ARegister, AMux, AChild, AnAlias, SomeWords, AParameter, AnInterface, ALink, AnAttribute, SeenItem, SeenModule}
 use Rattle.icl_syntax.specs.Grammar.{Of, mark, word, name, expr_behind, value, parted, maybe, ended_by, appended, range, sig, sigs, body, attribute_said}

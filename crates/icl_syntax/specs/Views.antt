@@ -2,6 +2,7 @@
 use Rattle.std.specs.Prelude.{ℕ, List, map}
 use Rattle.std.specs.Option.{option_map}
 use Rattle.ij_bits.specs.Room.{Listed}
+use Rattle.icl_syntax.specs.Held.{Few}
 use Rattle.icl_syntax.specs.declared.tree.Expr.{Expr}
 use Rattle.icl_syntax.specs.declared.tree.Expr.TheVariants.{Decimal, Sized, Quoted, Param, Op'}
 use Rattle.icl_syntax.specs.declared.tree.Range.{Range}
@@ -26,7 +27,10 @@ use Rattle.icl_syntax.specs.Values.{SeenExpr, ADecimal, ASized, AQuoted, AParam,
 abbrev pub seen_list : {X Y : Type 0} → (X → Y) → Listed X → List Y
 seen_list view xs = map view xs.items
 
-abbrev pub bytes_of : Listed ℕ → List ℕ
+abbrev pub seen_few : {X Y : Type 0} → (X → Y) → Few X → List Y
+seen_few view xs = map view xs.items
+
+abbrev pub bytes_of : Few ℕ → List ℕ
 bytes_of text = text.items
 
 abbrev pub seen_expr : Expr → SeenExpr
@@ -37,11 +41,11 @@ seen_expr (Param at name) = AParam at name.items
 seen_expr (Op' at sign p a q b) = AnOp at sign (seen_expr a) (seen_expr b)
 
 abbrev pub seen_range : Range → SeenRange
-seen_range r = record { at = r.at; left = seen_expr r.left; right = option_map seen_expr r.right }
+seen_range r = record { at = r.at; left = seen_expr r.ends.value.left; right = option_map seen_expr r.ends.value.right }
 
 abbrev pub seen_sig_what : SigWhat → SeenSigWhat
 seen_sig_what (Value e) = ANumber (seen_expr e)
-seen_sig_what (Named path range) = APath (seen_list bytes_of path) (option_map seen_range range)
+seen_sig_what (Named path range) = APath (seen_few bytes_of path) (option_map seen_range range)
 
 abbrev pub seen_sig : Sig → SeenSig
 seen_sig s = record { at = s.at; inverted = s.inverted; what = seen_sig_what s.what }
@@ -49,16 +53,16 @@ seen_sig s = record { at = s.at; inverted = s.inverted; what = seen_sig_what s.w
 abbrev pub seen_prop : Prop → SeenProp
 seen_prop (Source sigs) = ASource (seen_list seen_sig sigs)
 seen_prop (LaunchEdge edge) = ALaunchEdge edge.items
-seen_prop (DefaultLoadValue value) = ALoadValue (seen_list seen_expr value)
+seen_prop (DefaultLoadValue value) = ALoadValue (seen_few seen_expr value)
 seen_prop (RefEnum name) = ARefEnum name.items
 seen_prop (ActivePolarity n) = APolarity n
 seen_prop (ScanInSource sig) = AScanInSource (seen_sig sig)
 seen_prop (CaptureSource sigs) = ACaptureSource (seen_list seen_sig sigs)
-seen_prop (ResetValue value) = AResetValue (seen_list seen_expr value)
+seen_prop (ResetValue value) = AResetValue (seen_few seen_expr value)
 seen_prop AccessTogether = ATogether
 
 abbrev pub seen_row : MuxRow → SeenRow
-seen_row r = record { values = seen_list (seen_list seen_expr) r.values; source = seen_sig r.source }
+seen_row r = record { values = seen_few (seen_few seen_expr) r.values; source = seen_sig r.source }
 
 abbrev pub seen_bind : Bind → SeenBind
 seen_bind (BindPort at name range sigs) = ABoundPort at name.items (option_map seen_range range) (seen_list seen_sig sigs)
@@ -66,7 +70,7 @@ seen_bind (BindParameter at name value) = ABoundParameter at name.items (seen_ex
 seen_bind (BindAttribute name value) = ABoundAttribute name.items (option_map seen_expr value)
 
 abbrev pub seen_enum_word : EnumWord → SeenEnumWord
-seen_enum_word w = record { name = w.name.items; value = seen_list seen_expr w.value }
+seen_enum_word w = record { name = w.name.items; value = seen_few seen_expr w.value }
 
 abbrev pub seen_instr : LinkInstr → SeenLinkInstr
 seen_instr i = record { name = i.name.items; cell = i.cell.items; interface = i.interface.items }

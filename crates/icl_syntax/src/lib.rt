@@ -6,11 +6,15 @@
 //! has the value of each tree.
 #![tactic(auto)]
 
+mod few;
+mod small_text;
 mod tree;
 mod words;
 
+pub use few::Few;
+pub use small_text::SmallText;
 pub use tree::{
-    Bind, Design, EnumWord, Expr, Item, LinkInstr, LinkKind, Module, MuxRow, PortKind, Prop, Range,
+    Bind, Design, Ends, EnumWord, Expr, Item, LinkInstr, LinkKind, Module, MuxRow, PortKind, Prop, Range,
     Sig, SigWhat, Sign, What,
 };
 pub use words::{BindWord, ItemWord, Limit, MemberWord, Owner, PropWord};

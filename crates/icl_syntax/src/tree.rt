@@ -1,6 +1,8 @@
 // The tree of an ICL text.
+use crate::few::Few;
+use crate::small_text::SmallText;
 use ij_bits::List;
-use ij_text::{Name, Place, Text};
+use ij_text::Place;
 
 /// A whole ICL text (IEEE 1687-2014).
 #[derive(Drop)]
@@ -13,7 +15,7 @@ pub struct Design {
 #[derive(Drop)]
 pub struct Module {
     /// The name, which any word may be.
-    pub name: Name,
+    pub name: SmallText,
     /// The place of the word `Module`.
     pub at: Place,
     /// The items in the order of the text.
@@ -26,7 +28,7 @@ pub struct Item {
     /// The place of the item's first word.
     pub at: Place,
     /// The name behind that word.
-    pub name: Name,
+    pub name: SmallText,
     /// What the item declares.
     pub what: What,
 }
@@ -52,7 +54,7 @@ pub enum What {
     },
     /// An `Instance` of a module.
     Child {
-        module: Name,
+        module: SmallText,
         binds: List<Bind>,
     },
     /// An `Alias` of some signals.
@@ -72,12 +74,12 @@ pub enum What {
     },
     /// A `ScanInterface`, with the names of its ports.
     Interface {
-        ports: List<Name>,
+        ports: List<SmallText>,
     },
     /// An `AccessLink`, with its `BSDLEntity` and its instructions.
     Link {
         kind: LinkKind,
-        entity: Name,
+        entity: SmallText,
         instrs: List<LinkInstr>,
     },
     /// An `Attribute` of the module.
@@ -120,11 +122,11 @@ pub enum Prop {
     /// The source of a port: one signal of a `ScanOutPort`, one or more of another port, the leftmost first.
     Source(List<Sig>),
     /// The clock edge after which a `ScanOutPort` changes.
-    LaunchEdge(Name),
+    LaunchEdge(SmallText),
     /// The numbers of a concatenation, the leftmost first.
-    DefaultLoadValue(List<Expr>),
+    DefaultLoadValue(Few<Expr>),
     /// The name of an `Enum`.
-    RefEnum(Name),
+    RefEnum(SmallText),
     /// The level at which a control port is active.
     ActivePolarity(u32),
     /// Where a scan register shifts in from.
@@ -132,7 +134,7 @@ pub enum Prop {
     /// What a scan register captures: signals, the leftmost first.
     CaptureSource(List<Sig>),
     /// The numbers of a concatenation, the leftmost first.
-    ResetValue(List<Expr>),
+    ResetValue(Few<Expr>),
     /// The bits of an alias are accessed together.
     AccessTogether,
 }
@@ -142,6 +144,13 @@ pub enum Prop {
 pub struct Range {
     /// The place of the `[`.
     pub at: Place,
+    /// What stands between the brackets.
+    pub ends: Box<Ends>,
+}
+
+/// The indices of a range.
+#[derive(Drop)]
+pub struct Ends {
     /// The index on the left, farthest from TDO in a scan register.
     pub left: Expr,
     /// The index on the right, nearest to TDO in a scan register; none in a range of one index.
@@ -166,7 +175,7 @@ pub enum SigWhat {
     Value(Expr),
     /// Names with dots between them, one or more, and a range.
     Named {
-        path: List<Name>,
+        path: Few<SmallText>,
         range: Option<Range>,
     },
 }
@@ -175,7 +184,7 @@ pub enum SigWhat {
 #[derive(Drop)]
 pub struct MuxRow {
     /// The values, one or more, with `|` between them.
-    pub values: List<List<Expr>>,
+    pub values: Few<Few<Expr>>,
     /// What the multiplexer passes on at these values.
     pub source: Sig,
 }
@@ -186,19 +195,19 @@ pub enum Bind {
     /// An `InputPort`, at the place of this word.
     Port {
         at: Place,
-        name: Name,
+        name: SmallText,
         range: Option<Range>,
         sigs: List<Sig>,
     },
     /// A `Parameter`, at the place of this word.
     Parameter {
         at: Place,
-        name: Name,
+        name: SmallText,
         value: Expr,
     },
     /// An `Attribute` of the instance.
     Attribute {
-        name: Name,
+        name: SmallText,
         value: Option<Expr>,
     },
 }
@@ -207,20 +216,20 @@ pub enum Bind {
 #[derive(Drop)]
 pub struct EnumWord {
     /// The word.
-    pub name: Name,
+    pub name: SmallText,
     /// What it stands for.
-    pub value: List<Expr>,
+    pub value: Few<Expr>,
 }
 
 /// An instruction of an `AccessLink`: its name, and the instance and the scan interface that it selects.
 #[derive(Drop)]
 pub struct LinkInstr {
     /// The instruction, which the entity's description has.
-    pub name: Name,
+    pub name: SmallText,
     /// The instance.
-    pub cell: Name,
+    pub cell: SmallText,
     /// Its scan interface.
-    pub interface: Name,
+    pub interface: SmallText,
 }
 
 /// The access standard of an `AccessLink`.
@@ -238,11 +247,11 @@ pub enum Expr {
     /// A decimal number, of at most 4,294,967,295.
     Decimal(u32),
     /// A sized number: the bytes of its token.
-    Sized(Text),
+    Sized(SmallText),
     /// A text: the bytes between its quotes, as they stand.
-    Quoted(Text),
+    Quoted(SmallText),
     /// A parameter: its place, and its name without the `$`.
-    Param(Place, Name),
+    Param(Place, SmallText),
     /// An operator at its place, with its left and right operands.
     Op(Place, Sign, Box<Expr>, Box<Expr>),
 }

@@ -3,7 +3,7 @@ use Rattle.std.specs.Prelude.{Option, None, Result, Ok, Err, codes}
 use Rattle.std.proofs.Common.{refl, ◌≡◌, ◌≢◌, ◌∙◌, sym, ap, ℕ, Some, List}
 use Rattle.icl_lexer.specs.Cutting.{AreTokens, tokens_from}
 use Rattle.icl_lexer.specs.Laws.{CuttingsAreOne, CutTextsHaveNoFault, FaultsAreOne}
-use Rattle.icl_lexer.specs.declared.token.Token.{Token}
+use Rattle.icl_lexer.specs.Token.{Token}
 use Rattle.icl_parser.specs.Laws.{DesignsAreOne, DesignsAreNotRefused, RefusalsAreOne, SeenFault, NoMemory, ALeftOut, AnExprLimit, ASyntax, seen_fault}
 use Rattle.icl_parser.specs.declared.fault.ParseFault.{ParseFault}
 use Rattle.icl_parser.specs.declared.fault.ParseFault.TheVariants.{LeftOut as ParseLeftOut, ExprLimit as ParseExprLimit, Syntax as ParseSyntax, OutOfMemory as ParseMemory}

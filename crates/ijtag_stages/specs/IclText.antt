@@ -1,11 +1,11 @@
 -- The stage of the ICL text: its tokens, and the modules that the grammar makes of them (IEEE 1687-2014, the part that is read here).
 use Rattle.std.specs.Prelude.{◌≡◌, ℕ, List, Option, Some, None, codes}
-use Rattle.icl_lexer.specs.declared.token.Token.{Token}
+use Rattle.icl_lexer.specs.Token.{Token}
 use Rattle.icl_lexer.specs.declared.fault.LexFault.{LexFault}
 use Rattle.icl_lexer.specs.declared.fault.LexFault.TheVariants.{BadByte, OpenComment, OpenText, OutOfMemory as NoMemoryForTokens}
 use Rattle.icl_lexer.specs.Cutting.{AreTokens, HasFault}
 use Rattle.icl_syntax.specs.Modules.{design}
-use Rattle.icl_syntax.specs.Tokens.{seen_tokens}
+use Rattle.icl_lexer.specs.Seen.{seen_tokens}
 use Rattle.icl_syntax.specs.Values.{SeenModule}
 use Rattle.icl_parser.specs.Refusals.{IsRefused}
 use Rattle.icl_parser.specs.declared.fault.ParseFault.{ParseFault}

@@ -2,7 +2,7 @@
 use Rattle.std.proofs.Common.{◌<◌, ◌≤◌, ◌+◌, ◌^◌, ℕ, List, [], ◌∷◌, length, arith}
 use Rattle.icl_lexer.specs.Cutting.{AreTokens}
 use Rattle.icl_lexer.specs.Laws.{AreInText, TokensAreInText}
-use Rattle.icl_lexer.specs.declared.token.Token.{Token}
+use Rattle.icl_lexer.specs.Token.{Token}
 
 few_in : (text : List ℕ) (from : ℕ) (tokens : List Token) → AreInText text from tokens → from + length tokens ≤ length text
 few_in text from [] h = omega (arith, h)

@@ -1,6 +1,6 @@
 use Rattle.std.proofs.Common.{◌≡◌, ℕ, drop, take}
 use Rattle.icl_lexer.specs.Laws.{AreInText}
-use Rattle.icl_syntax.specs.Tokens.{seen_tokens}
+use Rattle.icl_lexer.specs.Seen.{seen_tokens}
 use Rattle.icl_expressions.specs.Seen.{toks}
 use Rattle.icl_parser.proofs.parsing.lexemes.Given as goal
 
