@@ -65,9 +65,9 @@ fn texts_have_designs(rt: HostRuntime) -> Result<(), Fail> {
 fn shown(alloc: Global, expr: &Expr) -> Result<String, Fail> {
     Ok(match expr {
         Expr::Decimal(n) => format!(in alloc; "{n}")?,
-        Expr::Sized(text) => format!(in alloc; "s{}", text.len())?,
-        Expr::Quoted(text) => format!(in alloc; "q{}", text.len())?,
-        Expr::Param(at, name) => format!(in alloc; "p{}@{}", name.len(), at.col)?,
+        Expr::Sized(text) => format!(in alloc; "s{}", text.as_slice().len())?,
+        Expr::Quoted(text) => format!(in alloc; "q{}", text.as_slice().len())?,
+        Expr::Param(at, name) => format!(in alloc; "p{}@{}", name.as_slice().len(), at.col)?,
         Expr::Op(at, sign, a, b) => {
             let a = shown(alloc, a)?;
             let b = shown(alloc, b)?;

@@ -11,10 +11,10 @@ pub(crate) fn read(alloc: Global, text: &[u8]) -> Result<Design, Fail> {
     if text.len() > 100_000 {
         return Err(Fail::new("the text is too long"));
     }
-    let Ok(tokens) = lex(alloc, text) else {
+    let Ok(tokens) = lex(text) else {
         return Err(Fail::new("the text is not cut"));
     };
-    match parse(alloc, text, &tokens) {
+    match parse(alloc, text, tokens) {
         Ok(design) => Ok(design),
         Err(_) => Err(Fail::new("the text is no design")),
     }

@@ -2,6 +2,7 @@
 use Rattle.std.specs.Prelude.{Option, None, Result, Ok, Err, codes}
 use Rattle.std.proofs.Common.{refl, ◌≡◌, ◌≢◌, ◌∙◌, sym, ap, ℕ, Some, List}
 use Rattle.icl_lexer.specs.Cutting.{AreTokens, tokens_from}
+use Rattle.icl_lexer.specs.Seen.{SeenToken, seen_tokens}
 use Rattle.icl_lexer.specs.Laws.{CuttingsAreOne, CutTextsHaveNoFault, FaultsAreOne}
 use Rattle.icl_lexer.specs.Token.{Token}
 use Rattle.icl_parser.specs.Laws.{DesignsAreOne, DesignsAreNotRefused, RefusalsAreOne, SeenFault, NoMemory, ALeftOut, AnExprLimit, ASyntax, seen_fault}
@@ -62,13 +63,13 @@ use Rattle.ijtag_stages.proofs.Turns.{give_decided, in_turn_decided}
 tokens_one : CuttingsAreOne → (text : List ℕ) (tokens others : List Token) → AreTokens text tokens → AreTokens text others → tokens ≡ others
 tokens_one cuttings text tokens others a b = a.2 ∙ ap (tokens_from 0 first_place) (cuttings text a.0 b.0 a.1 b.1) ∙ sym b.2
 
-lex_alike : (fault other : LexFault) (r s : Refusal) → fault ≡ other → lex_refusal fault ≡ Some r → lex_refusal other ≡ Some s → r ≡ s
+lex_alike : (fault other : LexFault) (r s : Refusal) → fault ≡ other → lex_refusal fault ≡ r → lex_refusal other ≡ s → r ≡ s
 lex_alike fault other r s same p q = cc
 
 tokens_decided : CuttingsAreOne → CutTextsHaveNoFault → FaultsAreOne → (text : List ℕ) → IsDecided (icl_tokens text)
 unfolding icl_tokens
 tokens_decided cuttings no_fault faults text =
-    record { one = tokens_one cuttings text; apart = λ tokens r p q. no_fault text tokens q.0 p q.1; alike = λ r s p q. lex_alike p.0 q.0 r s (faults text p.0 q.0 p.1 q.1) p.2 q.2 }
+    record { one = λ seen others p q. p.2 ∙ ap (seen_tokens text) (tokens_one cuttings text p.0 q.0 p.1 q.1) ∙ sym q.2; apart = λ seen r p q. no_fault text p.0 q.0 p.1 q.1; alike = λ r s p q. lex_alike p.0 q.0 r s (faults text p.0 q.0 p.1 q.1) p.2 q.2 }
 
 -- how a fault is told, without where its words lie in memory
 abbrev told_fault : SeenFault → Option Refusal
@@ -86,7 +87,7 @@ told_as_seen (ParseSyntax at) = refl
 parse_alike : (fault other : ParseFault) (r s : Refusal) → seen_fault fault ≡ seen_fault other → parse_refusal fault ≡ Some r → parse_refusal other ≡ Some s → r ≡ s
 parse_alike fault other r s same p q = let a = told_as_seen fault in let b = told_as_seen other in let c = ap told_fault same in cc
 
-design_decided : DesignsAreOne → DesignsAreNotRefused → RefusalsAreOne → (text : List ℕ) (tokens : List Token) → IsDecided (icl_design text tokens)
+design_decided : DesignsAreOne → DesignsAreNotRefused → RefusalsAreOne → (text : List ℕ) (tokens : List SeenToken) → IsDecided (icl_design text tokens)
 unfolding icl_design
 design_decided one not_refused refusals text tokens =
     record { one = λ d e p q. one _ d e p q; apart = λ d r p q. not_refused text _ d q.0 p q.1; alike = λ r s p q. parse_alike p.0 q.0 r s (refusals text _ p.0 q.0 p.1 q.1) p.2 q.2 }

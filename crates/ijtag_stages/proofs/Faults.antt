@@ -3,10 +3,6 @@ use Rattle.std.proofs.Common.{◌≡◌, refl, subst}
 use Rattle.std.specs.Prelude.{ℕ, List, Option, Some, Result, Err}
 use Rattle.ij_bits.specs.Room.{Listed}
 use Rattle.ij_text.specs.declared.Place.{Place}
-use Rattle.icl_lexer.specs.Token.{Token}
-use Rattle.icl_lexer.specs.declared.fault.LexFault.{LexFault}
-use Rattle.icl_lexer.specs.declared.fault.LexFault.TheVariants.{BadByte, OpenComment, OpenText, OutOfMemory as NoMemoryForTokens}
-use Rattle.icl_lexer.specs.Cutting.{HasFault}
 use Rattle.icl_lexer.specs.Seen.{SeenToken}
 use Rattle.icl_parser.specs.Refusals.{IsRefused, OnRefusal}
 use Rattle.icl_parser.specs.declared.fault.ParseFault.{ParseFault}
@@ -20,7 +16,7 @@ use Rattle.svf_reader.specs.Meaning.{LeftOut as LeftOutCause, SvfSyntax as Synta
 use Rattle.svf_reader.specs.declared.fault.SvfFault.{SvfFault}
 use Rattle.svf_reader.specs.declared.fault.SvfFault.TheVariants.{LeftOut as LeftOutSvf, SvfSyntax, SvfLimit, HexWide, TdiMissing, OutOfMemory as NoMemoryForCommands}
 use Rattle.ijtag_stages.specs.Follows.{IsFault, IsToldAs}
-use Rattle.ijtag_stages.specs.IclText.{lex_refusal, parse_refusal}
+use Rattle.ijtag_stages.specs.IclText.{parse_refusal}
 use Rattle.ijtag_stages.specs.Refusals.{Part, Refusal}
 use Rattle.ijtag_stages.specs.Seen.{seen_refusal}
 use Rattle.ijtag_stages.specs.Work.{◌>>=◌}
@@ -37,17 +33,6 @@ told_fault work want OutOfMemory is refuses = tt
 pub first_fault : {A B : Type 0} (first : Part A) (next : A → Part B) (fault : StageFault) → IsFault first fault → IsFault (first >>= next) fault
 first_fault first next (Refused told) is = inl is
 first_fault first next OutOfMemory is = tt
-
-abbrev pub lex_err : LexFault → Result (Listed Token) LexFault
-lex_err fault = Err fault
-
-pub lex_fault_is : (text : List ℕ) (fault : LexFault) → ((at : Place) → lex_err fault ≡ lex_err (BadByte at) → HasFault text (BadByte at))
-    → ((at : Place) → lex_err fault ≡ lex_err (OpenComment at) → HasFault text (OpenComment at)) → ((at : Place) → lex_err fault ≡ lex_err (OpenText at) → HasFault text (OpenText at))
-    → (r : Refusal) → lex_refusal fault ≡ Some r → HasFault text fault
-lex_fault_is text (BadByte at) bad_byte open_comment open_text r told = bad_byte at refl
-lex_fault_is text (OpenComment at) bad_byte open_comment open_text r told = open_comment at refl
-lex_fault_is text (OpenText at) bad_byte open_comment open_text r told = open_text at refl
-lex_fault_is text NoMemoryForTokens bad_byte open_comment open_text r told = absurd (cc)
 
 pub parse_fault_is : (text : List ℕ) (tokens : List SeenToken) (fault : ParseFault) → OnRefusal text tokens fault → (r : Refusal) → parse_refusal fault ≡ Some r → IsRefused text tokens fault
 parse_fault_is text tokens (LeftOut at word) is r told = is

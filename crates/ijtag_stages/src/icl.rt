@@ -1,28 +1,25 @@
 // The ICL text (IEEE 1687-2014).
-ghost use Rattle.std.specs.Prelude.{◌≤◌, length, IfOk};
+ghost use Rattle.std.specs.Prelude.{◌≤◌, length, IfOk, Some};
 ghost use Rattle.icl_frames.specs.Written.{AreWritten};
-ghost use Rattle.icl_lexer.specs.Cutting.{AreTokens};
 ghost use Rattle.icl_syntax.specs.Views.{seen_design};
 ghost use Rattle.ijtag_stages.specs.Follows.{Follows, IsToldAs};
 ghost use Rattle.ijtag_stages.specs.IclText.{icl_text, icl_tokens, icl_design, lex_refusal, parse_refusal};
 
 use crate::refusal::{Stage, StageFault, refused_at, refused_word};
 use icl_frames::designs_are_written;
-use icl_lexer::{LexFault, Token, lex, tokens_are_in_the_text};
+use icl_lexer::{Cursor, LexFault, lex, tokens_are_in_the_text};
 use icl_parser::{ParseFault, parse};
 use icl_syntax::Design;
-use ij_bits::List;
 use std::alloc::Global;
 
 /// How a fault of the tokens is told.
 fn lex_fault(alloc: Global, fault: LexFault) -> StageFault
-    ensures { IsToldAs (lex_refusal fault) result }
+    ensures { IsToldAs (Some (lex_refusal fault)) result }
 {
     match fault {
         LexFault::BadByte { at } => refused_at(alloc, Stage::Icl, b"BadByte", at),
         LexFault::OpenComment { at } => refused_at(alloc, Stage::Icl, b"OpenComment", at),
         LexFault::OpenText { at } => refused_at(alloc, Stage::Icl, b"OpenText", at),
-        LexFault::OutOfMemory => StageFault::OutOfMemory,
     }
 }
 
@@ -40,11 +37,11 @@ fn parse_fault(alloc: Global, fault: ParseFault) -> StageFault
 
 /// The tokens of a text.
 #[tactic(auto, unfolding(crate::specs::IclText::icl_tokens))]
-fn read_tokens(alloc: Global, text: &[u8]) -> Result<List<Token>, StageFault>
+fn read_tokens<'a>(alloc: Global, text: &'a [u8]) -> Result<Cursor<'a>, StageFault>
     requires { length text.now ≤ 134217728 }
-    ensures { Follows (icl_tokens text.now) (λ tokens. tokens.items) result }
+    ensures { Follows (icl_tokens text.now) (λ tokens. tokens) result }
 {
-    match lex(alloc, text) {
+    match lex(text) {
         Ok(tokens) => Ok(tokens),
         Err(fault) => Err(lex_fault(alloc, fault)),
     }
@@ -52,10 +49,13 @@ fn read_tokens(alloc: Global, text: &[u8]) -> Result<List<Token>, StageFault>
 
 /// What the grammar makes of the tokens of a text.
 #[tactic(auto, unfolding(crate::specs::IclText::icl_design))]
-fn read_modules(alloc: Global, text: &[u8], tokens: &List<Token>) -> Result<Design, StageFault>
-    requires short { length text.now ≤ 134217728 }
-    requires tokens { AreTokens text.now tokens.now.items }
-    ensures { Follows (icl_design text.now tokens.now.items) seen_design result }
+fn read_modules<'a>(
+    alloc: Global,
+    text: &[u8],
+    tokens: Cursor<'a>,
+) -> Result<Design, StageFault>
+    requires { length text.now ≤ 134217728 }
+    ensures { Follows (icl_design text.now tokens) seen_design result }
 {
     match parse(alloc, text, tokens) {
         Ok(design) => Ok(design),
@@ -73,6 +73,6 @@ pub fn read_icl(alloc: Global, text: &[u8]) -> Result<Design, StageFault>
     designs_are_written();
     tokens_are_in_the_text();
     let tokens = read_tokens(alloc, text)?;
-    let design = read_modules(alloc, text, &tokens)?;
+    let design = read_modules(alloc, text, tokens)?;
     Ok(design)
 }

@@ -22,10 +22,10 @@ fn design_of(alloc: Global, text: &[u8]) -> Result<Design, Fail>
 {
     designs_are_written();
     tokens_are_in_the_text();
-    let Ok(tokens) = lex(alloc, text) else {
+    let Ok(tokens) = lex(text) else {
         return Err(Fail::new("the text is not cut"));
     };
-    let Ok(design) = parse(alloc, text, &tokens) else {
+    let Ok(design) = parse(alloc, text, tokens) else {
         return Err(Fail::new("the text is no design"));
     };
     Ok(design)

@@ -1,16 +1,15 @@
 use Rattle.icl_syntax.specs.Views.{seen_design}
+use Rattle.icl_lexer.specs.Seen.{HasTokens}
+use Rattle.icl_syntax.specs.Modules.{design}
+use Rattle.std.proofs.Common.{subst}
 use Rattle.ijtag_stages.specs.IclText.{icl_tokens, icl_design}
 use Rattle.ijtag_stages.proofs.Few.{few_tokens}
 use Rattle.ijtag_stages.proofs.icl.read_icl.Goals as goal
-
-pub read_modules-requires-clause-tokens : goal.read_modules-requires-clause-tokens
-unfolding icl_tokens
-read_modules-requires-clause-tokens c = c.in_ok-tokens.ensures
 
 pub returns-clause-written : goal.returns-clause-written
 unfolding icl_tokens icl_design
 returns-clause-written c =
     let text = c.args.text.now in
-    let tokens = c.in_ok-tokens.tokens.items in
-    let few = few_tokens c.tokens_are_in_the_text.ensures text tokens c.requires c.in_ok-tokens.ensures in
-    c.designs_are_written.ensures text tokens (seen_design c.in_ok-design.design) c.in_ok-tokens.ensures few c.in_ok-design.ensures
+    let has : HasTokens text c.in_ok-tokens.tokens = c.in_ok-tokens.ensures in
+    let few = few_tokens c.tokens_are_in_the_text.ensures text has.0 c.requires has.1 in
+    c.designs_are_written.ensures text has.0 (seen_design c.in_ok-design.design) has.1 few (subst (λ tokens. design.derives tokens (seen_design c.in_ok-design.design)) has.2 c.in_ok-design.ensures)

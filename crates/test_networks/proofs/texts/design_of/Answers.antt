@@ -1,3 +1,6 @@
+use Rattle.std.proofs.Common.{subst}
+use Rattle.icl_lexer.specs.Seen.{HasTokens}
+use Rattle.icl_syntax.specs.Modules.{design}
 use Rattle.icl_syntax.specs.Views.{seen_design}
 use Rattle.test_networks.proofs.Few.{few_tokens}
 use Rattle.test_networks.proofs.texts.design_of.Goals as goal
@@ -5,6 +8,7 @@ use Rattle.test_networks.proofs.texts.design_of.Goals as goal
 pub returns : goal.returns
 returns c =
     let text = c.args.text.now in
-    let tokens = c.in-Ok.tokens.items in
-    let few = few_tokens c.tokens_are_in_the_text.ensures text tokens c.requires c.in-Ok.ensures.tokens in
-    record { written = c.designs_are_written.ensures text tokens (seen_design c.in-Ok-parse.design) c.in-Ok.ensures.tokens few c.in-Ok-parse.ensures.found }
+    let has : HasTokens text c.in-Ok.tokens = c.in-Ok.ensures.tokens in
+    let few = few_tokens c.tokens_are_in_the_text.ensures text has.0 c.requires has.1 in
+    let modules = seen_design c.in-Ok-parse.design in
+    record { written = c.designs_are_written.ensures text has.0 modules has.1 few (subst (λ tokens. design.derives tokens modules) has.2 c.in-Ok-parse.ensures.found) }
