@@ -3,3 +3,5 @@ pub mod Short
 pub mod Cuts
 pub mod Unique
 pub mod Total
+pub mod Fronts
+pub mod Cursors

@@ -1,5 +1,5 @@
 -- Each text is cut or has a fault, and its tokens stand in it.
-use Rattle.std.proofs.Common.{◌≡◌, ℕ, zero, suc, ◌+◌, ◌-◌, ◌≤◌, ◌⊎◌, inl, inr, Bool, true, false, List, [], ◌∷◌, ◌++◌, length, take, drop, Option, Some, None, refl, sym, ap, subst, ◌∙◌, arith, append_assoc, length-drop, length-append}
+use Rattle.std.proofs.Common.{◌≡◌, ℕ, zero, suc, ◌+◌, ◌-◌, ◌≤◌, ◌⊎◌, inl, inr, List, [], ◌∷◌, ◌++◌, length, take, drop, Option, Some, None, refl, sym, ap, subst, ◌∙◌, arith, append_assoc, length-drop, length-append}
 use Rattle.std.specs.Prelude.{slice_range}
 use Rattle.std.proofs.lemmas.List.{nil_from_length}
 use Rattle.std.proofs.Math.Seq.{take-append_seam, drop-append_seam}
@@ -12,34 +12,17 @@ use Rattle.icl_lexer.specs.declared.token.Kind.TheVariants.{Gap, Is}
 use Rattle.icl_lexer.specs.declared.fault.LexFault.{LexFault}
 use Rattle.icl_lexer.specs.declared.pieces.Match.{Match}
 use Rattle.icl_lexer.specs.Pieces.{kind_of}
-use Rattle.icl_lexer.specs.Matches.{longest_match}
-use Rattle.icl_lexer.specs.Cutting.{IsPiece, NoPiece, Piece, joined, AreLongest, IsCutUpTo, AreTokens, HasFault, tokens_from, token_of, fault_of, opens_comment}
+use Rattle.icl_lexer.specs.Cutting.{IsPiece, Piece, joined, AreLongest, IsCutUpTo, AreTokens, HasFault, tokens_from, token_of, fault_of}
 use Rattle.icl_lexer.specs.Laws.{AreInText}
-use Rattle.icl_lexer.proofs.Matches.{is_piece, no_piece, no_mark}
 use Rattle.icl_lexer.proofs.Cuts.{CutSoFar, cut_more, nothing_cut}
+use Rattle.icl_lexer.specs.Seen.{front}
 use Rattle.icl_lexer.proofs.Unique.{piece_some}
+use Rattle.icl_lexer.proofs.Fronts.{Begins, front_begins}
 
 -- ---- each text is cut, or at fault
 
 abbrev Outcome : List ℕ → Type 0
 Outcome text = ((tokens : List Token) × (AreTokens text tokens)) ⊎ ((fault : LexFault) × (HasFault text fault))
-
--- a text begins with a piece, or with none
-abbrev Begins : List ℕ → Type 0
-Begins text = ((kind : Kind) × (len : ℕ) × (IsPiece text kind len)) ⊎ (NoPiece text)
-
-begins : (text : List ℕ) → Begins text
-begins text = by_match (longest_match text (length text)) refl
-  where
-    by_comment : (front : Match) → longest_match text (length text) ≡ Some front → (opens : Bool) → opens_comment text ≡ opens → (n : ℕ) → front.len ≡ n → Begins text
-    by_comment front e false o n l = inl (front.kind, front.len, is_piece text front e (λ one. o))
-    by_comment front e true o zero l = inl (front.kind, front.len, is_piece text front e (λ one. absurd (omega (arith, one, l))))
-    by_comment front e true o (suc zero) l = inr (no_mark text front e l o)
-    by_comment front e true o (suc (suc n)) l = inl (front.kind, front.len, is_piece text front e (λ one. absurd (omega (arith, one, l))))
-
-    by_match : (f : Option Match) → longest_match text (length text) ≡ f → Begins text
-    by_match None e = inr (no_piece text e)
-    by_match (Some front) e = by_comment front e (opens_comment text) refl front.len refl
 
 whole : (text : List ℕ) (tokens : List Token) (start : ℕ) (at : Place) → CutSoFar text tokens start at → drop start text ≡ [] → Outcome text
 whole text tokens start at c e = inl (tokens, (c.pieces, subst (IsCutUpTo text c.pieces) e c.cut, c.tokens_are))
@@ -51,16 +34,16 @@ cut_from (suc n) text tokens start at c le = by_rest (drop start text) refl (λ 
   where
     by_rest : (rest : List ℕ) → drop start text ≡ rest → ((kind : Kind) (len : ℕ) → IsPiece (drop start text) kind len → length (drop (start + len) text) ≤ n → Outcome text) → Outcome text
     by_rest [] e again = whole text tokens start at c e
-    by_rest (b ∷ bs) e again = by_piece (begins (drop start text))
+    by_rest (b ∷ bs) e again = by_piece (front (drop start text)) (front_begins (drop start text))
       where
-        by_piece : Begins (drop start text) → Outcome text
-        by_piece (inl (kind, len, piece)) =
-            let some = piece_some (drop start text) kind len piece in
+        by_piece : (f : Option Match) → Begins (drop start text) f → Outcome text
+        by_piece (Some found) piece =
+            let some = piece_some (drop start text) found.kind found.len piece in
             let long = length-drop start text in
-            let less = length-drop (start + len) text in
+            let less = length-drop (start + found.len) text in
             let within = piece.within in
-            again kind len piece (omega (arith, le, some, within, long, less))
-        by_piece (inr none) = inr (
+            again found.kind found.len piece (omega (arith, le, some, within, long, less))
+        by_piece None none = inr (
           fault_of (drop start text) (place_behind first_place (joined c.pieces [])),
           record {
             pieces = c.pieces;

@@ -1,16 +1,12 @@
 -- A text is cut in one way.
-use Rattle.std.proofs.Common.{◌≡◌, ℕ, zero, suc, ◌<◌, List, [], ◌∷◌, ◌++◌, length, take, drop, Option, Some, None, Result, Ok, Err, refl, sym, ap, subst, ◌∙◌, arith, ◌⊎◌, inl, inr}
+use Rattle.std.proofs.Common.{◌≡◌, ℕ, zero, suc, ◌<◌, List, [], ◌∷◌, ◌++◌, length, take, drop, Option, Some, None, refl, sym, ap, subst, ◌∙◌, arith}
 use Rattle.std.proofs.Math.Seq.{take-append_seam, drop-append_seam}
-use Rattle.std.specs.Prelude.{IfOk, OnErr, IsErrOf}
-use Rattle.ij_bits.specs.Room.{Listed}
 use Rattle.ij_text.specs.Places.{first_place, place_behind}
 use Rattle.icl_lexer.specs.Token.{Token}
 use Rattle.icl_lexer.specs.declared.token.Kind.{Kind}
 use Rattle.icl_lexer.specs.declared.fault.LexFault.{LexFault}
-use Rattle.icl_lexer.specs.declared.fault.LexFault.TheVariants.{BadByte, OpenComment, OpenText, OutOfMemory}
 use Rattle.icl_lexer.specs.Pieces.{kind_of}
 use Rattle.icl_lexer.specs.Cutting.{IsPiece, NoPiece, Piece, joined, AreLongest, IsCutUpTo, AreTokens, HasFault, tokens_from, fault_of}
-use Rattle.icl_lexer.specs.Answers.{Gives}
 
 abbrev some_kind : Kind → Option Kind
 some_kind k = Some k
@@ -73,36 +69,6 @@ pub fault_unique : (text : List ℕ) (f g : LexFault) → HasFault text f → Ha
 fault_unique text f g h k =
     let one = cuts_unique text h.pieces k.pieces h.rest k.rest h.cut k.cut h.stuck k.stuck in
     h.is ∙ ap (λ (r : List ℕ). fault_of r (place_behind first_place (joined h.pieces []))) one.1 ∙ ap (λ (ps : List Piece). fault_of k.rest (place_behind first_place (joined ps []))) one.0 ∙ sym k.is
-
--- ---- what a call answers
-
-pub only : (text : List ℕ) (result : Result (Listed Token) LexFault) → Gives text result → (ts : List Token) → AreTokens text ts → IfOk result (λ found. found.items ≡ ts)
-only text (Ok found) h ts t = tokens_unique text found.items ts h t
-only text (Err e) h ts t = tt
-
-pub accepted : (text : List ℕ) (result : Result (Listed Token) LexFault) → Gives text result → (ts : List Token) → AreTokens text ts → OnErr result (IsErrOf result OutOfMemory)
-accepted text (Ok found) h ts t = tt
-accepted text (Err OutOfMemory) h ts t = refl
-accepted text (Err (BadByte at)) h ts t = absurd (tokens_or_fault text ts (BadByte at) t h)
-accepted text (Err (OpenComment at)) h ts t = absurd (tokens_or_fault text ts (OpenComment at) t h)
-accepted text (Err (OpenText at)) h ts t = absurd (tokens_or_fault text ts (OpenText at) t h)
-
-abbrev err : LexFault → Result (Listed Token) LexFault
-err f = Err f
-
-pub refused : (text : List ℕ) (result : Result (Listed Token) LexFault) → Gives text result → (f : LexFault) → HasFault text f → (IsErrOf result f) ⊎ (IsErrOf result OutOfMemory)
-refused text (Ok found) h f k = absurd (tokens_or_fault text found.items f h k)
-refused text (Err OutOfMemory) h f k = inr refl
-refused text (Err (BadByte at)) h f k = inl (ap err (fault_unique text (BadByte at) f h k))
-refused text (Err (OpenComment at)) h f k = inl (ap err (fault_unique text (OpenComment at) f h k))
-refused text (Err (OpenText at)) h f k = inl (ap err (fault_unique text (OpenText at) f h k))
-
--- a fault where the text is cut up to a rest
-pub gives_fault : (text : List ℕ) (f : LexFault) → HasFault text f → Gives text (Err f)
-gives_fault text OutOfMemory h = tt
-gives_fault text (BadByte at) h = h
-gives_fault text (OpenComment at) h = h
-gives_fault text (OpenText at) h = h
 
 pub cuttings_are_one : (text : List ℕ) (ps qs : List Piece) → IsCutUpTo text ps [] → IsCutUpTo text qs [] → ps ≡ qs
 cuttings_are_one text ps qs c d = (cuts_unique text ps qs [] [] c d nothing_there nothing_there).0

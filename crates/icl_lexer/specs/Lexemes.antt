@@ -1,5 +1,5 @@
 -- What contracts see of tokens with their texts.
-use Rattle.std.specs.Prelude.{◌≡◌, ℕ, ◌+◌, ◌^◌, ◌<◌, ◌≤◌, List, [], ◌∷◌, length, Option, Some, None}
+use Rattle.std.specs.Prelude.{ℕ, ◌+◌, ◌^◌, ◌<◌, ◌≤◌, List, [], ◌∷◌, Option, Some, None}
 use Rattle.ij_text.specs.declared.Place.{Place}
 use Rattle.ij_text.specs.Places.{place_behind}
 use Rattle.icl_lexer.specs.declared.token.TokenKind.{TokenKind}
