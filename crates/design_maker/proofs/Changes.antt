@@ -1,5 +1,5 @@
 -- Changes of single things of a list.
-use Rattle.std.proofs.Common.{◌≡◌, ◌<◌, ◌+◌, ℕ, zero, suc, List, [], ◌∷◌, ◌++◌, length, take, drop, map, set, refl, ap, sym, ◌∙◌, arith}
+use Rattle.std.proofs.Common.{◌≡◌, ◌<◌, ℕ, zero, suc, List, [], ◌∷◌, ◌++◌, length, take, drop, map, set, refl, ap, sym, ◌∙◌, arith}
 use Rattle.std.specs.Prelude.{get_or}
 use Rattle.design_maker.specs.Procedure.{change_at}
 use Rattle.design_maker.specs.declared.instrument.Instrument.{Instrument}

@@ -1,5 +1,5 @@
 -- The modules that each made design has: a segment insertion bit, an instrument, and its register (IEEE 1687-2014, ICL).
-use Rattle.std.specs.Prelude.{ℕ, List, [], ◌∷◌, ◌++◌, Some, None, codes}
+use Rattle.std.specs.Prelude.{List, [], ◌∷◌, ◌++◌, Some, None, codes}
 use Rattle.icl_syntax.specs.declared.tree.PortKind.TheVariants.{ScanInPort, ScanOutPort, DataInPort, DataOutPort, SelectPort, CaptureEnPort, ShiftEnPort, UpdateEnPort, ResetPort, TCKPort, ToSelectPort, ToCaptureEnPort, ToShiftEnPort, ToUpdateEnPort, ToResetPort, ToTCKPort}
 use Rattle.icl_syntax.specs.declared.tree.LinkKind.TheVariants.{Std2001}
 use Rattle.icl_syntax.specs.Values.{ASized, AScanInSource, ACaptureSource, ALoadValue, AResetValue, APolarity, APort, ARegister, AMux, ALink, SeenLinkInstr, SeenItem, SeenModule}

@@ -1,5 +1,5 @@
 -- The network of a made design: each instrument behind its SIBs, the outermost first (IEEE 1687-2014, ICL).
-use Rattle.std.specs.Prelude.{ℕ, zero, suc, ◌+◌, ◌==◌, cond, List, [], ◌∷◌, ◌++◌, length, codes, decimal}
+use Rattle.std.specs.Prelude.{ℕ, zero, suc, ◌==◌, cond, List, [], ◌∷◌, ◌++◌, length, codes, decimal}
 use Rattle.icl_syntax.specs.declared.tree.PortKind.TheVariants.{ScanInPort, ScanOutPort}
 use Rattle.icl_syntax.specs.Values.{ADecimal, SeenItem, SeenModule}
 use Rattle.design_maker.specs.Modules.{sib_module, ins_module, wrap_module, chip_module}

@@ -5,7 +5,7 @@ use Rattle.icl_syntax.specs.declared.tree.PortKind.{PortKind}
 use Rattle.icl_syntax.specs.declared.tree.Sign.TheVariants.{Minus}
 use Rattle.icl_syntax.specs.Views.{seen_item, seen_list}
 use Rattle.design_maker.specs.declared.items.Items.{Items}
-use Rattle.icl_syntax.specs.Values.{SeenExpr, ADecimal, ASized, AQuoted, AParam, AnOp, SeenRange, APath, SeenSig, SeenProp, ASource, SeenRow, SeenBind, ABoundPort, ABoundParameter, SeenWhat, APort, AChild, AParameter, AnInterface, AnAttribute, SeenItem, SeenModule}
+use Rattle.icl_syntax.specs.Values.{SeenExpr, ADecimal, ASized, AQuoted, AParam, AnOp, SeenRange, APath, SeenSig, ASource, SeenRow, SeenBind, ABoundPort, ABoundParameter, SeenWhat, APort, AChild, AParameter, AnInterface, AnAttribute, SeenItem, SeenModule}
 
 abbrev pub module_of : List ℕ → List SeenItem → SeenModule
 module_of name items = record { name = name; at = nowhere; items = items }

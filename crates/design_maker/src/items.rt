@@ -1,13 +1,12 @@
 // The items of a module in the making.
-ghost use Rattle.std.specs.Prelude.{◌≡◌, [], ◌∷◌, map, Some, None, OnOk, IfOk};
+ghost use Rattle.std.specs.Prelude.{◌≡◌, ◌≤◌, [], ◌∷◌, length, map, Some, None, OnOk, IfOk};
 ghost use Rattle.icl_syntax.specs.Values.{ASized, APort};
-ghost use Rattle.icl_syntax.specs.Views.{seen_bind, seen_expr, seen_list, seen_module, seen_prop, seen_row, seen_sig, seen_what};
+ghost use Rattle.icl_syntax.specs.Views.{seen_bind, seen_expr, seen_few, seen_list, seen_module, seen_prop, seen_row, seen_sig, seen_what};
 ghost use Rattle.design_maker.specs.Parts.{HasAdded, attribute, bound, bound_width, instance, interface, item, module_of, mux_row, port, seen_items, sourced, wide_port, width_parameter};
 
 use crate::signals::{NOWHERE, names, one, signal, whole_width};
-use icl_syntax::{Bind, Expr, Item, Module, MuxRow, PortKind, Prop, Sig, What};
+use icl_syntax::{Bind, Expr, Few, Item, Module, MuxRow, PortKind, Prop, Sig, SmallText, What};
 use ij_bits::{List, OutOfMemory};
-use ij_text::name_of;
 use std::alloc::Global;
 
 /// The items of a module in the making, the first one first.
@@ -36,7 +35,7 @@ impl Items {
     pub fn add(&mut self, name: &[u8], what: What) -> Result<(), OutOfMemory>
         ensures { OnOk result (HasAdded self.old self.new (item name.now (seen_what what) ∷ [])) }
     {
-        let name = name_of(self.alloc, name)?;
+        let name = SmallText::of(self.alloc, name)?;
         self.items.push(Item {
             at: NOWHERE,
             name,
@@ -123,7 +122,7 @@ impl Items {
     pub fn attribute(&mut self, name: &[u8], text: &[u8]) -> Result<(), OutOfMemory>
         ensures { OnOk result (HasAdded self.old self.new (attribute name.now text.now ∷ [])) }
     {
-        let value = Some(Expr::Quoted(name_of(self.alloc, text)?));
+        let value = Some(Expr::Quoted(SmallText::of(self.alloc, text)?));
         self.add(name, What::Attribute { value })
     }
 
@@ -137,7 +136,7 @@ impl Items {
     ) -> Result<(), OutOfMemory>
         ensures { OnOk result (HasAdded self.old self.new (instance name.now of_module.now (seen_list seen_bind binds) ∷ [])) }
     {
-        let module = name_of(self.alloc, of_module)?;
+        let module = SmallText::of(self.alloc, of_module)?;
         self.add(name, What::Child { module, binds })
     }
 
@@ -147,7 +146,7 @@ impl Items {
         ensures { IfOk result (λ m. seen_module m ≡ module_of name.now (seen_items self)) }
     {
         Ok(Module {
-            name: name_of(self.alloc, name)?,
+            name: SmallText::of(self.alloc, name)?,
             at: NOWHERE,
             items: self.items,
         })
@@ -156,11 +155,12 @@ impl Items {
 
 /// An input port that is bound to a signal.
 pub(crate) fn bound(alloc: Global, name: &[u8], path: &[&[u8]]) -> Result<Bind, OutOfMemory>
+    requires { 1 ≤ length path.now }
     ensures { IfOk result (λ bind. seen_bind bind ≡ bound name.now (map (λ word. word.now) path.now)) }
 {
     Ok(Bind::Port {
         at: NOWHERE,
-        name: name_of(alloc, name)?,
+        name: SmallText::of(alloc, name)?,
         range: None,
         sigs: one(alloc, signal(alloc, path)?)?,
     })
@@ -172,16 +172,16 @@ pub(crate) fn bound_width(alloc: Global, value: Expr) -> Result<Bind, OutOfMemor
 {
     Ok(Bind::Parameter {
         at: NOWHERE,
-        name: name_of(alloc, b"W")?,
+        name: SmallText::of(alloc, b"W")?,
         value,
     })
 }
 
 /// A sized number, as the one of a concatenation.
-pub(crate) fn sized(alloc: Global, text: &[u8]) -> Result<List<Expr>, OutOfMemory>
-    ensures { IfOk result (λ value. seen_list seen_expr value ≡ ASized text.now ∷ []) }
+pub(crate) fn sized(alloc: Global, text: &[u8]) -> Result<Few<Expr>, OutOfMemory>
+    ensures { IfOk result (λ value. seen_few seen_expr value ≡ ASized text.now ∷ []) }
 {
-    one(alloc, Expr::Sized(name_of(alloc, text)?))
+    Ok(Few::one(Expr::Sized(SmallText::of(alloc, text)?)))
 }
 
 /// A row of a multiplexer that one number selects.
@@ -189,7 +189,7 @@ pub(crate) fn mux_row(alloc: Global, value: &[u8], source: &[u8]) -> Result<MuxR
     ensures { IfOk result (λ row. seen_row row ≡ mux_row value.now source.now) }
 {
     Ok(MuxRow {
-        values: one(alloc, sized(alloc, value)?)?,
+        values: Few::one(sized(alloc, value)?),
         source: signal(alloc, &[source])?,
     })
 }

@@ -6,9 +6,8 @@ ghost use Rattle.design_maker.specs.Modules.{chip_module, client_side, data_regi
 
 use crate::items::{Items, bound, bound_width, mux_row, sized};
 use crate::signals::{lowest, one, ranged, signal, the_width, whole_width};
-use icl_syntax::{LinkInstr, LinkKind, Module, PortKind, Prop, What};
+use icl_syntax::{LinkInstr, LinkKind, Module, PortKind, Prop, SmallText, What};
 use ij_bits::{List, OutOfMemory};
-use ij_text::name_of;
 use std::alloc::Global;
 
 /// The ports of a SIB on the side of the TAP.
@@ -110,7 +109,7 @@ fn add_wrap_ports(alloc: Global, items: &mut Items) -> Result<(), OutOfMemory>
     items.port(PortKind::ScanInPort, b"SI")?;
     items.port(PortKind::SelectPort, b"SEL")?;
     items.port(PortKind::TCKPort, b"TCK")?;
-    let source = ranged(alloc, &[b"R"], Some(lowest()))?;
+    let source = ranged(alloc, &[b"R"], Some(lowest(alloc)?))?;
     items.sourced(PortKind::ScanOutPort, b"SO", source)?;
     items.interface(b"client", &[b"SI", b"SEL", b"TCK", b"SO"])
 }
@@ -159,9 +158,9 @@ fn link_instr(alloc: Global) -> Result<LinkInstr, OutOfMemory>
     ensures { IfOk result (λ instr. seen_instr instr ≡ link_instruction) }
 {
     Ok(LinkInstr {
-        name: name_of(alloc, b"IJTAG")?,
-        cell: name_of(alloc, b"net")?,
-        interface: name_of(alloc, b"client")?,
+        name: SmallText::of(alloc, b"IJTAG")?,
+        cell: SmallText::of(alloc, b"net")?,
+        interface: SmallText::of(alloc, b"client")?,
     })
 }
 
@@ -172,7 +171,7 @@ pub(crate) fn chip_module(alloc: Global) -> Result<Module, OutOfMemory>
 {
     let mut items = Items::new(alloc);
     items.instance(b"net", b"Net", List::new(alloc))?;
-    let entity = name_of(alloc, b"chip")?;
+    let entity = SmallText::of(alloc, b"chip")?;
     let instrs = one(alloc, link_instr(alloc)?)?;
     items.add(
         b"tap",

@@ -1,11 +1,11 @@
 // Expressions, signals and properties of a made design, which stand at no place of a text.
-ghost use Rattle.std.specs.Prelude.{◌≡◌, [], ◌∷◌, map, option_map, IfOk};
+ghost use Rattle.std.specs.Prelude.{◌≡◌, ◌≤◌, [], ◌∷◌, length, map, option_map, IfOk};
 ghost use Rattle.icl_syntax.specs.Views.{bytes_of, seen_expr, seen_range, seen_sig};
 ghost use Rattle.design_maker.specs.Parts.{lowest, ranged, signal, the_width, whole_width};
 
-use icl_syntax::{Expr, Range, Sig, SigWhat, Sign};
+use icl_syntax::{Ends, Expr, Few, Range, Sig, SigWhat, Sign, SmallText};
 use ij_bits::{List, OutOfMemory};
-use ij_text::{Name, Place, name_of};
+use ij_text::Place;
 use std::alloc::Global;
 
 /// No place of a text.
@@ -24,7 +24,7 @@ pub(crate) fn one<T: Drop>(alloc: Global, t: T) -> Result<List<T>, OutOfMemory>
 pub(crate) fn the_width(alloc: Global) -> Result<Expr, OutOfMemory>
     ensures { IfOk result (λ expr. seen_expr expr ≡ the_width) }
 {
-    Ok(Expr::Param(NOWHERE, name_of(alloc, b"W")?))
+    Ok(Expr::Param(NOWHERE, SmallText::of(alloc, b"W")?))
 }
 
 /// `[$W-1:0]`
@@ -33,33 +33,51 @@ pub(crate) fn whole_width(alloc: Global) -> Result<Range, OutOfMemory>
 {
     let width = Box::new(alloc, the_width(alloc)?)?;
     let one = Box::new(alloc, Expr::Decimal(1))?;
-    Ok(Range {
-        at: NOWHERE,
+    let ends = Ends {
         left: Expr::Op(NOWHERE, Sign::Minus, width, one),
         right: Some(Expr::Decimal(0)),
+    };
+    Ok(Range {
+        at: NOWHERE,
+        ends: Box::new(alloc, ends)?,
     })
 }
 
 /// `[0]`
-pub(crate) fn lowest() -> Range
-    ensures { seen_range result ≡ lowest }
+pub(crate) fn lowest(alloc: Global) -> Result<Range, OutOfMemory>
+    ensures { IfOk result (λ range. seen_range range ≡ lowest) }
 {
-    Range {
-        at: NOWHERE,
+    let ends = Ends {
         left: Expr::Decimal(0),
         right: None,
-    }
+    };
+    Ok(Range {
+        at: NOWHERE,
+        ends: Box::new(alloc, ends)?,
+    })
 }
 
 /// Names of these bytes.
-pub(crate) fn names(alloc: Global, words: &[&[u8]]) -> Result<List<Name>, OutOfMemory>
+pub(crate) fn names(alloc: Global, words: &[&[u8]]) -> Result<List<SmallText>, OutOfMemory>
     ensures { IfOk result (λ names. map bytes_of names.items ≡ map (λ word. word.now) words.now) }
 {
     let mut names = List::new(alloc);
     for word in words {
-        names.push(name_of(alloc, word)?)?;
+        names.push(SmallText::of(alloc, word)?)?;
     }
     Ok(names)
+}
+
+/// A path of these bytes.
+fn path_of(alloc: Global, words: &[&[u8]]) -> Result<Few<SmallText>, OutOfMemory>
+    requires { 1 ≤ length words.now }
+    ensures { IfOk result (λ path. map bytes_of path.items ≡ map (λ word. word.now) words.now) }
+{
+    let mut path = Few::one(SmallText::of(alloc, words[0])?);
+    for word in &words[1..] {
+        path = path.with(alloc, SmallText::of(alloc, word)?)?;
+    }
+    Ok(path)
 }
 
 /// A signal: names with dots between them, and a range.
@@ -68,13 +86,14 @@ pub(crate) fn ranged(
     path: &[&[u8]],
     range: Option<Range>,
 ) -> Result<Sig, OutOfMemory>
+    requires { 1 ≤ length path.now }
     ensures { IfOk result (λ sig. seen_sig sig ≡ ranged (map (λ word. word.now) path.now) (option_map seen_range range)) }
 {
     Ok(Sig {
         at: NOWHERE,
         inverted: false,
         what: SigWhat::Named {
-            path: names(alloc, path)?,
+            path: path_of(alloc, path)?,
             range,
         },
     })
@@ -82,6 +101,7 @@ pub(crate) fn ranged(
 
 /// A signal: names with dots between them.
 pub(crate) fn signal(alloc: Global, path: &[&[u8]]) -> Result<Sig, OutOfMemory>
+    requires { 1 ≤ length path.now }
     ensures { IfOk result (λ sig. seen_sig sig ≡ signal (map (λ word. word.now) path.now)) }
 {
     ranged(alloc, path, None)

@@ -113,7 +113,7 @@ unfolding layout
 none_added old = record { added = with_none old }
 
 -- a first part, and the others behind it
-cut_first : {T A : Type 0} (c : ℕ) (f : A → List Spelling) (v : T → A) (xs : List T) (x : T) → 1 ≤ length xs → x ≡ get_or xs 0 x
+pub cut_first : {T A : Type 0} (c : ℕ) (f : A → List Spelling) (v : T → A) (xs : List T) (x : T) → 1 ≤ length xs → x ≡ get_or xs 0 x
     → separated c f (map v xs) ≡ f (v x) ++ in_turn (behind c f) (map v (take (length xs - 1) (drop 1 xs)))
 cut_first c f v [] x h is = absurd (omega arith)
 cut_first {T} c f v (y ∷ ys) x h is =
@@ -121,13 +121,6 @@ cut_first {T} c f v (y ∷ ys) x h is =
     let rest : take (length (y ∷ ys) - 1) ys ≡ ys = ap (λ n. take n ys) count ∙ take-length ys in
     ap (λ (z : T). f (v z) ++ in_turn (behind c f) (map v ys)) (sym is) ∙ ap (λ (zs : List T). f (v x) ++ in_turn (behind c f) (map v zs)) (sym rest)
 
-pub first_apart : {T A : Type 0} (c : ℕ) (f : A → List Spelling) (v : T → A) (xs items : List T) (x : T) → xs ≡ items → 1 ≤ length xs → x ≡ get_or xs 0 x
-    → separated c f (map v items) ≡ f (v x) ++ in_turn (behind c f) (map v (take (length xs - 1) (drop 1 xs)))
-first_apart {T} c f v xs items x same h is = ap (λ (zs : List T). separated c f (map v zs)) (sym same) ∙ cut_first c f v xs x h is
-
-separated_none : {T A : Type 0} (c : ℕ) (f : A → List Spelling) (v : T → A) (xs : List T) → length xs < 1 → separated c f (map v xs) ≡ []
+pub separated_none : {T A : Type 0} (c : ℕ) (f : A → List Spelling) (v : T → A) (xs : List T) → length xs < 1 → separated c f (map v xs) ≡ []
 separated_none c f v [] h = refl
 separated_none c f v (x ∷ xs) h = absurd (omega arith)
-
-pub none_separated : {T A : Type 0} (c : ℕ) (f : A → List Spelling) (v : T → A) (xs items : List T) → xs ≡ items → length xs < 1 → separated c f (map v items) ≡ []
-none_separated {T} c f v xs items same h = ap (λ (zs : List T). separated c f (map v zs)) (sym same) ∙ separated_none c f v xs h

@@ -10,10 +10,9 @@ ghost use Rattle.icl_syntax.specs.Views.{seen_list, seen_prop, seen_range, seen_
 
 use crate::put::{Put, put_braced};
 use crate::token::{Piece, put_tokens};
-use icl_syntax::{PortKind, Prop, Range, Sig};
+use icl_syntax::{PortKind, Prop, Range, Sig, SmallText};
 use ij_bits::List;
 use ij_io::{Sink, StoreFault};
-use ij_text::Name;
 
 /// The word of a kind of port.
 fn word_of(kind: PortKind) -> &'static [u8]
@@ -47,7 +46,7 @@ fn word_of(kind: PortKind) -> &'static [u8]
 }
 
 /// Writes a word of the grammar and a name behind it.
-pub(crate) fn put_named<K: Sink>(text: &[u8], name: &Name, k: &mut K) -> Result<(), StoreFault>
+pub(crate) fn put_named<K: Sink>(text: &[u8], name: &SmallText, k: &mut K) -> Result<(), StoreFault>
     ensures whole { OnOk result (Adds (K.taken k.old) (K.taken k.new) (layout (word text.now ∷ word name.now.items ∷ []))) }
     ensures part { OnErr result (AddsPart (K.taken k.old) (K.taken k.new) (layout (word text.now ∷ word name.now.items ∷ []))) }
     ensures cause { HasCause (K.faults k.old) (K.faults k.new) result StoreFault.Failed }
@@ -59,7 +58,7 @@ pub(crate) fn put_named<K: Sink>(text: &[u8], name: &Name, k: &mut K) -> Result<
 /// Writes a port.
 pub(crate) fn put_port<K: Sink>(
     kind: PortKind,
-    name: &Name,
+    name: &SmallText,
     range: &Option<Range>,
     props: &List<Prop>,
     k: &mut K,
@@ -76,7 +75,7 @@ pub(crate) fn put_port<K: Sink>(
 
 /// Writes a scan register.
 pub(crate) fn put_register<K: Sink>(
-    name: &Name,
+    name: &SmallText,
     range: &Option<Range>,
     props: &List<Prop>,
     k: &mut K,
@@ -93,7 +92,7 @@ pub(crate) fn put_register<K: Sink>(
 
 /// Writes an alias.
 pub(crate) fn put_alias<K: Sink>(
-    name: &Name,
+    name: &SmallText,
     range: &Option<Range>,
     sigs: &List<Sig>,
     props: &List<Prop>,

@@ -8,8 +8,7 @@ ghost use Rattle.icl_syntax.specs.Views.{seen_expr};
 
 use crate::put::{Put, put_if_there_behind, put_mark_if, put_separated};
 use crate::token::{Piece, put_tokens};
-use icl_syntax::{Expr, Range, Sign};
-use ij_bits::List;
+use icl_syntax::{Expr, Few, Range, Sign};
 use ij_io::{Sink, StoreFault};
 
 /// The mark of an operator.
@@ -99,20 +98,20 @@ impl Put for Expr {
 }
 
 /// The numbers of a concatenation.
-impl Put for List<Expr> {
+impl Put for Few<Expr> {
     ghost use Rattle.std.specs.Prelude.{List};
     ghost use Rattle.icl_syntax.specs.Values.{SeenExpr};
-    ghost use Rattle.icl_syntax.specs.Views.{seen_expr, seen_list};
+    ghost use Rattle.icl_syntax.specs.Views.{seen_expr, seen_few};
     ghost use Rattle.icl_printer.specs.Canonical.{value_tokens};
 
     ghost Plain = { List SeenExpr };
 
-    ghost view = { seen_list seen_expr };
+    ghost view = { seen_few seen_expr };
 
     ghost tokens = { value_tokens };
 
     fn put<K: Sink>(&self, k: &mut K) -> Result<(), StoreFault> {
-        put_separated(b',', self, k)?;
+        put_separated(b',', self.as_slice(), k)?;
         Ok(())
     }
 }
@@ -130,9 +129,10 @@ impl Put for Range {
     ghost tokens = { range_tokens };
 
     fn put<K: Sink>(&self, k: &mut K) -> Result<(), StoreFault> {
+        let ends = &*self.ends;
         put_tokens(&[Piece::Mark(b'[')], k)?;
-        self.left.put(k)?;
-        put_if_there_behind(b':', &self.right, k)?;
+        ends.left.put(k)?;
+        put_if_there_behind(b':', &ends.right, k)?;
         put_tokens(&[Piece::Mark(b']')], k)?;
         Ok(())
     }

@@ -11,14 +11,13 @@ use crate::bodies::{put_alias, put_named, put_port, put_register};
 use crate::parts::put_attribute;
 use crate::put::{Put, put_all, put_braced};
 use crate::token::{Piece, put_tokens};
-use icl_syntax::{Bind, EnumWord, Expr, Item, LinkInstr, LinkKind, MuxRow, Sig, What};
+use icl_syntax::{Bind, EnumWord, Expr, Item, LinkInstr, LinkKind, MuxRow, Sig, SmallText, What};
 use ij_bits::List;
 use ij_io::{Sink, StoreFault};
-use ij_text::Name;
 
 /// Writes a scan multiplexer.
 fn put_mux<K: Sink>(
-    name: &Name,
+    name: &SmallText,
     select: &List<Sig>,
     rows: &List<MuxRow>,
     k: &mut K,
@@ -44,8 +43,8 @@ fn put_mux<K: Sink>(
 
 /// Writes an instance.
 fn put_child<K: Sink>(
-    name: &Name,
-    of: &Name,
+    name: &SmallText,
+    of: &SmallText,
     binds: &List<Bind>,
     k: &mut K,
 ) -> Result<(), StoreFault>
@@ -60,7 +59,7 @@ fn put_child<K: Sink>(
 }
 
 /// Writes an enumeration.
-fn put_words<K: Sink>(name: &Name, words: &List<EnumWord>, k: &mut K) -> Result<(), StoreFault>
+fn put_words<K: Sink>(name: &SmallText, words: &List<EnumWord>, k: &mut K) -> Result<(), StoreFault>
     ensures whole { OnOk result (Adds (K.taken k.old) (K.taken k.new) (layout (words_tokens name.now.items (seen_list seen_enum_word words.now)))) }
     ensures part { OnErr result (AddsPart (K.taken k.old) (K.taken k.new) (layout (words_tokens name.now.items (seen_list seen_enum_word words.now)))) }
     ensures cause { HasCause (K.faults k.old) (K.faults k.new) result StoreFault.Failed }
@@ -87,7 +86,7 @@ fn parameter_word_of(local: bool) -> &'static [u8]
 
 /// Writes a parameter.
 fn put_parameter<K: Sink>(
-    name: &Name,
+    name: &SmallText,
     local: bool,
     value: &Expr,
     k: &mut K,
@@ -104,7 +103,7 @@ fn put_parameter<K: Sink>(
 }
 
 /// Writes the ports of an interface.
-fn put_ports<K: Sink>(ports: &List<Name>, k: &mut K) -> Result<(), StoreFault>
+fn put_ports<K: Sink>(ports: &List<SmallText>, k: &mut K) -> Result<(), StoreFault>
     ensures whole { OnOk result (Adds (K.taken k.old) (K.taken k.new) (layout (in_turn member_tokens (seen_list bytes_of ports.now)))) }
     ensures part { OnErr result (AddsPart (K.taken k.old) (K.taken k.new) (layout (in_turn member_tokens (seen_list bytes_of ports.now)))) }
     ensures cause { HasCause (K.faults k.old) (K.faults k.new) result StoreFault.Failed }
@@ -119,7 +118,11 @@ fn put_ports<K: Sink>(ports: &List<Name>, k: &mut K) -> Result<(), StoreFault>
 }
 
 /// Writes a scan interface.
-fn put_interface<K: Sink>(name: &Name, ports: &List<Name>, k: &mut K) -> Result<(), StoreFault>
+fn put_interface<K: Sink>(
+    name: &SmallText,
+    ports: &List<SmallText>,
+    k: &mut K,
+) -> Result<(), StoreFault>
     ensures whole { OnOk result (Adds (K.taken k.old) (K.taken k.new) (layout (interface_tokens name.now.items (seen_list bytes_of ports.now)))) }
     ensures part { OnErr result (AddsPart (K.taken k.old) (K.taken k.new) (layout (interface_tokens name.now.items (seen_list bytes_of ports.now)))) }
     ensures cause { HasCause (K.faults k.old) (K.faults k.new) result StoreFault.Failed }
@@ -149,9 +152,9 @@ fn standard_of(kind: LinkKind) -> &'static [u8]
 
 /// Writes an access link.
 fn put_link<K: Sink>(
-    name: &Name,
+    name: &SmallText,
     kind: LinkKind,
-    entity: &Name,
+    entity: &SmallText,
     instrs: &List<LinkInstr>,
     k: &mut K,
 ) -> Result<(), StoreFault>

@@ -9,10 +9,28 @@ ghost use Rattle.icl_syntax.specs.Views.{seen_expr, seen_list, seen_range, seen_
 
 use crate::put::{Put, put_if_there_behind, put_separated};
 use crate::token::{Piece, put_tokens};
-use icl_syntax::{Bind, EnumWord, Expr, LinkInstr, MuxRow, Range, Sig};
+use icl_syntax::{Bind, EnumWord, Expr, Few, LinkInstr, MuxRow, Range, Sig, SmallText};
 use ij_bits::List;
 use ij_io::{Sink, StoreFault};
-use ij_text::Name;
+
+/// The values that select a row.
+impl Put for Few<Few<Expr>> {
+    ghost use Rattle.std.specs.Prelude.{List};
+    ghost use Rattle.icl_syntax.specs.Values.{SeenExpr};
+    ghost use Rattle.icl_syntax.specs.Views.{seen_expr, seen_few};
+    ghost use Rattle.icl_printer.specs.Canonical.{separated, value_tokens};
+
+    ghost Plain = { List (List SeenExpr) };
+
+    ghost view = { seen_few (seen_few seen_expr) };
+
+    ghost tokens = { separated 124 value_tokens };
+
+    fn put<K: Sink>(&self, k: &mut K) -> Result<(), StoreFault> {
+        put_separated(b'|', self.as_slice(), k)?;
+        Ok(())
+    }
+}
 
 /// A row of a multiplexer.
 impl Put for MuxRow {
@@ -27,7 +45,7 @@ impl Put for MuxRow {
     ghost tokens = { row_tokens };
 
     fn put<K: Sink>(&self, k: &mut K) -> Result<(), StoreFault> {
-        put_separated(b'|', &self.values, k)?;
+        self.values.put(k)?;
         put_tokens(&[Piece::Mark(b':')], k)?;
         self.source.put(k)?;
         put_tokens(&[Piece::Mark(b';')], k)?;
@@ -37,7 +55,7 @@ impl Put for MuxRow {
 
 /// Writes an attribute.
 pub(crate) fn put_attribute<K: Sink>(
-    name: &Name,
+    name: &SmallText,
     value: &Option<Expr>,
     k: &mut K,
 ) -> Result<(), StoreFault>
@@ -53,7 +71,7 @@ pub(crate) fn put_attribute<K: Sink>(
 
 /// Writes what an input port is bound to.
 fn put_port_binding<K: Sink>(
-    name: &Name,
+    name: &SmallText,
     range: &Option<Range>,
     sigs: &List<Sig>,
     k: &mut K,
@@ -71,7 +89,11 @@ fn put_port_binding<K: Sink>(
 }
 
 /// Writes the value that a parameter is bound to.
-fn put_parameter_binding<K: Sink>(name: &Name, value: &Expr, k: &mut K) -> Result<(), StoreFault>
+fn put_parameter_binding<K: Sink>(
+    name: &SmallText,
+    value: &Expr,
+    k: &mut K,
+) -> Result<(), StoreFault>
     ensures whole { OnOk result (Adds (K.taken k.old) (K.taken k.new) (layout (parameter_binding_tokens name.now.items (seen_expr value.now)))) }
     ensures part { OnErr result (AddsPart (K.taken k.old) (K.taken k.new) (layout (parameter_binding_tokens name.now.items (seen_expr value.now)))) }
     ensures cause { HasCause (K.faults k.old) (K.faults k.new) result StoreFault.Failed }

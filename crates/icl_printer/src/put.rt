@@ -69,14 +69,14 @@ pub(crate) fn put_behind<T: Put, K: Sink>(mark: u8, part: &T, k: &mut K) -> Resu
 /// Writes parts with a mark between two.
 pub(crate) fn put_separated<T: Put + Drop, K: Sink>(
     mark: u8,
-    parts: &List<T>,
+    parts: &[T],
     k: &mut K,
 ) -> Result<(), StoreFault>
-    ensures whole { OnOk result (Adds (K.taken k.old) (K.taken k.new) (layout (separated mark T.tokens (map T.view parts.now.items)))) }
-    ensures part { OnErr result (AddsPart (K.taken k.old) (K.taken k.new) (layout (separated mark T.tokens (map T.view parts.now.items)))) }
+    ensures whole { OnOk result (Adds (K.taken k.old) (K.taken k.new) (layout (separated mark T.tokens (map T.view parts.now)))) }
+    ensures part { OnErr result (AddsPart (K.taken k.old) (K.taken k.new) (layout (separated mark T.tokens (map T.view parts.now)))) }
     ensures cause { HasCause (K.faults k.old) (K.faults k.new) result StoreFault.Failed }
 {
-    if let [first, rest @ ..] = parts.as_slice() {
+    if let [first, rest @ ..] = parts {
         first.put(k)?;
         put_each_behind(mark, rest, k)?;
     }

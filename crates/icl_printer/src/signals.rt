@@ -1,24 +1,42 @@
 // Names and signals.
 use crate::put::{Put, put_mark_if, put_separated};
 use crate::token::{Piece, put_tokens};
-use icl_syntax::{Sig, SigWhat};
+use icl_syntax::{Few, Sig, SigWhat, SmallText};
 use ij_bits::List;
 use ij_io::{Sink, StoreFault};
-use ij_text::Name;
 
 /// A name.
-impl Put for Name {
+impl Put for SmallText {
     ghost use Rattle.std.specs.Prelude.{ℕ, List};
+    ghost use Rattle.icl_syntax.specs.Views.{bytes_of};
     ghost use Rattle.icl_printer.specs.Canonical.{name_tokens};
 
     ghost Plain = { List ℕ };
 
-    ghost view = { λ name. name.items };
+    ghost view = { bytes_of };
 
     ghost tokens = { name_tokens };
 
     fn put<K: Sink>(&self, k: &mut K) -> Result<(), StoreFault> {
         put_tokens(&[Piece::Name(self)], k)?;
+        Ok(())
+    }
+}
+
+/// A path.
+impl Put for Few<SmallText> {
+    ghost use Rattle.std.specs.Prelude.{ℕ, List};
+    ghost use Rattle.icl_syntax.specs.Views.{bytes_of, seen_few};
+    ghost use Rattle.icl_printer.specs.Canonical.{name_tokens, separated};
+
+    ghost Plain = { List (List ℕ) };
+
+    ghost view = { seen_few bytes_of };
+
+    ghost tokens = { separated 46 name_tokens };
+
+    fn put<K: Sink>(&self, k: &mut K) -> Result<(), StoreFault> {
+        put_separated(b'.', self.as_slice(), k)?;
         Ok(())
     }
 }
@@ -39,7 +57,7 @@ impl Put for SigWhat {
         match self {
             SigWhat::Value(number) => number.put(k)?,
             SigWhat::Named { path, range } => {
-                put_separated(b'.', path, k)?;
+                path.put(k)?;
                 range.put(k)?;
             }
         }
@@ -80,7 +98,7 @@ impl Put for List<Sig> {
     ghost tokens = { signals_tokens };
 
     fn put<K: Sink>(&self, k: &mut K) -> Result<(), StoreFault> {
-        put_separated(b',', self, k)?;
+        put_separated(b',', self.as_slice(), k)?;
         Ok(())
     }
 }

@@ -5,24 +5,23 @@ ghost use Rattle.ij_io.specs.Causes.{HasCause};
 ghost use Rattle.icl_printer.specs.Layout.{layout, gap_behind, laid};
 ghost use Rattle.icl_printer.specs.Pieces.{spelled};
 
-use ij_bits::List;
+use icl_syntax::SmallText;
 use ij_io::{Sink, StoreFault, Word, put_words};
-use ij_text::{Name, Text};
 
 /// A token to be written.
 #[derive(Clone, Copy)]
 pub(crate) enum Piece<'a> {
     /// A word of the grammar.
     Word(&'a [u8]),
-    Name(&'a Name),
+    Name(&'a SmallText),
     Mark(u8),
     Decimal(u32),
     /// A sized number, the bytes of its token.
-    Sized(&'a Text),
+    Sized(&'a SmallText),
     /// A text, without its quotes.
-    Quoted(&'a Text),
+    Quoted(&'a SmallText),
     /// A parameter, without its `$`.
-    Param(&'a Name),
+    Param(&'a SmallText),
 }
 
 /// The blank behind a mark: a line end behind `;`, `{` and `}`, and a space behind any other.

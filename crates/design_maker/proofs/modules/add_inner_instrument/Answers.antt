@@ -1,4 +1,4 @@
-use Rattle.std.proofs.Common.{[], ◌∷◌, ◌++◌, codes, map, ap, ◌∙◌}
+use Rattle.std.proofs.Common.{codes, map, ap, ◌∙◌}
 use Rattle.icl_syntax.specs.Views.{seen_bind}
 use Rattle.design_maker.specs.Parts.{bound_width, instance}
 use Rattle.design_maker.proofs.Adding.{added_as, at_last, pushed}

@@ -1,4 +1,4 @@
-use Rattle.std.proofs.Common.{[], ◌∷◌, ◌++◌, codes, map, ap, ◌∙◌}
+use Rattle.std.proofs.Common.{codes, map, ap}
 use Rattle.icl_syntax.specs.Values.{AMux}
 use Rattle.icl_syntax.specs.Views.{seen_row, seen_sig}
 use Rattle.design_maker.specs.Parts.{item}

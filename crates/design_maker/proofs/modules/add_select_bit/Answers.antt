@@ -1,4 +1,4 @@
-use Rattle.std.proofs.Common.{[], ◌∷◌, ◌++◌, None, codes, map, ap, ◌∙◌}
+use Rattle.std.proofs.Common.{None, codes, map, ap}
 use Rattle.icl_syntax.specs.Values.{AScanInSource, ACaptureSource, AResetValue, ARegister}
 use Rattle.icl_syntax.specs.Views.{seen_prop, seen_sig}
 use Rattle.design_maker.specs.Parts.{item}

@@ -1,4 +1,4 @@
-use Rattle.std.proofs.Common.{[], ◌∷◌, ◌++◌, codes, map, ap, ◌∙◌}
+use Rattle.std.proofs.Common.{[], ◌∷◌, codes, map, ap, ◌∙◌}
 use Rattle.icl_syntax.specs.Values.{ADecimal}
 use Rattle.icl_syntax.specs.Views.{seen_bind}
 use Rattle.design_maker.specs.Parts.{bound, bound_width, instance}

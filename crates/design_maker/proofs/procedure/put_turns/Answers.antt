@@ -1,5 +1,5 @@
 use Rattle.std.proofs.Common.{◌≡◌, suc, ◌*◌, ◌-◌, ◌+◌, ◌++◌, length, arith, ap, ◌∙◌}
-use Rattle.design_maker.specs.Procedure.{turn_text, turns_text}
+use Rattle.design_maker.specs.Procedure.{turns_text}
 use Rattle.design_maker.proofs.Loops.{turn_next, same_count}
 use Rattle.design_maker.proofs.procedure.put_turns.Goals as goal
 

@@ -1,4 +1,4 @@
-use Rattle.std.proofs.Common.{◌≡◌, ◌<◌, ◌+◌, length, set, arith, ap, ◌∙◌, length-set}
+use Rattle.std.proofs.Common.{◌<◌, ◌+◌, length, set, arith, ap, ◌∙◌, length-set}
 use Rattle.design_maker.specs.Procedure.{run}
 use Rattle.design_maker.proofs.Changes.{one_changed}
 use Rattle.design_maker.proofs.procedure.run_all.Goals as goal
