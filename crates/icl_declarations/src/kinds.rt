@@ -3,7 +3,7 @@ ghost use Rattle.std.specs.Prelude.{◌≡◌};
 ghost use Rattle.icl_syntax.specs.Views.{seen_what};
 ghost use Rattle.icl_declarations.specs.Parts.{is_scan_in, is_scan_out, is_data_in, is_data_out, is_control_in, is_input, is_register, is_mux, is_child, is_signal, is_interface, is_link, is_enum, is_parameter, is_part};
 
-use icl_syntax::{PortKind, Prop, What};
+use icl_syntax::{PortKind, What};
 
 /// A `ScanInPort`.
 pub fn is_scan_in(kind: PortKind) -> bool

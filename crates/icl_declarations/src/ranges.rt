@@ -69,8 +69,8 @@ fn right_or(
 pub fn indices(alloc: Global, params: &ParamTable, r: &Range) -> Result<Bounds, ElabFault>
     ensures { Gives same result (indices (seen_table params.now) (seen_range r.now)) }
 {
-    let left = integer(alloc, params, &r.left, r.at)?;
-    let right = right_or(alloc, params, r.at, left, &r.right)?;
+    let left = integer(alloc, params, &r.ends.left, r.at)?;
+    let right = right_or(alloc, params, r.at, left, &r.ends.right)?;
     Ok(Bounds { left, right })
 }
 

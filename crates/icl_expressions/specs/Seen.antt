@@ -1,5 +1,5 @@
 -- What the functions of the parser take and give, without where it lies in memory.
-use Rattle.std.specs.Prelude.{◌≡◌, List, map, Result, Ok, Err}
+use Rattle.std.specs.Prelude.{◌≡◌, List, Result, Ok, Err}
 use Rattle.grammar.specs.Reading.{Stop as Unfit}
 use Rattle.icl_syntax.specs.declared.words.Limit.{Limit}
 use Rattle.icl_lexer.specs.Seen.{SeenToken}
@@ -7,20 +7,13 @@ use Rattle.icl_syntax.specs.Grammar.{Counted, Signed}
 use Rattle.icl_syntax.specs.Views.{seen_expr}
 use Rattle.icl_expressions.specs.declared.stop.Stop.{Stop}
 use Rattle.icl_expressions.specs.declared.stop.Stop.TheVariants.{Memory, At}
-use Rattle.icl_expressions.specs.declared.lexeme.Lexeme.{Lexeme}
-use Rattle.icl_expressions.specs.declared.lexeme.Read.{Read}
+use Rattle.icl_expressions.specs.declared.reading.Read.{Read}
 use Rattle.icl_expressions.specs.declared.expressions.Counting.{Counting}
 use Rattle.icl_expressions.specs.declared.signs.SignAt.{SignAt}
 
-abbrev pub tok : Lexeme → SeenToken
-tok l = record { kind = l.kind; at = l.at; text = l.text.now }
-
-abbrev pub toks : List Lexeme → List SeenToken
-toks ls = map tok ls
-
 -- a value and the tokens behind it
 abbrev pub seen_read : {X Y : Type 0} → (X → Y) → Read X → Y × List SeenToken
-seen_read view r = (view r.value, toks r.rest.now)
+seen_read view r = (view r.value, r.rest)
 
 abbrev pub same : {X : Type 0} → X → X
 same x = x

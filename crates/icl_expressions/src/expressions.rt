@@ -3,15 +3,16 @@ ghost use Rattle.std.specs.Prelude.{◌≡◌, ◌≤◌, ◌<◌, ◌+◌, true
 ghost use Rattle.grammar.specs.Reading.{read_barred};
 ghost use Rattle.icl_syntax.specs.Grammar.{too_deep, sum_sign, product_sign, with_operand};
 ghost use Rattle.icl_syntax.specs.Views.{seen_expr};
-ghost use Rattle.icl_expressions.specs.Seen.{toks, seen_read, seen_counting, seen_sign, Gives};
+ghost use Rattle.icl_expressions.specs.Seen.{seen_read, seen_counting, seen_sign, Gives};
 ghost use Rattle.icl_expressions.specs.Reading.{read_put, read_operand, read_factor, read_term, read_sum, read_parentheses, read_expr, joined};
 
 use crate::leaves::read_leaf;
-use crate::lexeme::{Lexeme, Read, begins_mark, read_mark};
+use crate::reading::{Read, begins_mark, read_mark};
 use crate::signs::{
     SignAt, begins_product_sign, begins_sum_sign, read_product_sign, read_sum_sign,
 };
 use crate::stop::Stop;
+use icl_lexer::Cursor;
 use icl_syntax::{Expr, Limit};
 use std::alloc::Global;
 
@@ -25,14 +26,15 @@ pub(crate) struct Counting {
 }
 
 /// No further level of parentheses.
-fn too_deep<'a>(tokens: &'a [Lexeme<'a>]) -> Result<Read<'a, Counting>, Stop>
+fn too_deep<'a>(tokens: Cursor<'a>) -> Result<Read<'a, Counting>, Stop>
     ensures bounded { IfOk result (λ r. r.value.used ≤ 256) }
-    ensures shorter { IfOk result (λ r. length r.rest.now < length tokens.now) }
-    ensures gives { Gives (seen_read seen_counting) result (read_barred too_deep (toks tokens.now)) }
+    ensures shorter { IfOk result (λ r. length r.rest < length tokens.entry) }
+    ensures gives { Gives (seen_read seen_counting) result (read_barred too_deep tokens.entry) }
 {
-    match tokens {
-        [t, ..] if t.is_mark(b'(') => Err(Stop::At(tokens.len(), Some(Limit::OfExpression))),
-        _ => Err(Stop::At(tokens.len(), None)),
+    let left = tokens.len();
+    match tokens.first() {
+        Some(t) if t.is_mark(b'(') => Err(Stop::At(left, Some(Limit::OfExpression))),
+        _ => Err(Stop::At(left, None)),
     }
 }
 
@@ -41,17 +43,17 @@ fn too_deep<'a>(tokens: &'a [Lexeme<'a>]) -> Result<Read<'a, Counting>, Stop>
 #[tactic(auto, using(crate::proofs::Factors::factor_steps))]
 fn factor<'a>(
     alloc: Global,
-    tokens: &'a [Lexeme<'a>],
+    tokens: Cursor<'a>,
     depth: u32,
     alone: bool,
     used: u32,
 ) -> Result<Read<'a, Counting>, Stop>
     requires { used ≤ 256 }
     ensures bounded { IfOk result (λ r. r.value.used ≤ 256) }
-    ensures shorter { IfOk result (λ r. length r.rest.now < length tokens.now) }
-    ensures gives { Gives (seen_read seen_counting) result (read_factor depth alone used (toks tokens.now)) }
+    ensures shorter { IfOk result (λ r. length r.rest < length tokens.entry) }
+    ensures gives { Gives (seen_read seen_counting) result (read_factor depth alone used tokens.entry) }
 {
-    if !begins_mark(tokens, b'(') {
+    if !begins_mark(&tokens, b'(') {
         read_leaf(alloc, tokens, alone, used)
     } else if depth == 0 {
         too_deep(tokens)
@@ -64,14 +66,14 @@ fn factor<'a>(
 #[tactic(auto, unfolding(crate::specs::Reading::read_parentheses))]
 fn in_parentheses<'a>(
     alloc: Global,
-    tokens: &'a [Lexeme<'a>],
+    tokens: Cursor<'a>,
     depth: u32,
     used: u32,
 ) -> Result<Read<'a, Counting>, Stop>
     requires { used ≤ 256 }
     ensures bounded { IfOk result (λ r. r.value.used ≤ 256) }
-    ensures shorter { IfOk result (λ r. length r.rest.now < length tokens.now) }
-    ensures gives { Gives (seen_read seen_counting) result (read_parentheses (read_sum depth) used (toks tokens.now)) }
+    ensures shorter { IfOk result (λ r. length r.rest < length tokens.entry) }
+    ensures gives { Gives (seen_read seen_counting) result (read_parentheses (read_sum depth) used tokens.entry) }
 {
     let open = read_mark(tokens, b'(')?;
     let inner = sum(alloc, open.rest, depth, used)?;
@@ -90,18 +92,18 @@ fn in_parentheses<'a>(
 #[cycle(expressions)]
 fn product<'a>(
     alloc: Global,
-    tokens: &'a [Lexeme<'a>],
+    tokens: Cursor<'a>,
     depth: u32,
     alone: bool,
     used: u32,
 ) -> Result<Read<'a, Counting>, Stop>
     requires { used ≤ 256 }
     ensures bounded { IfOk result (λ r. r.value.used ≤ 256) }
-    ensures shorter { IfOk result (λ r. length r.rest.now < length tokens.now) }
-    ensures gives { Gives (seen_read seen_counting) result (read_term depth alone used (toks tokens.now)) }
+    ensures shorter { IfOk result (λ r. length r.rest < length tokens.entry) }
+    ensures gives { Gives (seen_read seen_counting) result (read_term depth alone used tokens.entry) }
 {
     let mut left = factor(alloc, tokens, depth, alone, used)?;
-    while begins_product_sign(left.rest) {
+    while begins_product_sign(&left.rest) {
         left = with_factor(alloc, left, depth)?;
     }
     Ok(left)
@@ -117,8 +119,8 @@ fn with_factor<'a>(
 ) -> Result<Read<'a, Counting>, Stop>
     requires { left.value.used ≤ 256 }
     ensures bounded { IfOk result (λ r. r.value.used ≤ 256) }
-    ensures shorter { IfOk result (λ r. length r.rest.now < length left.entry.rest.now) }
-    ensures gives { Gives (seen_read seen_counting) result (read_put (read_operand (read_factor depth false) product_sign (seen_counting left.entry.value)) with_operand (seen_counting left.entry.value) (toks left.entry.rest.now)) }
+    ensures shorter { IfOk result (λ r. length r.rest < length left.entry.rest) }
+    ensures gives { Gives (seen_read seen_counting) result (read_put (read_operand (read_factor depth false) product_sign (seen_counting left.entry.value)) with_operand (seen_counting left.entry.value) left.entry.rest) }
 {
     let sign = read_product_sign(left.rest, left.value.used, left.value.lone)?;
     let right = factor(alloc, sign.rest, depth, false, left.value.used + 1)?;
@@ -129,17 +131,17 @@ fn with_factor<'a>(
 #[cycle(expressions)]
 fn sum<'a>(
     alloc: Global,
-    tokens: &'a [Lexeme<'a>],
+    tokens: Cursor<'a>,
     depth: u32,
     used: u32,
 ) -> Result<Read<'a, Counting>, Stop>
     requires { used ≤ 256 }
     ensures bounded { IfOk result (λ r. r.value.used ≤ 256) }
-    ensures shorter { IfOk result (λ r. length r.rest.now < length tokens.now) }
-    ensures gives { Gives (seen_read seen_counting) result (read_sum depth used (toks tokens.now)) }
+    ensures shorter { IfOk result (λ r. length r.rest < length tokens.entry) }
+    ensures gives { Gives (seen_read seen_counting) result (read_sum depth used tokens.entry) }
 {
     let mut left = product(alloc, tokens, depth, true, used)?;
-    while begins_sum_sign(left.rest) {
+    while begins_sum_sign(&left.rest) {
         left = with_product(alloc, left, depth)?;
     }
     Ok(left)
@@ -155,8 +157,8 @@ fn with_product<'a>(
 ) -> Result<Read<'a, Counting>, Stop>
     requires { left.value.used ≤ 256 }
     ensures bounded { IfOk result (λ r. r.value.used ≤ 256) }
-    ensures shorter { IfOk result (λ r. length r.rest.now < length left.entry.rest.now) }
-    ensures gives { Gives (seen_read seen_counting) result (read_put (read_operand (read_term depth false) sum_sign (seen_counting left.entry.value)) with_operand (seen_counting left.entry.value) (toks left.entry.rest.now)) }
+    ensures shorter { IfOk result (λ r. length r.rest < length left.entry.rest) }
+    ensures gives { Gives (seen_read seen_counting) result (read_put (read_operand (read_term depth false) sum_sign (seen_counting left.entry.value)) with_operand (seen_counting left.entry.value) left.entry.rest) }
 {
     let sign = read_sum_sign(left.rest, left.value.used, left.value.lone)?;
     let right = product(alloc, sign.rest, depth, false, left.value.used + 1)?;
@@ -171,8 +173,8 @@ fn joined<'a>(
     right: Read<'a, Counting>,
 ) -> Result<Read<'a, Counting>, Stop>
     ensures counted { IfOk result (λ r. r.value.used ≡ right.entry.value.used) }
-    ensures rest { IfOk result (λ r. length r.rest.now ≡ length right.entry.rest.now) }
-    ensures gives { Gives (seen_read seen_counting) result (joined (seen_counting left) (seen_sign sign) (seen_counting right.entry.value) (toks right.entry.rest.now)) }
+    ensures rest { IfOk result (λ r. length r.rest ≡ length right.entry.rest) }
+    ensures gives { Gives (seen_read seen_counting) result (joined (seen_counting left) (seen_sign sign) (seen_counting right.entry.value) right.entry.rest) }
 {
     let rest = right.rest;
     let right = right.value;
@@ -190,9 +192,9 @@ fn joined<'a>(
 
 /// An expression: at most 64 levels of parentheses and 256 operators.
 #[tactic(auto, unfolding(crate::specs::Reading::read_expr))]
-pub(crate) fn read_expr<'a>(alloc: Global, tokens: &'a [Lexeme<'a>]) -> Result<Read<'a, Expr>, Stop>
-    ensures shorter { IfOk result (λ r. length r.rest.now < length tokens.now) }
-    ensures gives { Gives (seen_read seen_expr) result (read_expr (toks tokens.now)) }
+pub(crate) fn read_expr<'a>(alloc: Global, tokens: Cursor<'a>) -> Result<Read<'a, Expr>, Stop>
+    ensures shorter { IfOk result (λ r. length r.rest < length tokens.entry) }
+    ensures gives { Gives (seen_read seen_expr) result (read_expr tokens.entry) }
 {
     let read = sum(alloc, tokens, 64, 0)?;
     Ok(Read {

@@ -1,20 +1,20 @@
 // The tokens that are expressions by themselves.
 ghost use Rattle.std.specs.Prelude.{◌≡◌, ◌-◌, ◌<◌, ◌≤◌, ◌+◌, ◌*◌, ◌==◌, cond, length, drop, slice_range, IfOk, Option, true, Some, None};
 ghost use Rattle.std.specs.Option.{option_map};
+ghost use Rattle.icl_lexer.specs.Lexemes.{tok};
 ghost use Rattle.icl_syntax.specs.Tokens.{decimal_of, decimal_at};
 ghost use Rattle.icl_syntax.specs.Values.{ASized};
 ghost use Rattle.icl_syntax.specs.Grammar.{number_of, leaf_at, with_count};
 ghost use Rattle.icl_syntax.specs.Views.{seen_expr};
-ghost use Rattle.icl_expressions.specs.Seen.{tok, toks, seen_read, seen_counting, same, Gives};
+ghost use Rattle.icl_expressions.specs.Seen.{seen_read, seen_counting, same, Gives};
 ghost use Rattle.icl_expressions.specs.Reading.{read_leaf, read_decimal};
 
 use crate::expressions::Counting;
-use crate::lexeme::{Lexeme, Read};
+use crate::reading::Read;
 use crate::stop::Stop;
-use icl_lexer::TokenKind;
-use icl_syntax::Expr;
+use icl_lexer::{Cursor, Lexeme, TokenKind};
+use icl_syntax::{Expr, SmallText};
 use ij_bits::OutOfMemory;
-use ij_text::name_of;
 use std::alloc::Global;
 
 /// The value of a decimal with one more byte.
@@ -70,8 +70,11 @@ pub(crate) fn number_value(alloc: Global, t: &Lexeme) -> Result<Option<Expr>, Ou
 {
     match t.kind {
         TokenKind::Decimal => Ok(decimal(t.text).map(Expr::Decimal)),
-        TokenKind::Sized => Ok(Some(Expr::Sized(name_of(alloc, t.text)?))),
-        TokenKind::Param => Ok(Some(Expr::Param(t.at, name_of(alloc, behind_first(t.text))?))),
+        TokenKind::Sized => Ok(Some(Expr::Sized(SmallText::of(alloc, t.text)?))),
+        TokenKind::Param => Ok(Some(Expr::Param(
+            t.at,
+            SmallText::of(alloc, behind_first(t.text))?,
+        ))),
         TokenKind::Word | TokenKind::Quoted | TokenKind::Mark => Ok(None),
     }
 }
@@ -89,7 +92,7 @@ fn sized_value(
         return Ok(None);
     }
     Ok(Some(Counting {
-        expr: Expr::Sized(name_of(alloc, text)?),
+        expr: Expr::Sized(SmallText::of(alloc, text)?),
         used,
         lone: true,
     }))
@@ -121,11 +124,11 @@ fn leaf_value(
             None => Ok(None),
         },
         TokenKind::Param => {
-            let name = name_of(alloc, behind_first(t.text))?;
+            let name = SmallText::of(alloc, behind_first(t.text))?;
             Ok(counted(Expr::Param(t.at, name), used))
         }
         TokenKind::Quoted => {
-            let text = name_of(alloc, between_ends(t.text))?;
+            let text = SmallText::of(alloc, between_ends(t.text))?;
             Ok(counted(Expr::Quoted(text), used))
         }
         TokenKind::Sized => sized_value(alloc, t.text, alone, used),
@@ -136,34 +139,36 @@ fn leaf_value(
 /// An expression of one token.
 pub(crate) fn read_leaf<'a>(
     alloc: Global,
-    tokens: &'a [Lexeme<'a>],
+    tokens: Cursor<'a>,
     alone: bool,
     used: u32,
 ) -> Result<Read<'a, Counting>, Stop>
     ensures counted { IfOk result (λ r. r.value.used ≡ used) }
-    ensures shorter { IfOk result (λ r. length r.rest.now < length tokens.now) }
-    ensures gives { Gives (seen_read seen_counting) result (read_leaf alone used (toks tokens.now)) }
+    ensures shorter { IfOk result (λ r. length r.rest < length tokens.entry) }
+    ensures gives { Gives (seen_read seen_counting) result (read_leaf alone used tokens.entry) }
 {
-    match tokens {
-        [t, rest @ ..] => match leaf_value(alloc, t, alone, used)? {
+    let left = tokens.len();
+    match tokens.next() {
+        Some((t, rest)) => match leaf_value(alloc, &t, alone, used)? {
             Some(value) => Ok(Read { value, rest }),
-            None => Err(Stop::At(tokens.len(), None)),
+            None => Err(Stop::At(left, None)),
         },
-        [] => Err(Stop::At(0, None)),
+        None => Err(Stop::At(0, None)),
     }
 }
 
 /// A decimal.
-pub fn read_decimal<'a>(tokens: &'a [Lexeme<'a>]) -> Result<Read<'a, u32>, Stop>
-    ensures shorter { IfOk result (λ r. length r.rest.now < length tokens.now) }
-    ensures gives { Gives (seen_read same) result (read_decimal (toks tokens.now)) }
+pub fn read_decimal<'a>(tokens: Cursor<'a>) -> Result<Read<'a, u32>, Stop>
+    ensures shorter { IfOk result (λ r. length r.rest < length tokens.entry) }
+    ensures gives { Gives (seen_read same) result (read_decimal tokens.entry) }
 {
-    match tokens {
-        [t, rest @ ..] => match decimal_value(t) {
+    let left = tokens.len();
+    match tokens.next() {
+        Some((t, rest)) => match decimal_value(&t) {
             Some(value) => Ok(Read { value, rest }),
-            None => Err(Stop::At(tokens.len(), None)),
+            None => Err(Stop::At(left, None)),
         },
-        [] => Err(Stop::At(0, None)),
+        None => Err(Stop::At(0, None)),
     }
 }
 

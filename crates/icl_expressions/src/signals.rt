@@ -1,19 +1,22 @@
 // Values, ranges and signals.
 ghost use Rattle.std.specs.Prelude.{◌<◌, ◌≤◌, [], IfOk, length};
 ghost use Rattle.std.specs.Option.{option_map};
-ghost use Rattle.icl_syntax.specs.Views.{bytes_of, seen_expr, seen_list, seen_range, seen_sig};
+ghost use Rattle.icl_syntax.specs.Views.{bytes_of, seen_expr, seen_few, seen_list, seen_range, seen_sig};
 ghost use Rattle.icl_syntax.specs.Grammar.{appended};
-ghost use Rattle.icl_expressions.specs.Seen.{toks, seen_read, Gives};
+ghost use Rattle.icl_expressions.specs.Seen.{seen_read, Gives};
 ghost use Rattle.icl_expressions.specs.SeenParts.{seen_located};
 ghost use Rattle.icl_expressions.specs.Reading.{read_put, read_after, read_expr, read_value, read_expr_behind, read_maybe, read_range, read_number, read_name, read_path_behind, read_named_behind, read_named_sig, read_plain_sig, read_inverted, read_sig, read_sigs};
 
 use crate::expressions::read_expr;
 use crate::leaves::number_value;
-use crate::lexeme::{Lexeme, Read, begins_mark, begins_name, pushed, read_mark, read_name};
+use crate::reading::{
+    Read, begins_mark, begins_name, few_of, few_with, pushed, read_mark, read_name,
+};
 use crate::stop::Stop;
-use icl_syntax::{Expr, Range, Sig, SigWhat};
+use icl_lexer::{Cursor, Lexeme};
+use icl_syntax::{Ends, Expr, Few, Range, Sig, SigWhat, SmallText};
 use ij_bits::List;
-use ij_text::{Name, Place, name_of};
+use ij_text::Place;
 use std::alloc::Global;
 
 // ---- values
@@ -21,24 +24,24 @@ use std::alloc::Global;
 /// Expressions with the next one, behind a `,`.
 fn with_next_expr<'a>(
     alloc: Global,
-    value: Read<'a, List<Expr>>,
-) -> Result<Read<'a, List<Expr>>, Stop>
-    ensures shorter { IfOk result (λ r. length r.rest.now < length value.entry.rest.now) }
-    ensures gives { Gives (seen_read (seen_list seen_expr)) result (read_put (read_after 44 read_expr) appended (seen_list seen_expr value.entry.value) (toks value.entry.rest.now)) }
+    value: Read<'a, Few<Expr>>,
+) -> Result<Read<'a, Few<Expr>>, Stop>
+    ensures shorter { IfOk result (λ r. length r.rest < length value.entry.rest) }
+    ensures gives { Gives (seen_read (seen_few seen_expr)) result (read_put (read_after 44 read_expr) appended (seen_few seen_expr value.entry.value) value.entry.rest) }
 {
     let mark = read_mark(value.rest, b',')?;
     let next = read_expr(alloc, mark.rest)?;
-    Ok(pushed(value.value, next)?)
+    Ok(few_with(alloc, value.value, next)?)
 }
 
 /// Expressions with `,` between them.
-pub fn read_value<'a>(alloc: Global, tokens: &'a [Lexeme<'a>]) -> Result<Read<'a, List<Expr>>, Stop>
-    ensures shorter { IfOk result (λ r. length r.rest.now < length tokens.now) }
-    ensures gives { Gives (seen_read (seen_list seen_expr)) result (read_value (toks tokens.now)) }
+pub fn read_value<'a>(alloc: Global, tokens: Cursor<'a>) -> Result<Read<'a, Few<Expr>>, Stop>
+    ensures shorter { IfOk result (λ r. length r.rest < length tokens.entry) }
+    ensures gives { Gives (seen_read (seen_few seen_expr)) result (read_value tokens.entry) }
 {
     let first = read_expr(alloc, tokens)?;
-    let mut value = pushed(List::new(alloc), first)?;
-    while begins_mark(value.rest, b',') {
+    let mut value = few_of(first);
+    while begins_mark(&value.rest, b',') {
         value = with_next_expr(alloc, value)?;
     }
     Ok(value)
@@ -50,11 +53,11 @@ pub fn read_value<'a>(alloc: Global, tokens: &'a [Lexeme<'a>]) -> Result<Read<'a
 #[tactic(auto, unfolding(crate::specs::Reading::read_expr_behind))]
 pub fn read_expr_behind<'a>(
     alloc: Global,
-    tokens: &'a [Lexeme<'a>],
+    tokens: Cursor<'a>,
     mark: u8,
 ) -> Result<Read<'a, Expr>, Stop>
-    ensures shorter { IfOk result (λ r. length r.rest.now < length tokens.now) }
-    ensures gives { Gives (seen_read seen_expr) result (read_expr_behind mark (toks tokens.now)) }
+    ensures shorter { IfOk result (λ r. length r.rest < length tokens.entry) }
+    ensures gives { Gives (seen_read seen_expr) result (read_expr_behind mark tokens.entry) }
 {
     let mark = read_mark(tokens, mark)?;
     read_expr(alloc, mark.rest)
@@ -63,13 +66,13 @@ pub fn read_expr_behind<'a>(
 /// The same, where the mark is the next token.
 pub fn maybe_expr_behind<'a>(
     alloc: Global,
-    tokens: &'a [Lexeme<'a>],
+    tokens: Cursor<'a>,
     mark: u8,
 ) -> Result<Read<'a, Option<Expr>>, Stop>
-    ensures shorter { IfOk result (λ r. length r.rest.now ≤ length tokens.now) }
-    ensures gives { Gives (seen_read (option_map seen_expr)) result (read_maybe mark (read_expr_behind mark) (toks tokens.now)) }
+    ensures shorter { IfOk result (λ r. length r.rest ≤ length tokens.entry) }
+    ensures gives { Gives (seen_read (option_map seen_expr)) result (read_maybe mark (read_expr_behind mark) tokens.entry) }
 {
-    if !begins_mark(tokens, mark) {
+    if !begins_mark(&tokens, mark) {
         return Ok(Read {
             value: None,
             rest: tokens,
@@ -84,33 +87,33 @@ pub fn maybe_expr_behind<'a>(
 
 /// `[left]` or `[left:right]`.
 #[tactic(auto, unfolding(crate::specs::Reading::read_range))]
-fn read_range<'a>(alloc: Global, tokens: &'a [Lexeme<'a>]) -> Result<Read<'a, Range>, Stop>
-    ensures shorter { IfOk result (λ r. length r.rest.now < length tokens.now) }
-    ensures gives { Gives (seen_read seen_range) result (read_range (toks tokens.now)) }
+fn read_range<'a>(alloc: Global, tokens: Cursor<'a>) -> Result<Read<'a, Range>, Stop>
+    ensures shorter { IfOk result (λ r. length r.rest < length tokens.entry) }
+    ensures gives { Gives (seen_read seen_range) result (read_range tokens.entry) }
 {
     let open = read_mark(tokens, b'[')?;
     let left = read_expr(alloc, open.rest)?;
     let right = maybe_expr_behind(alloc, left.rest, b':')?;
     let close = read_mark(right.rest, b']')?;
+    let ends = Ends {
+        left: left.value,
+        right: right.value,
+    };
     Ok(Read {
         value: Range {
             at: open.value,
-            left: left.value,
-            right: right.value,
+            ends: Box::new(alloc, ends)?,
         },
         rest: close.rest,
     })
 }
 
 /// A range, if a `[` is the next token.
-pub fn maybe_range<'a>(
-    alloc: Global,
-    tokens: &'a [Lexeme<'a>],
-) -> Result<Read<'a, Option<Range>>, Stop>
-    ensures shorter { IfOk result (λ r. length r.rest.now ≤ length tokens.now) }
-    ensures gives { Gives (seen_read (option_map seen_range)) result (read_maybe 91 read_range (toks tokens.now)) }
+pub fn maybe_range<'a>(alloc: Global, tokens: Cursor<'a>) -> Result<Read<'a, Option<Range>>, Stop>
+    ensures shorter { IfOk result (λ r. length r.rest ≤ length tokens.entry) }
+    ensures gives { Gives (seen_read (option_map seen_range)) result (read_maybe 91 read_range tokens.entry) }
 {
-    if !begins_mark(tokens, b'[') {
+    if !begins_mark(&tokens, b'[') {
         return Ok(Read {
             value: None,
             rest: tokens,
@@ -133,12 +136,13 @@ pub(crate) struct Located {
 }
 
 /// A number.
-fn read_number<'a>(alloc: Global, tokens: &'a [Lexeme<'a>]) -> Result<Read<'a, Located>, Stop>
-    ensures shorter { IfOk result (λ r. length r.rest.now < length tokens.now) }
-    ensures gives { Gives (seen_read seen_located) result (read_number (toks tokens.now)) }
+fn read_number<'a>(alloc: Global, tokens: Cursor<'a>) -> Result<Read<'a, Located>, Stop>
+    ensures shorter { IfOk result (λ r. length r.rest < length tokens.entry) }
+    ensures gives { Gives (seen_read seen_located) result (read_number tokens.entry) }
 {
-    match tokens {
-        [t, rest @ ..] => match number_value(alloc, t)? {
+    let left = tokens.len();
+    match tokens.next() {
+        Some((t, rest)) => match number_value(alloc, &t)? {
             Some(expr) => Ok(Read {
                 value: Located {
                     at: t.at,
@@ -146,40 +150,40 @@ fn read_number<'a>(alloc: Global, tokens: &'a [Lexeme<'a>]) -> Result<Read<'a, L
                 },
                 rest,
             }),
-            None => Err(Stop::At(tokens.len(), None)),
+            None => Err(Stop::At(left, None)),
         },
-        [] => Err(Stop::At(0, None)),
+        None => Err(Stop::At(0, None)),
     }
 }
 
 /// A name behind a `.`, which is put at the end of a list.
 fn with_next_name<'a>(
     alloc: Global,
-    path: Read<'a, List<Name>>,
-) -> Result<Read<'a, List<Name>>, Stop>
-    ensures shorter { IfOk result (λ r. length r.rest.now < length path.entry.rest.now) }
-    ensures gives { Gives (seen_read (seen_list bytes_of)) result (read_put (read_after 46 read_name) appended (seen_list bytes_of path.entry.value) (toks path.entry.rest.now)) }
+    path: Read<'a, Few<SmallText>>,
+) -> Result<Read<'a, Few<SmallText>>, Stop>
+    ensures shorter { IfOk result (λ r. length r.rest < length path.entry.rest) }
+    ensures gives { Gives (seen_read (seen_few bytes_of)) result (read_put (read_after 46 read_name) appended (seen_few bytes_of path.entry.value) path.entry.rest) }
 {
     let dot = read_mark(path.rest, b'.')?;
     let name = read_name(alloc, dot.rest)?;
-    Ok(pushed(path.value, name)?)
+    Ok(few_with(alloc, path.value, name)?)
 }
 
 /// The names behind a first one, with `.` in front of each.
 fn read_path<'a>(
     alloc: Global,
-    first: Name,
-    tokens: &'a [Lexeme<'a>],
-) -> Result<Read<'a, List<Name>>, Stop>
-    ensures shorter { IfOk result (λ r. length r.rest.now ≤ length tokens.now) }
-    ensures gives { Gives (seen_read (seen_list bytes_of)) result (read_path_behind first.items (toks tokens.now)) }
+    first: SmallText,
+    tokens: Cursor<'a>,
+) -> Result<Read<'a, Few<SmallText>>, Stop>
+    ensures shorter { IfOk result (λ r. length r.rest ≤ length tokens.entry) }
+    ensures gives { Gives (seen_read (seen_few bytes_of)) result (read_path_behind first.items tokens.entry) }
 {
     let first = Read {
         value: first,
         rest: tokens,
     };
-    let mut path = pushed(List::new(alloc), first)?;
-    while begins_mark(path.rest, b'.') {
+    let mut path = few_of(first);
+    while begins_mark(&path.rest, b'.') {
         path = with_next_name(alloc, path)?;
     }
     Ok(path)
@@ -190,12 +194,12 @@ fn read_path<'a>(
 fn named_behind<'a>(
     alloc: Global,
     first: &Lexeme<'a>,
-    tokens: &'a [Lexeme<'a>],
+    tokens: Cursor<'a>,
 ) -> Result<Read<'a, Located>, Stop>
-    ensures shorter { IfOk result (λ r. length r.rest.now ≤ length tokens.now) }
-    ensures gives { Gives (seen_read seen_located) result (read_named_behind (record { at = first.now.at; name = first.now.text.now }) (toks tokens.now)) }
+    ensures shorter { IfOk result (λ r. length r.rest ≤ length tokens.entry) }
+    ensures gives { Gives (seen_read seen_located) result (read_named_behind (record { at = first.now.at; name = first.now.text.now }) tokens.entry) }
 {
-    let path = read_path(alloc, name_of(alloc, first.text)?, tokens)?;
+    let path = read_path(alloc, SmallText::of(alloc, first.text)?, tokens)?;
     let range = maybe_range(alloc, path.rest)?;
     Ok(Read {
         value: Located {
@@ -211,22 +215,23 @@ fn named_behind<'a>(
 
 /// Names with `.` between them, and maybe a range.
 #[tactic(auto, unfolding(crate::specs::Reading::read_named_sig))]
-fn read_named_sig<'a>(alloc: Global, tokens: &'a [Lexeme<'a>]) -> Result<Read<'a, Located>, Stop>
-    ensures shorter { IfOk result (λ r. length r.rest.now < length tokens.now) }
-    ensures gives { Gives (seen_read seen_located) result (read_named_sig (toks tokens.now)) }
+fn read_named_sig<'a>(alloc: Global, tokens: Cursor<'a>) -> Result<Read<'a, Located>, Stop>
+    ensures shorter { IfOk result (λ r. length r.rest < length tokens.entry) }
+    ensures gives { Gives (seen_read seen_located) result (read_named_sig tokens.entry) }
 {
-    match tokens {
-        [first, rest @ ..] if first.is_name() => named_behind(alloc, first, rest),
-        _ => Err(Stop::At(tokens.len(), None)),
+    let left = tokens.len();
+    match tokens.next() {
+        Some((first, rest)) if first.is_name() => named_behind(alloc, &first, rest),
+        _ => Err(Stop::At(left, None)),
     }
 }
 
 /// A signal without `~`.
-fn read_plain_sig<'a>(alloc: Global, tokens: &'a [Lexeme<'a>]) -> Result<Read<'a, Located>, Stop>
-    ensures shorter { IfOk result (λ r. length r.rest.now < length tokens.now) }
-    ensures gives { Gives (seen_read seen_located) result (read_plain_sig (toks tokens.now)) }
+fn read_plain_sig<'a>(alloc: Global, tokens: Cursor<'a>) -> Result<Read<'a, Located>, Stop>
+    ensures shorter { IfOk result (λ r. length r.rest < length tokens.entry) }
+    ensures gives { Gives (seen_read seen_located) result (read_plain_sig tokens.entry) }
 {
-    if begins_name(tokens) {
+    if begins_name(&tokens) {
         read_named_sig(alloc, tokens)
     } else {
         read_number(alloc, tokens)
@@ -235,9 +240,9 @@ fn read_plain_sig<'a>(alloc: Global, tokens: &'a [Lexeme<'a>]) -> Result<Read<'a
 
 /// A signal behind a `~`.
 #[tactic(auto, unfolding(crate::specs::Reading::read_inverted))]
-fn read_inverted<'a>(alloc: Global, tokens: &'a [Lexeme<'a>]) -> Result<Read<'a, Sig>, Stop>
-    ensures shorter { IfOk result (λ r. length r.rest.now < length tokens.now) }
-    ensures gives { Gives (seen_read seen_sig) result (read_inverted (toks tokens.now)) }
+fn read_inverted<'a>(alloc: Global, tokens: Cursor<'a>) -> Result<Read<'a, Sig>, Stop>
+    ensures shorter { IfOk result (λ r. length r.rest < length tokens.entry) }
+    ensures gives { Gives (seen_read seen_sig) result (read_inverted tokens.entry) }
 {
     let tilde = read_mark(tokens, b'~')?;
     let sig = read_plain_sig(alloc, tilde.rest)?;
@@ -253,11 +258,11 @@ fn read_inverted<'a>(alloc: Global, tokens: &'a [Lexeme<'a>]) -> Result<Read<'a,
 
 /// A signal.
 #[tactic(auto, unfolding(crate::specs::Reading::read_sig, crate::specs::Reading::read_straight))]
-pub fn read_sig<'a>(alloc: Global, tokens: &'a [Lexeme<'a>]) -> Result<Read<'a, Sig>, Stop>
-    ensures shorter { IfOk result (λ r. length r.rest.now < length tokens.now) }
-    ensures gives { Gives (seen_read seen_sig) result (read_sig (toks tokens.now)) }
+pub fn read_sig<'a>(alloc: Global, tokens: Cursor<'a>) -> Result<Read<'a, Sig>, Stop>
+    ensures shorter { IfOk result (λ r. length r.rest < length tokens.entry) }
+    ensures gives { Gives (seen_read seen_sig) result (read_sig tokens.entry) }
 {
-    if begins_mark(tokens, b'~') {
+    if begins_mark(&tokens, b'~') {
         return read_inverted(alloc, tokens);
     }
     let sig = read_plain_sig(alloc, tokens)?;
@@ -273,8 +278,8 @@ pub fn read_sig<'a>(alloc: Global, tokens: &'a [Lexeme<'a>]) -> Result<Read<'a, 
 
 /// Signals with the next one, behind a `,`.
 fn with_next_sig<'a>(alloc: Global, sigs: Read<'a, List<Sig>>) -> Result<Read<'a, List<Sig>>, Stop>
-    ensures shorter { IfOk result (λ r. length r.rest.now < length sigs.entry.rest.now) }
-    ensures gives { Gives (seen_read (seen_list seen_sig)) result (read_put (read_after 44 read_sig) appended (seen_list seen_sig sigs.entry.value) (toks sigs.entry.rest.now)) }
+    ensures shorter { IfOk result (λ r. length r.rest < length sigs.entry.rest) }
+    ensures gives { Gives (seen_read (seen_list seen_sig)) result (read_put (read_after 44 read_sig) appended (seen_list seen_sig sigs.entry.value) sigs.entry.rest) }
 {
     let mark = read_mark(sigs.rest, b',')?;
     let next = read_sig(alloc, mark.rest)?;
@@ -282,13 +287,13 @@ fn with_next_sig<'a>(alloc: Global, sigs: Read<'a, List<Sig>>) -> Result<Read<'a
 }
 
 /// Signals with `,` between them.
-pub fn read_sigs<'a>(alloc: Global, tokens: &'a [Lexeme<'a>]) -> Result<Read<'a, List<Sig>>, Stop>
-    ensures shorter { IfOk result (λ r. length r.rest.now < length tokens.now) }
-    ensures gives { Gives (seen_read (seen_list seen_sig)) result (read_sigs (toks tokens.now)) }
+pub fn read_sigs<'a>(alloc: Global, tokens: Cursor<'a>) -> Result<Read<'a, List<Sig>>, Stop>
+    ensures shorter { IfOk result (λ r. length r.rest < length tokens.entry) }
+    ensures gives { Gives (seen_read (seen_list seen_sig)) result (read_sigs tokens.entry) }
 {
     let first = read_sig(alloc, tokens)?;
     let mut sigs = pushed(List::new(alloc), first)?;
-    while begins_mark(sigs.rest, b',') {
+    while begins_mark(&sigs.rest, b',') {
         sigs = with_next_sig(alloc, sigs)?;
     }
     Ok(sigs)

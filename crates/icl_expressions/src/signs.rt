@@ -1,12 +1,14 @@
 // Operators, and the limits of an expression.
 ghost use Rattle.std.specs.Prelude.{◌≡◌, ◌-◌, ◌<◌, length, IfOk, Option};
 ghost use Rattle.std.specs.Option.{option_map};
+ghost use Rattle.icl_lexer.specs.Lexemes.{tok};
 ghost use Rattle.icl_syntax.specs.Grammar.{sum_sign, product_sign};
-ghost use Rattle.icl_expressions.specs.Seen.{tok, toks, seen_read, seen_sign, Gives};
+ghost use Rattle.icl_expressions.specs.Seen.{seen_read, seen_sign, Gives};
 ghost use Rattle.icl_expressions.specs.Reading.{begins, is_sign, operator_of, read_operator};
 
-use crate::lexeme::{Lexeme, Read};
+use crate::reading::Read;
 use crate::stop::Stop;
+use icl_lexer::{Cursor, Lexeme};
 use icl_syntax::{Limit, Sign};
 use ij_text::Place;
 
@@ -61,22 +63,22 @@ fn product_sign(t: &Lexeme) -> Option<SignAt>
 }
 
 /// Whether `+` or `-` is the next token.
-pub(crate) fn begins_sum_sign(tokens: &[Lexeme]) -> bool
-    ensures { result ≡ begins (is_sign sum_sign) (toks tokens.now) }
+pub(crate) fn begins_sum_sign(tokens: &Cursor) -> bool
+    ensures { result ≡ begins (is_sign sum_sign) tokens.now }
 {
-    match tokens {
-        [t, ..] => sum_sign(t).is_some(),
-        [] => false,
+    match tokens.first() {
+        Some(t) => sum_sign(&t).is_some(),
+        None => false,
     }
 }
 
 /// Whether `*`, `/` or `%` is the next token.
-pub(crate) fn begins_product_sign(tokens: &[Lexeme]) -> bool
-    ensures { result ≡ begins (is_sign product_sign) (toks tokens.now) }
+pub(crate) fn begins_product_sign(tokens: &Cursor) -> bool
+    ensures { result ≡ begins (is_sign product_sign) tokens.now }
 {
-    match tokens {
-        [t, ..] => product_sign(t).is_some(),
-        [] => false,
+    match tokens.first() {
+        Some(t) => product_sign(&t).is_some(),
+        None => false,
     }
 }
 
@@ -84,19 +86,19 @@ pub(crate) fn begins_product_sign(tokens: &[Lexeme]) -> bool
 #[tactic(auto, using(crate::proofs::Operators::operator_steps))]
 fn operator<'a>(
     sign: Option<SignAt>,
-    tokens: &'a [Lexeme<'a>],
-    rest: &'a [Lexeme<'a>],
+    left: usize,
+    rest: Cursor<'a>,
     used: u32,
     lone: bool,
 ) -> Result<Read<'a, SignAt>, Stop>
-    ensures shorter { IfOk result (λ r. length r.rest.now ≡ length rest.now) }
+    ensures shorter { IfOk result (λ r. length r.rest ≡ length rest.entry) }
     ensures bounded { IfOk result (λ r. used < 256) }
-    ensures gives { Gives (seen_read seen_sign) result (operator_of (256 - used) lone (option_map seen_sign sign) (length tokens.now) (toks rest.now)) }
+    ensures gives { Gives (seen_read seen_sign) result (operator_of (256 - used) lone (option_map seen_sign sign) left rest.entry) }
 {
     match sign {
-        None => Err(Stop::At(tokens.len(), None)),
-        Some(_) if used >= 256 => Err(Stop::At(tokens.len(), Some(Limit::OfExpression))),
-        Some(_) if lone => Err(Stop::At(tokens.len(), None)),
+        None => Err(Stop::At(left, None)),
+        Some(_) if used >= 256 => Err(Stop::At(left, Some(Limit::OfExpression))),
+        Some(_) if lone => Err(Stop::At(left, None)),
         Some(value) => Ok(Read { value, rest }),
     }
 }
@@ -104,33 +106,35 @@ fn operator<'a>(
 /// `+` or `-`.
 #[tactic(auto, unfolding(crate::specs::Reading::read_operator))]
 pub(crate) fn read_sum_sign<'a>(
-    tokens: &'a [Lexeme<'a>],
+    tokens: Cursor<'a>,
     used: u32,
     lone: bool,
 ) -> Result<Read<'a, SignAt>, Stop>
-    ensures shorter { IfOk result (λ r. length r.rest.now < length tokens.now) }
+    ensures shorter { IfOk result (λ r. length r.rest < length tokens.entry) }
     ensures bounded { IfOk result (λ r. used < 256) }
-    ensures gives { Gives (seen_read seen_sign) result (read_operator (256 - used) lone sum_sign (toks tokens.now)) }
+    ensures gives { Gives (seen_read seen_sign) result (read_operator (256 - used) lone sum_sign tokens.entry) }
 {
-    match tokens {
-        [t, rest @ ..] => operator(sum_sign(t), tokens, rest, used, lone),
-        [] => Err(Stop::At(0, None)),
+    let left = tokens.len();
+    match tokens.next() {
+        Some((t, rest)) => operator(sum_sign(&t), left, rest, used, lone),
+        None => Err(Stop::At(0, None)),
     }
 }
 
 /// `*`, `/` or `%`.
 #[tactic(auto, unfolding(crate::specs::Reading::read_operator))]
 pub(crate) fn read_product_sign<'a>(
-    tokens: &'a [Lexeme<'a>],
+    tokens: Cursor<'a>,
     used: u32,
     lone: bool,
 ) -> Result<Read<'a, SignAt>, Stop>
-    ensures shorter { IfOk result (λ r. length r.rest.now < length tokens.now) }
+    ensures shorter { IfOk result (λ r. length r.rest < length tokens.entry) }
     ensures bounded { IfOk result (λ r. used < 256) }
-    ensures gives { Gives (seen_read seen_sign) result (read_operator (256 - used) lone product_sign (toks tokens.now)) }
+    ensures gives { Gives (seen_read seen_sign) result (read_operator (256 - used) lone product_sign tokens.entry) }
 {
-    match tokens {
-        [t, rest @ ..] => operator(product_sign(t), tokens, rest, used, lone),
-        [] => Err(Stop::At(0, None)),
+    let left = tokens.len();
+    match tokens.next() {
+        Some((t, rest)) => operator(product_sign(&t), left, rest, used, lone),
+        None => Err(Stop::At(0, None)),
     }
 }

@@ -16,9 +16,8 @@ ghost use Rattle.icl_frames.specs.SeenFrames.{seen_request, seen_wanted, names_o
 use crate::ElabFault;
 use crate::instances::{bound_parameters, known_block};
 use icl_declarations::{Bounds, Counts, Taken, count_part, declared, is_part, new_names};
-use icl_syntax::{Bind, Item, Module, Range, What};
+use icl_syntax::{Bind, Item, Module, SmallText, What};
 use icl_values::ParamTable;
-use ij_text::{Name, Place};
 use std::alloc::Global;
 
 /// An instance that is wanted.
@@ -64,7 +63,7 @@ fn child_request<'a>(
     above: &[&Module],
     params: &ParamTable,
     item: &'a Item,
-    of: &Name,
+    of: &SmallText,
     binds: &[Bind],
 ) -> Result<Option<Request<'a>>, ElabFault>
     ensures { Gives seen_wanted result (request (map seen_module modules.now) (names_of above.now) (seen_table params.now) (seen_item item.now) (AChild of.now.items (map seen_bind binds.now))) }

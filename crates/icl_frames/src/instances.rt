@@ -11,10 +11,9 @@ ghost use Rattle.icl_declarations.specs.Parts.{block_named, is_parameter_that, h
 ghost use Rattle.icl_frames.specs.FirstPass.{known_block, with_binding};
 
 use crate::ElabFault;
-use icl_syntax::{Bind, Expr, Item, Module, What};
+use icl_syntax::{Bind, Expr, Item, Module, SmallText, What};
 use icl_values::{ParamTable, evaluate};
-use ij_bits::{List, OutOfMemory};
-use ij_text::{Name, Place, name_of};
+use ij_text::{Place, name_of};
 use std::alloc::Global;
 
 /// The module of this name, if there is one.
@@ -81,7 +80,7 @@ fn with_bound(
     block: &Module,
     given: ParamTable,
     at: Place,
-    name: &Name,
+    name: &SmallText,
     e: &Expr,
 ) -> Result<ParamTable, ElabFault>
     ensures { Gives seen_table result (with_binding (seen_table params.now) (seen_module block.now) (seen_table given) (ABoundParameter at name.now.items (seen_expr e.now))) }

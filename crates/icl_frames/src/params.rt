@@ -8,13 +8,13 @@ ghost use Rattle.icl_values.specs.Tables.{seen_table};
 ghost use Rattle.icl_frames.specs.FirstPass.{bound_worth, worth_in, with_parameter};
 
 use crate::ElabFault;
-use icl_syntax::{Bind, Expr, Item, Module, What};
+use icl_syntax::{Expr, Item, SmallText, What};
 use icl_values::{ParamTable, Value, evaluate};
-use ij_text::{Name, Place};
+use ij_text::Place;
 use std::alloc::Global;
 
 /// The value that a parameter's instance binds it to, if it does and the parameter isn't local.
-fn bound_value<'a>(given: &'a ParamTable, local: bool, name: &Name) -> Option<&'a Value>
+fn bound_value<'a>(given: &'a ParamTable, local: bool, name: &SmallText) -> Option<&'a Value>
     ensures { option_map (λ v. seen_value v.now) result ≡ bound_worth (seen_table given.now) local name.now.items }
 {
     if local {
@@ -30,7 +30,7 @@ fn value_of(
     given: &ParamTable,
     params: &ParamTable,
     at: Place,
-    name: &Name,
+    name: &SmallText,
     local: bool,
     e: &Expr,
 ) -> Result<Value, ElabFault>

@@ -2,7 +2,8 @@
 use Rattle.std.proofs.Common.{◌≡◌, ℕ, suc, ◌+◌, ◌≤◌, List, [], ◌∷◌, ◌++◌, length, take, drop, refl, sym, ap, subst, ◌∙◌, append_assoc, append-nil, arith, zero, ◌-◌, length-append, length-drop}
 use Rattle.std.proofs.lemmas.List.{drop-drop, length-take, take-append-drop}
 use Rattle.ij_text.specs.declared.Place.{Place}
-use Rattle.ij_text.specs.Places.{first_place, place_behind}
+use Rattle.std.proofs.Math.Seq.{take-append_seam}
+use Rattle.ij_text.specs.Places.{first_place, place_at, place_behind}
 use Rattle.ij_text.proofs.Behind.{place_behind-append}
 use Rattle.icl_lexer.specs.Token.{Token}
 use Rattle.icl_lexer.specs.declared.token.Kind.{Kind}
@@ -76,6 +77,14 @@ cut_more text tokens start at kind len so_far piece =
       start_is = let both = length-append (joined ps []) (take len rest) in let e = ap length bytes in omega (arith, both, e, long, so_far.start_is);
       at_is = ap (λ a. place_behind a (take len rest)) so_far.at_is ∙ sym (place_behind-append (joined ps []) first_place (take len rest)) ∙ ap (place_behind first_place) (sym bytes);
     }
+
+-- the place where a cutting ends
+pub place_of_cut : (text : List ℕ) (tokens : List Token) (start : ℕ) (at : Place) → CutSoFar text tokens start at → at ≡ place_at text start
+place_of_cut text tokens start at so_far =
+    let front = joined so_far.pieces [] in
+    let whole : front ++ drop start text ≡ text = sym (joined_rest so_far.pieces (drop start text)) ∙ so_far.cut.whole in
+    let taken : take start text ≡ front = ap (λ n. take n text) so_far.start_is ∙ ap (take (length front)) (sym whole) ∙ take-append_seam front (drop start text) in
+    so_far.at_is ∙ ap (place_behind first_place) (sym taken)
 
 -- nothing is cut at the start
 pub nothing_cut : (text : List ℕ) → CutSoFar text [] 0 first_place

@@ -8,7 +8,7 @@ use crate::cursor::{Cursor, cursor_at};
 use crate::fault::LexFault;
 use crate::pieces::{first_piece, opens_block};
 use crate::token::Kind;
-use ij_text::{Place, place_behind};
+use ij_text::{Place, place_at};
 
 /// The fault of a text that begins with no piece.
 fn fault_at(text: &[u8], at: Place) -> LexFault
@@ -40,14 +40,12 @@ fn count(src: &[u8]) -> Result<usize, LexFault>
 {
     let mut count = 0;
     let mut start = 0;
-    let mut at = Place { line: 1, col: 1 };
     while start < src.len() {
         let rest = &src[start..];
         let Some(found) = first_piece(rest) else {
-            return Err(fault_at(rest, at));
+            return Err(fault_at(rest, place_at(src, start)));
         };
         count += count_of(found.kind);
-        at = place_behind(at, &rest[..found.len]);
         start += found.len;
     }
     Ok(count)

@@ -55,6 +55,7 @@ fn longest_match(text: &[u8]) -> Option<Match>
 }
 
 /// How many bytes at the front of a text are bytes of a name.
+#[inline]
 fn name_len(text: &[u8]) -> usize
     ensures counted { result ≡ run_len in_name text.now }
     ensures within { result ≤ length text.now }
@@ -67,6 +68,7 @@ fn name_len(text: &[u8]) -> usize
 }
 
 /// The piece with which a text begins, where its first byte tells it: a blank, a word, or a mark that is no `/`.
+#[inline]
 fn short_piece(text: &[u8]) -> Option<Match>
     ensures { IfSome result (λ p. IsPiece text.now p.kind p.len) }
 {

@@ -49,6 +49,7 @@ fn only_if(test: bool, state: State) -> State
 }
 
 /// The state behind the first byte of a piece.
+#[inline]
 pub(crate) fn begin(b: u8) -> State
     ensures { (bs : List ℕ) → kind_from result bs ≡ kind_of (b ∷ bs) }
 {

@@ -1,9 +1,6 @@
 -- What reading a whole list of tokens says of it.
-use Rattle.std.proofs.Common.{◌≡◌, ℕ, zero, suc, ◌≤◌, ◌-◌, true, false, List, [], ◌∷◌, ◌++◌, length, drop, take, Ok, Err, refl, sym, ap, subst, ◌∙◌, arith, length-append}
+use Rattle.std.proofs.Common.{◌≡◌, ◌↔◌, ℕ, suc, Bool, ◌<◌, ◌-◌, true, false, List, [], ◌∷◌, ◌++◌, length, drop, Ok, Err, refl, sym, ap, subst, ◌∙◌, arith, length-append}
 use Rattle.std.proofs.Math.Seq.{drop-append_seam}
-use Rattle.std.proofs.lemmas.Bool.{eqb-true}
-use Rattle.std.proofs.lemmas.List.{length-map, length-drop, drop-map}
-use Rattle.std.specs.Prelude.{◌==◌}
 use Rattle.grammar.specs.Reading.{Stop as Unfit, ended}
 use Rattle.grammar.specs.Refusal.{Refused}
 use Rattle.grammar.proofs.Combinators.{ok_is}
@@ -17,8 +14,7 @@ use Rattle.icl_parser.specs.declared.fault.ParseFault.{ParseFault}
 use Rattle.icl_parser.specs.declared.fault.ParseFault.TheVariants.{OutOfMemory, LeftOut, ExprLimit, Syntax}
 use Rattle.icl_expressions.specs.declared.stop.Stop.{Stop}
 use Rattle.icl_expressions.specs.declared.stop.Stop.TheVariants.{Memory, At}
-use Rattle.icl_expressions.specs.declared.lexeme.Lexeme.{Lexeme}
-use Rattle.icl_expressions.specs.Seen.{Fails, tok, toks}
+use Rattle.icl_expressions.specs.Seen.{Fails}
 use Rattle.icl_expressions.specs.Reading.{begins, any, read_put}
 use Rattle.icl_parser.specs.Reading.{read_module, read_design, whole_design}
 use Rattle.icl_parser.specs.Refusals.{IsFaultOf, IsRefused, OnRefusal, end_of}
@@ -29,13 +25,13 @@ use Rattle.icl_parser.proofs.DesignLaws.{module_reads, design_reads}
 
 -- ---- the loop of modules
 
-pub begins_any : (ls : List Lexeme) → (length ls == 0) ≡ false → begins any (toks ls) ≡ true
-begins_any [] h = absurd cc
-begins_any (l ∷ ls) h = refl
+pub begins_any : (none : Bool) (ts : List SeenToken) → (none ≡ true) ↔ (ts ≡ []) → none ≡ false → begins any ts ≡ true
+begins_any true [] h e = absurd cc
+begins_any false [] h e = let k : false ≡ true = h.1 refl in absurd cc
+begins_any none (t ∷ ts) h e = refl
 
-pub begins_none : (ls : List Lexeme) → (length ls == 0) ≡ true → begins any (toks ls) ≡ false
-begins_none [] h = refl
-begins_none (l ∷ ls) h = let k : suc (length ls) ≡ 0 = eqb-true (suc (length ls)) 0 h in absurd (omega (arith, k))
+pub begins_none : (none : Bool) (ts : List SeenToken) → (none ≡ true) ↔ (ts ≡ []) → none ≡ true → begins any ts ≡ false
+begins_none none ts h e = let k : ts ≡ [] = h.0 e in rw k refl
 
 pub modules_go_on : (bs : List SeenModule) (ts : List SeenToken) (x : List SeenModule × List SeenToken) → begins any ts ≡ true → read_put read_module appended bs ts ≡ Ok x → more_modules x.0 x.1 ≡ more_modules bs ts
 modules_go_on = go_on (λ (bs : List SeenModule). module_of) appended any nothing (λ bs. read_module) (λ bs. module_reads) (λ t h. refl)
@@ -78,11 +74,6 @@ design_refused ts stop h = refused design_reads ts stop h
 
 -- ---- where the text is refused
 
-pub left_within : (ts : List SeenToken) (stop : Unfit Limit) → whole_design ts ≡ Err stop → stop.0 ≤ length ts
-left_within ts stop h =
-    let p = design_refused ts stop h in
-    let k : length ts ≡ length (p.0 ++ p.1) = ap length p.2 in omega (arith, k, length-append p.0 p.1, p.3)
-
 pub rest_of : (ts front rest : List SeenToken) (n : ℕ) → ts ≡ front ++ rest → length rest ≡ n → drop (length ts - n) ts ≡ rest
 rest_of ts front rest n e k =
     let all : length ts ≡ length (front ++ rest) = ap length e in
@@ -101,15 +92,7 @@ on_refusal text ts (LeftOut at word) h = h
 on_refusal text ts (ExprLimit at) h = h
 on_refusal text ts (Syntax at) h = h
 
-take_whole : (ls : List Lexeme) (n : ℕ) → length ls ≤ n → take n ls ≡ ls
-take_whole [] zero h = refl
-take_whole [] (suc n) h = refl
-take_whole (l ∷ ls) zero h = absurd (omega (arith, h))
-take_whole (l ∷ ls) (suc n) h = ap (λ (xs : List Lexeme). l ∷ xs) (take_whole ls n (omega (arith, h)))
-
--- the tokens that are left, as the code cuts them
-pub rest_toks : (ls : List Lexeme) (n : ℕ) → toks (take (length ls - (length ls - n)) (drop (length ls - n) ls)) ≡ drop (length (toks ls) - n) (toks ls)
-rest_toks ls n =
-    ap toks (take_whole (drop (length ls - n) ls) (length ls - (length ls - n)) (omega (arith, length-drop (length ls - n) ls)))
-    ∙ sym (drop-map tok (length ls - n) ls)
-    ∙ ap (λ m. drop (m - n) (toks ls)) (sym (length-map ls tok))
+-- without the first token as many are left
+pub rest_later : (ts us : List SeenToken) (left : ℕ) → left < length ts → us ≡ drop 1 ts → drop (length us - left) us ≡ drop (length ts - left) ts
+rest_later [] us left h e = absurd (omega (arith, h))
+rest_later (t ∷ ts) us left h e = let k : suc (length ts) - left ≡ suc (length ts - left) = omega (arith, h) in rw (e, k) refl

@@ -1,21 +1,22 @@
 // Properties and bodies.
 ghost use Rattle.std.specs.Prelude.{◌≡◌, ◌<◌, ◌≤◌, [], Some, IfOk, length, map};
 ghost use Rattle.std.specs.Option.{option_map};
+ghost use Rattle.icl_lexer.specs.Lexemes.{tok};
 ghost use Rattle.icl_syntax.specs.Views.{seen_list, seen_prop, seen_sig};
 ghost use Rattle.icl_syntax.specs.Grammar.{is_prop, stands, takes, lacks, with_property, free_prop_at};
-ghost use Rattle.icl_expressions.specs.Seen.{toks, tok, seen_read, same, Gives};
+ghost use Rattle.icl_expressions.specs.Seen.{seen_read, same, Gives};
 ghost use Rattle.icl_parser.specs.SeenParts.{seen_said};
 ghost use Rattle.icl_expressions.specs.Reading.{read_put};
 ghost use Rattle.icl_parser.specs.Reading.{read_free_prop, read_attribute_said, read_one_sig, read_sources, read_prop_behind, read_property, read_properties, read_body_end, read_braced_body, read_body};
 
 use crate::words::prop_word;
 use icl_expressions::{
-    Lexeme, Read, Stop, before_close, begins_mark, maybe_expr_behind, pushed, read_decimal,
-    read_mark, read_name, read_sig, read_sigs, read_value,
+    Read, Stop, before_close, begins_mark, maybe_expr_behind, pushed, read_decimal, read_mark,
+    read_name, read_sig, read_sigs, read_value,
 };
-use icl_syntax::{Expr, Owner, Prop, PropWord, Sig};
+use icl_lexer::{Cursor, Lexeme};
+use icl_syntax::{Expr, Owner, Prop, PropWord, Sig, SmallText};
 use ij_bits::{List, OutOfMemory};
-use ij_text::Name;
 use std::alloc::Global;
 
 // ---- which properties may stand
@@ -112,7 +113,7 @@ fn free_prop(owner: Owner, props: &[Prop], t: &Lexeme) -> Option<PropWord>
 /// An attribute behind its word.
 #[derive(Drop)]
 pub(crate) struct Said {
-    pub name: Name,
+    pub name: SmallText,
     pub value: Option<Expr>,
 }
 
@@ -120,10 +121,10 @@ pub(crate) struct Said {
 #[tactic(auto, unfolding(crate::specs::Reading::read_attribute_said))]
 pub(crate) fn read_attribute_said<'a>(
     alloc: Global,
-    tokens: &'a [Lexeme<'a>],
+    tokens: Cursor<'a>,
 ) -> Result<Read<'a, Said>, Stop>
-    ensures shorter { IfOk result (λ r. length r.rest.now < length tokens.now) }
-    ensures gives { Gives (seen_read seen_said) result (read_attribute_said (toks tokens.now)) }
+    ensures shorter { IfOk result (λ r. length r.rest < length tokens.entry) }
+    ensures gives { Gives (seen_read seen_said) result (read_attribute_said tokens.entry) }
 {
     let name = read_name(alloc, tokens)?;
     let value = maybe_expr_behind(alloc, name.rest, b'=')?;
@@ -137,9 +138,9 @@ pub(crate) fn read_attribute_said<'a>(
 }
 
 /// A signal alone, as a list.
-fn one_sig<'a>(alloc: Global, tokens: &'a [Lexeme<'a>]) -> Result<Read<'a, List<Sig>>, Stop>
-    ensures shorter { IfOk result (λ r. length r.rest.now < length tokens.now) }
-    ensures gives { Gives (seen_read (seen_list seen_sig)) result (read_one_sig (toks tokens.now)) }
+fn one_sig<'a>(alloc: Global, tokens: Cursor<'a>) -> Result<Read<'a, List<Sig>>, Stop>
+    ensures shorter { IfOk result (λ r. length r.rest < length tokens.entry) }
+    ensures gives { Gives (seen_read (seen_list seen_sig)) result (read_one_sig tokens.entry) }
 {
     let sig = read_sig(alloc, tokens)?;
     Ok(pushed(List::new(alloc), sig)?)
@@ -149,10 +150,10 @@ fn one_sig<'a>(alloc: Global, tokens: &'a [Lexeme<'a>]) -> Result<Read<'a, List<
 fn read_sources<'a>(
     alloc: Global,
     owner: Owner,
-    tokens: &'a [Lexeme<'a>],
+    tokens: Cursor<'a>,
 ) -> Result<Read<'a, List<Sig>>, Stop>
-    ensures shorter { IfOk result (λ r. length r.rest.now < length tokens.now) }
-    ensures gives { Gives (seen_read (seen_list seen_sig)) result (read_sources owner (toks tokens.now)) }
+    ensures shorter { IfOk result (λ r. length r.rest < length tokens.entry) }
+    ensures gives { Gives (seen_read (seen_list seen_sig)) result (read_sources owner tokens.entry) }
 {
     match owner {
         Owner::ScanOut => one_sig(alloc, tokens),
@@ -161,9 +162,9 @@ fn read_sources<'a>(
 }
 
 /// A property in front of the rest.
-fn some<'a>(prop: Prop, rest: &'a [Lexeme<'a>]) -> Read<'a, Option<Prop>>
+fn some<'a>(prop: Prop, rest: Cursor<'a>) -> Read<'a, Option<Prop>>
     ensures value { option_map seen_prop result.value ≡ Some (seen_prop prop) }
-    ensures rest { result.rest.now ≡ rest.now }
+    ensures rest { result.rest ≡ rest.entry }
 {
     Read {
         value: Some(prop),
@@ -177,10 +178,10 @@ fn read_prop_behind<'a>(
     alloc: Global,
     owner: Owner,
     word: PropWord,
-    tokens: &'a [Lexeme<'a>],
+    tokens: Cursor<'a>,
 ) -> Result<Read<'a, Option<Prop>>, Stop>
-    ensures shorter { IfOk result (λ r. length r.rest.now ≤ length tokens.now) }
-    ensures gives { Gives (seen_read (option_map seen_prop)) result (read_prop_behind owner word (toks tokens.now)) }
+    ensures shorter { IfOk result (λ r. length r.rest ≤ length tokens.entry) }
+    ensures gives { Gives (seen_read (option_map seen_prop)) result (read_prop_behind owner word tokens.entry) }
 {
     match word {
         PropWord::Source => {
@@ -230,17 +231,18 @@ fn read_prop_behind<'a>(
 fn read_free_prop<'a>(
     owner: Owner,
     props: &[Prop],
-    tokens: &'a [Lexeme<'a>],
+    tokens: Cursor<'a>,
 ) -> Result<Read<'a, PropWord>, Stop>
-    ensures shorter { IfOk result (λ r. length r.rest.now < length tokens.now) }
-    ensures gives { Gives (seen_read same) result (read_free_prop owner (map seen_prop props.now) (toks tokens.now)) }
+    ensures shorter { IfOk result (λ r. length r.rest < length tokens.entry) }
+    ensures gives { Gives (seen_read same) result (read_free_prop owner (map seen_prop props.now) tokens.entry) }
 {
-    match tokens {
-        [t, rest @ ..] => match free_prop(owner, props, t) {
+    let left = tokens.len();
+    match tokens.next() {
+        Some((t, rest)) => match free_prop(owner, props, &t) {
             Some(value) => Ok(Read { value, rest }),
-            None => Err(Stop::At(tokens.len(), None)),
+            None => Err(Stop::At(left, None)),
         },
-        [] => Err(Stop::At(0, None)),
+        None => Err(Stop::At(0, None)),
     }
 }
 
@@ -250,10 +252,10 @@ fn read_property<'a>(
     alloc: Global,
     owner: Owner,
     props: &[Prop],
-    tokens: &'a [Lexeme<'a>],
+    tokens: Cursor<'a>,
 ) -> Result<Read<'a, Option<Prop>>, Stop>
-    ensures shorter { IfOk result (λ r. length r.rest.now < length tokens.now) }
-    ensures gives { Gives (seen_read (option_map seen_prop)) result (read_property owner (map seen_prop props.now) (toks tokens.now)) }
+    ensures shorter { IfOk result (λ r. length r.rest < length tokens.entry) }
+    ensures gives { Gives (seen_read (option_map seen_prop)) result (read_property owner (map seen_prop props.now) tokens.entry) }
 {
     let word = read_free_prop(owner, props, tokens)?;
     let prop = read_prop_behind(alloc, owner, word.value, word.rest)?;
@@ -272,7 +274,7 @@ fn with<'a>(
     next: Read<'a, Option<Prop>>,
 ) -> Result<Read<'a, List<Prop>>, OutOfMemory>
     ensures value { IfOk result (λ r. seen_list seen_prop r.value ≡ with_property (seen_list seen_prop props) (option_map seen_prop next.entry.value)) }
-    ensures rest { IfOk result (λ r. r.rest.now ≡ next.entry.rest.now) }
+    ensures rest { IfOk result (λ r. r.rest ≡ next.entry.rest) }
 {
     let rest = next.rest;
     match next.value {
@@ -287,27 +289,29 @@ fn with_property<'a>(
     owner: Owner,
     props: Read<'a, List<Prop>>,
 ) -> Result<Read<'a, List<Prop>>, Stop>
-    ensures shorter { IfOk result (λ r. length r.rest.now < length props.entry.rest.now) }
-    ensures gives { Gives (seen_read (seen_list seen_prop)) result (read_put (read_property owner (seen_list seen_prop props.entry.value)) with_property (seen_list seen_prop props.entry.value) (toks props.entry.rest.now)) }
+    ensures shorter { IfOk result (λ r. length r.rest < length props.entry.rest) }
+    ensures gives { Gives (seen_read (seen_list seen_prop)) result (read_put (read_property owner (seen_list seen_prop props.entry.value)) with_property (seen_list seen_prop props.entry.value) props.entry.rest) }
 {
-    let next = read_property(alloc, owner, props.value.as_slice(), props.rest)?;
-    Ok(with(props.value, next)?)
+    let rest = props.rest;
+    let props = props.value;
+    let next = read_property(alloc, owner, props.as_slice(), rest)?;
+    Ok(with(props, next)?)
 }
 
 /// Properties up to a `}`.
 fn read_properties<'a>(
     alloc: Global,
     owner: Owner,
-    tokens: &'a [Lexeme<'a>],
+    tokens: Cursor<'a>,
 ) -> Result<Read<'a, List<Prop>>, Stop>
-    ensures shorter { IfOk result (λ r. length r.rest.now ≤ length tokens.now) }
-    ensures gives { Gives (seen_read (seen_list seen_prop)) result (read_properties owner (toks tokens.now)) }
+    ensures shorter { IfOk result (λ r. length r.rest ≤ length tokens.entry) }
+    ensures gives { Gives (seen_read (seen_list seen_prop)) result (read_properties owner tokens.entry) }
 {
     let mut props = Read {
         value: List::new(alloc),
         rest: tokens,
     };
-    while before_close(props.rest) {
+    while before_close(&props.rest) {
         props = with_property(alloc, owner, props)?;
     }
     Ok(props)
@@ -318,11 +322,11 @@ fn read_properties<'a>(
 fn read_body_end<'a>(
     owner: Owner,
     props: List<Prop>,
-    tokens: &'a [Lexeme<'a>],
+    tokens: Cursor<'a>,
     mark: u8,
 ) -> Result<Read<'a, List<Prop>>, Stop>
-    ensures shorter { IfOk result (λ r. length r.rest.now < length tokens.now) }
-    ensures gives { Gives (seen_read (seen_list seen_prop)) result (read_body_end owner (seen_list seen_prop props) mark (toks tokens.now)) }
+    ensures shorter { IfOk result (λ r. length r.rest < length tokens.entry) }
+    ensures gives { Gives (seen_read (seen_list seen_prop)) result (read_body_end owner (seen_list seen_prop props) mark tokens.entry) }
 {
     if lacks(owner, props.as_slice()) {
         return Err(Stop::At(tokens.len(), None));
@@ -339,10 +343,10 @@ fn read_body_end<'a>(
 fn read_braced<'a>(
     alloc: Global,
     owner: Owner,
-    tokens: &'a [Lexeme<'a>],
+    tokens: Cursor<'a>,
 ) -> Result<Read<'a, List<Prop>>, Stop>
-    ensures shorter { IfOk result (λ r. length r.rest.now < length tokens.now) }
-    ensures gives { Gives (seen_read (seen_list seen_prop)) result (read_braced_body owner (toks tokens.now)) }
+    ensures shorter { IfOk result (λ r. length r.rest < length tokens.entry) }
+    ensures gives { Gives (seen_read (seen_list seen_prop)) result (read_braced_body owner tokens.entry) }
 {
     let open = read_mark(tokens, b'{')?;
     let props = read_properties(alloc, owner, open.rest)?;
@@ -354,12 +358,12 @@ fn read_braced<'a>(
 pub(crate) fn read_body<'a>(
     alloc: Global,
     owner: Owner,
-    tokens: &'a [Lexeme<'a>],
+    tokens: Cursor<'a>,
 ) -> Result<Read<'a, List<Prop>>, Stop>
-    ensures shorter { IfOk result (λ r. length r.rest.now < length tokens.now) }
-    ensures gives { Gives (seen_read (seen_list seen_prop)) result (read_body owner (toks tokens.now)) }
+    ensures shorter { IfOk result (λ r. length r.rest < length tokens.entry) }
+    ensures gives { Gives (seen_read (seen_list seen_prop)) result (read_body owner tokens.entry) }
 {
-    if begins_mark(tokens, b';') {
+    if begins_mark(&tokens, b';') {
         read_body_end(owner, List::new(alloc), tokens, b';')
     } else {
         read_braced(alloc, owner, tokens)

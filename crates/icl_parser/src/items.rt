@@ -1,10 +1,10 @@
 // Items that declare or bind: ports, registers, aliases, parameters, attributes, multiplexers, instances.
 ghost use Rattle.std.specs.Prelude.{◌≡◌, ◌<◌, ◌≤◌, IfOk, length};
 ghost use Rattle.std.specs.Option.{option_map};
-ghost use Rattle.icl_syntax.specs.Views.{seen_list, seen_expr, seen_range, seen_row, seen_bind, seen_what};
+ghost use Rattle.icl_syntax.specs.Views.{seen_few, seen_list, seen_expr, seen_range, seen_row, seen_bind, seen_what};
 ghost use Rattle.icl_syntax.specs.Grammar.{appended};
 ghost use Rattle.icl_syntax.specs.Modules.{owner_of};
-ghost use Rattle.icl_expressions.specs.Seen.{toks, seen_read, Gives};
+ghost use Rattle.icl_expressions.specs.Seen.{seen_read, Gives};
 ghost use Rattle.icl_parser.specs.SeenParts.{seen_bind_begin};
 ghost use Rattle.icl_expressions.specs.Reading.{read_put, read_after, read_value};
 ghost use Rattle.icl_parser.specs.Reading.{read_port_range, read_port, read_register, read_alias, read_parameter, read_attribute, read_values, read_row, read_rows, read_mux, read_bound_port, read_bound_parameter, read_bound_attribute, read_bind_behind, read_bind_begin, read_bind, read_many_binds, read_braced_binds, read_binds, read_child};
@@ -12,10 +12,11 @@ ghost use Rattle.icl_parser.specs.Reading.{read_port_range, read_port, read_regi
 use crate::bodies::{read_attribute_said, read_body};
 use crate::words::bind_word;
 use icl_expressions::{
-    Lexeme, Read, Stop, before_close, begins_mark, maybe_expr_behind, maybe_range, pushed,
-    read_expr_behind, read_mark, read_name, read_sig, read_sigs, read_value, read_word,
+    Read, Stop, before_close, begins_mark, few_of, few_with, maybe_expr_behind, maybe_range,
+    pushed, read_expr_behind, read_mark, read_name, read_sig, read_sigs, read_value, read_word,
 };
-use icl_syntax::{Bind, BindWord, Expr, MuxRow, Owner, PortKind, Range, What};
+use icl_lexer::Cursor;
+use icl_syntax::{Bind, BindWord, Expr, Few, MuxRow, Owner, PortKind, Range, What};
 use ij_bits::List;
 use ij_text::Place;
 use std::alloc::Global;
@@ -39,10 +40,10 @@ fn owner_of(kind: PortKind) -> Owner
 fn read_port_range<'a>(
     alloc: Global,
     owner: Owner,
-    tokens: &'a [Lexeme<'a>],
+    tokens: Cursor<'a>,
 ) -> Result<Read<'a, Option<Range>>, Stop>
-    ensures shorter { IfOk result (λ r. length r.rest.now ≤ length tokens.now) }
-    ensures gives { Gives (seen_read (option_map seen_range)) result (read_port_range owner (toks tokens.now)) }
+    ensures shorter { IfOk result (λ r. length r.rest ≤ length tokens.entry) }
+    ensures gives { Gives (seen_read (option_map seen_range)) result (read_port_range owner tokens.entry) }
 {
     match owner {
         Owner::ScanIn | Owner::ScanOut => Ok(Read {
@@ -58,10 +59,10 @@ fn read_port_range<'a>(
 pub(crate) fn read_port<'a>(
     alloc: Global,
     kind: PortKind,
-    tokens: &'a [Lexeme<'a>],
+    tokens: Cursor<'a>,
 ) -> Result<Read<'a, What>, Stop>
-    ensures shorter { IfOk result (λ r. length r.rest.now < length tokens.now) }
-    ensures gives { Gives (seen_read seen_what) result (read_port kind (toks tokens.now)) }
+    ensures shorter { IfOk result (λ r. length r.rest < length tokens.entry) }
+    ensures gives { Gives (seen_read seen_what) result (read_port kind tokens.entry) }
 {
     let owner = owner_of(kind);
     let range = read_port_range(alloc, owner, tokens)?;
@@ -78,12 +79,9 @@ pub(crate) fn read_port<'a>(
 
 /// A scan register behind its name.
 #[tactic(auto, unfolding(crate::specs::Reading::read_register))]
-pub(crate) fn read_register<'a>(
-    alloc: Global,
-    tokens: &'a [Lexeme<'a>],
-) -> Result<Read<'a, What>, Stop>
-    ensures shorter { IfOk result (λ r. length r.rest.now < length tokens.now) }
-    ensures gives { Gives (seen_read seen_what) result (read_register (toks tokens.now)) }
+pub(crate) fn read_register<'a>(alloc: Global, tokens: Cursor<'a>) -> Result<Read<'a, What>, Stop>
+    ensures shorter { IfOk result (λ r. length r.rest < length tokens.entry) }
+    ensures gives { Gives (seen_read seen_what) result (read_register tokens.entry) }
 {
     let range = maybe_range(alloc, tokens)?;
     let props = read_body(alloc, Owner::Register, range.rest)?;
@@ -98,12 +96,9 @@ pub(crate) fn read_register<'a>(
 
 /// An alias behind its name.
 #[tactic(auto, unfolding(crate::specs::Reading::read_alias))]
-pub(crate) fn read_alias<'a>(
-    alloc: Global,
-    tokens: &'a [Lexeme<'a>],
-) -> Result<Read<'a, What>, Stop>
-    ensures shorter { IfOk result (λ r. length r.rest.now < length tokens.now) }
-    ensures gives { Gives (seen_read seen_what) result (read_alias (toks tokens.now)) }
+pub(crate) fn read_alias<'a>(alloc: Global, tokens: Cursor<'a>) -> Result<Read<'a, What>, Stop>
+    ensures shorter { IfOk result (λ r. length r.rest < length tokens.entry) }
+    ensures gives { Gives (seen_read seen_what) result (read_alias tokens.entry) }
 {
     let range = maybe_range(alloc, tokens)?;
     let equals = read_mark(range.rest, b'=')?;
@@ -124,10 +119,10 @@ pub(crate) fn read_alias<'a>(
 pub(crate) fn read_parameter<'a>(
     alloc: Global,
     local: bool,
-    tokens: &'a [Lexeme<'a>],
+    tokens: Cursor<'a>,
 ) -> Result<Read<'a, What>, Stop>
-    ensures shorter { IfOk result (λ r. length r.rest.now < length tokens.now) }
-    ensures gives { Gives (seen_read seen_what) result (read_parameter local (toks tokens.now)) }
+    ensures shorter { IfOk result (λ r. length r.rest < length tokens.entry) }
+    ensures gives { Gives (seen_read seen_what) result (read_parameter local tokens.entry) }
 {
     let value = read_expr_behind(alloc, tokens, b'=')?;
     let end = read_mark(value.rest, b';')?;
@@ -142,12 +137,9 @@ pub(crate) fn read_parameter<'a>(
 
 /// An attribute of a module behind its name.
 #[tactic(auto, unfolding(crate::specs::Reading::read_attribute))]
-pub(crate) fn read_attribute<'a>(
-    alloc: Global,
-    tokens: &'a [Lexeme<'a>],
-) -> Result<Read<'a, What>, Stop>
-    ensures shorter { IfOk result (λ r. length r.rest.now < length tokens.now) }
-    ensures gives { Gives (seen_read seen_what) result (read_attribute (toks tokens.now)) }
+pub(crate) fn read_attribute<'a>(alloc: Global, tokens: Cursor<'a>) -> Result<Read<'a, What>, Stop>
+    ensures shorter { IfOk result (λ r. length r.rest < length tokens.entry) }
+    ensures gives { Gives (seen_read seen_what) result (read_attribute tokens.entry) }
 {
     let value = maybe_expr_behind(alloc, tokens, b'=')?;
     let end = read_mark(value.rest, b';')?;
@@ -162,27 +154,24 @@ pub(crate) fn read_attribute<'a>(
 /// Values with the next one, behind a `|`.
 fn with_next_value<'a>(
     alloc: Global,
-    values: Read<'a, List<List<Expr>>>,
-) -> Result<Read<'a, List<List<Expr>>>, Stop>
-    ensures shorter { IfOk result (λ r. length r.rest.now < length values.entry.rest.now) }
-    ensures gives { Gives (seen_read (seen_list (seen_list seen_expr))) result (read_put (read_after 124 read_value) appended (seen_list (seen_list seen_expr) values.entry.value) (toks values.entry.rest.now)) }
+    values: Read<'a, Few<Few<Expr>>>,
+) -> Result<Read<'a, Few<Few<Expr>>>, Stop>
+    ensures shorter { IfOk result (λ r. length r.rest < length values.entry.rest) }
+    ensures gives { Gives (seen_read (seen_few (seen_few seen_expr))) result (read_put (read_after 124 read_value) appended (seen_few (seen_few seen_expr) values.entry.value) values.entry.rest) }
 {
     let bar = read_mark(values.rest, b'|')?;
     let next = read_value(alloc, bar.rest)?;
-    Ok(pushed(values.value, next)?)
+    Ok(few_with(alloc, values.value, next)?)
 }
 
 /// Values with `|` between them.
-fn read_values<'a>(
-    alloc: Global,
-    tokens: &'a [Lexeme<'a>],
-) -> Result<Read<'a, List<List<Expr>>>, Stop>
-    ensures shorter { IfOk result (λ r. length r.rest.now < length tokens.now) }
-    ensures gives { Gives (seen_read (seen_list (seen_list seen_expr))) result (read_values (toks tokens.now)) }
+fn read_values<'a>(alloc: Global, tokens: Cursor<'a>) -> Result<Read<'a, Few<Few<Expr>>>, Stop>
+    ensures shorter { IfOk result (λ r. length r.rest < length tokens.entry) }
+    ensures gives { Gives (seen_read (seen_few (seen_few seen_expr))) result (read_values tokens.entry) }
 {
     let first = read_value(alloc, tokens)?;
-    let mut values = pushed(List::new(alloc), first)?;
-    while begins_mark(values.rest, b'|') {
+    let mut values = few_of(first);
+    while begins_mark(&values.rest, b'|') {
         values = with_next_value(alloc, values)?;
     }
     Ok(values)
@@ -190,9 +179,9 @@ fn read_values<'a>(
 
 /// A row of a multiplexer.
 #[tactic(auto, unfolding(crate::specs::Reading::read_row))]
-fn read_row<'a>(alloc: Global, tokens: &'a [Lexeme<'a>]) -> Result<Read<'a, MuxRow>, Stop>
-    ensures shorter { IfOk result (λ r. length r.rest.now < length tokens.now) }
-    ensures gives { Gives (seen_read seen_row) result (read_row (toks tokens.now)) }
+fn read_row<'a>(alloc: Global, tokens: Cursor<'a>) -> Result<Read<'a, MuxRow>, Stop>
+    ensures shorter { IfOk result (λ r. length r.rest < length tokens.entry) }
+    ensures gives { Gives (seen_read seen_row) result (read_row tokens.entry) }
 {
     let values = read_values(alloc, tokens)?;
     let colon = read_mark(values.rest, b':')?;
@@ -212,21 +201,21 @@ fn with_next_row<'a>(
     alloc: Global,
     rows: Read<'a, List<MuxRow>>,
 ) -> Result<Read<'a, List<MuxRow>>, Stop>
-    ensures shorter { IfOk result (λ r. length r.rest.now < length rows.entry.rest.now) }
-    ensures gives { Gives (seen_read (seen_list seen_row)) result (read_put read_row appended (seen_list seen_row rows.entry.value) (toks rows.entry.rest.now)) }
+    ensures shorter { IfOk result (λ r. length r.rest < length rows.entry.rest) }
+    ensures gives { Gives (seen_read (seen_list seen_row)) result (read_put read_row appended (seen_list seen_row rows.entry.value) rows.entry.rest) }
 {
     let next = read_row(alloc, rows.rest)?;
     Ok(pushed(rows.value, next)?)
 }
 
 /// One row or more, up to a `}`.
-fn read_rows<'a>(alloc: Global, tokens: &'a [Lexeme<'a>]) -> Result<Read<'a, List<MuxRow>>, Stop>
-    ensures shorter { IfOk result (λ r. length r.rest.now < length tokens.now) }
-    ensures gives { Gives (seen_read (seen_list seen_row)) result (read_rows (toks tokens.now)) }
+fn read_rows<'a>(alloc: Global, tokens: Cursor<'a>) -> Result<Read<'a, List<MuxRow>>, Stop>
+    ensures shorter { IfOk result (λ r. length r.rest < length tokens.entry) }
+    ensures gives { Gives (seen_read (seen_list seen_row)) result (read_rows tokens.entry) }
 {
     let first = read_row(alloc, tokens)?;
     let mut rows = pushed(List::new(alloc), first)?;
-    while before_close(rows.rest) {
+    while before_close(&rows.rest) {
         rows = with_next_row(alloc, rows)?;
     }
     Ok(rows)
@@ -234,9 +223,9 @@ fn read_rows<'a>(alloc: Global, tokens: &'a [Lexeme<'a>]) -> Result<Read<'a, Lis
 
 /// A multiplexer behind its name.
 #[tactic(auto, unfolding(crate::specs::Reading::read_mux))]
-pub(crate) fn read_mux<'a>(alloc: Global, tokens: &'a [Lexeme<'a>]) -> Result<Read<'a, What>, Stop>
-    ensures shorter { IfOk result (λ r. length r.rest.now < length tokens.now) }
-    ensures gives { Gives (seen_read seen_what) result (read_mux (toks tokens.now)) }
+pub(crate) fn read_mux<'a>(alloc: Global, tokens: Cursor<'a>) -> Result<Read<'a, What>, Stop>
+    ensures shorter { IfOk result (λ r. length r.rest < length tokens.entry) }
+    ensures gives { Gives (seen_read seen_what) result (read_mux tokens.entry) }
 {
     let by = read_word(tokens, b"SelectedBy")?;
     let select = read_sigs(alloc, by.rest)?;
@@ -256,13 +245,9 @@ pub(crate) fn read_mux<'a>(alloc: Global, tokens: &'a [Lexeme<'a>]) -> Result<Re
 
 /// A binding of a port behind its word.
 #[tactic(auto, unfolding(crate::specs::Reading::read_bound_port))]
-fn read_bound_port<'a>(
-    alloc: Global,
-    at: Place,
-    tokens: &'a [Lexeme<'a>],
-) -> Result<Read<'a, Bind>, Stop>
-    ensures shorter { IfOk result (λ r. length r.rest.now < length tokens.now) }
-    ensures gives { Gives (seen_read seen_bind) result (read_bound_port at (toks tokens.now)) }
+fn read_bound_port<'a>(alloc: Global, at: Place, tokens: Cursor<'a>) -> Result<Read<'a, Bind>, Stop>
+    ensures shorter { IfOk result (λ r. length r.rest < length tokens.entry) }
+    ensures gives { Gives (seen_read seen_bind) result (read_bound_port at tokens.entry) }
 {
     let name = read_name(alloc, tokens)?;
     let range = maybe_range(alloc, name.rest)?;
@@ -284,10 +269,10 @@ fn read_bound_port<'a>(
 fn read_bound_parameter<'a>(
     alloc: Global,
     at: Place,
-    tokens: &'a [Lexeme<'a>],
+    tokens: Cursor<'a>,
 ) -> Result<Read<'a, Bind>, Stop>
-    ensures shorter { IfOk result (λ r. length r.rest.now < length tokens.now) }
-    ensures gives { Gives (seen_read seen_bind) result (read_bound_parameter at (toks tokens.now)) }
+    ensures shorter { IfOk result (λ r. length r.rest < length tokens.entry) }
+    ensures gives { Gives (seen_read seen_bind) result (read_bound_parameter at tokens.entry) }
 {
     let name = read_name(alloc, tokens)?;
     let value = read_expr_behind(alloc, name.rest, b'=')?;
@@ -303,9 +288,9 @@ fn read_bound_parameter<'a>(
 
 /// An attribute of an instance behind its word.
 #[tactic(auto, unfolding(crate::specs::Reading::read_bound_attribute))]
-fn read_bound_attribute<'a>(alloc: Global, tokens: &'a [Lexeme<'a>]) -> Result<Read<'a, Bind>, Stop>
-    ensures shorter { IfOk result (λ r. length r.rest.now < length tokens.now) }
-    ensures gives { Gives (seen_read seen_bind) result (read_bound_attribute (toks tokens.now)) }
+fn read_bound_attribute<'a>(alloc: Global, tokens: Cursor<'a>) -> Result<Read<'a, Bind>, Stop>
+    ensures shorter { IfOk result (λ r. length r.rest < length tokens.entry) }
+    ensures gives { Gives (seen_read seen_bind) result (read_bound_attribute tokens.entry) }
 {
     let said = read_attribute_said(alloc, tokens)?;
     Ok(Read {
@@ -322,10 +307,10 @@ fn read_bind_behind<'a>(
     alloc: Global,
     at: Place,
     word: BindWord,
-    tokens: &'a [Lexeme<'a>],
+    tokens: Cursor<'a>,
 ) -> Result<Read<'a, Bind>, Stop>
-    ensures shorter { IfOk result (λ r. length r.rest.now < length tokens.now) }
-    ensures gives { Gives (seen_read seen_bind) result (read_bind_behind at word (toks tokens.now)) }
+    ensures shorter { IfOk result (λ r. length r.rest < length tokens.entry) }
+    ensures gives { Gives (seen_read seen_bind) result (read_bind_behind at word tokens.entry) }
 {
     match word {
         BindWord::BindsPort => read_bound_port(alloc, at, tokens),
@@ -341,27 +326,28 @@ pub(crate) struct BindBegin {
     pub word: BindWord,
 }
 
-fn read_bind_begin<'a>(tokens: &'a [Lexeme<'a>]) -> Result<Read<'a, BindBegin>, Stop>
-    ensures shorter { IfOk result (λ r. length r.rest.now < length tokens.now) }
-    ensures gives { Gives (seen_read seen_bind_begin) result (read_bind_begin (toks tokens.now)) }
+fn read_bind_begin<'a>(tokens: Cursor<'a>) -> Result<Read<'a, BindBegin>, Stop>
+    ensures shorter { IfOk result (λ r. length r.rest < length tokens.entry) }
+    ensures gives { Gives (seen_read seen_bind_begin) result (read_bind_begin tokens.entry) }
 {
-    match tokens {
-        [t, rest @ ..] => match bind_word(t) {
+    let left = tokens.len();
+    match tokens.next() {
+        Some((t, rest)) => match bind_word(&t) {
             Some(word) => Ok(Read {
                 value: BindBegin { at: t.at, word },
                 rest,
             }),
-            None => Err(Stop::At(tokens.len(), None)),
+            None => Err(Stop::At(left, None)),
         },
-        [] => Err(Stop::At(0, None)),
+        None => Err(Stop::At(0, None)),
     }
 }
 
 /// A binding up to its `;`.
 #[tactic(auto, unfolding(crate::specs::Reading::read_bind))]
-fn read_bind<'a>(alloc: Global, tokens: &'a [Lexeme<'a>]) -> Result<Read<'a, Bind>, Stop>
-    ensures shorter { IfOk result (λ r. length r.rest.now < length tokens.now) }
-    ensures gives { Gives (seen_read seen_bind) result (read_bind (toks tokens.now)) }
+fn read_bind<'a>(alloc: Global, tokens: Cursor<'a>) -> Result<Read<'a, Bind>, Stop>
+    ensures shorter { IfOk result (λ r. length r.rest < length tokens.entry) }
+    ensures gives { Gives (seen_read seen_bind) result (read_bind tokens.entry) }
 {
     let begin = read_bind_begin(tokens)?;
     let bind = read_bind_behind(alloc, begin.value.at, begin.value.word, begin.rest)?;
@@ -377,26 +363,23 @@ fn with_next_bind<'a>(
     alloc: Global,
     binds: Read<'a, List<Bind>>,
 ) -> Result<Read<'a, List<Bind>>, Stop>
-    ensures shorter { IfOk result (λ r. length r.rest.now < length binds.entry.rest.now) }
-    ensures gives { Gives (seen_read (seen_list seen_bind)) result (read_put read_bind appended (seen_list seen_bind binds.entry.value) (toks binds.entry.rest.now)) }
+    ensures shorter { IfOk result (λ r. length r.rest < length binds.entry.rest) }
+    ensures gives { Gives (seen_read (seen_list seen_bind)) result (read_put read_bind appended (seen_list seen_bind binds.entry.value) binds.entry.rest) }
 {
     let next = read_bind(alloc, binds.rest)?;
     Ok(pushed(binds.value, next)?)
 }
 
 /// Bindings up to a `}`.
-fn read_many_binds<'a>(
-    alloc: Global,
-    tokens: &'a [Lexeme<'a>],
-) -> Result<Read<'a, List<Bind>>, Stop>
-    ensures shorter { IfOk result (λ r. length r.rest.now ≤ length tokens.now) }
-    ensures gives { Gives (seen_read (seen_list seen_bind)) result (read_many_binds (toks tokens.now)) }
+fn read_many_binds<'a>(alloc: Global, tokens: Cursor<'a>) -> Result<Read<'a, List<Bind>>, Stop>
+    ensures shorter { IfOk result (λ r. length r.rest ≤ length tokens.entry) }
+    ensures gives { Gives (seen_read (seen_list seen_bind)) result (read_many_binds tokens.entry) }
 {
     let mut binds = Read {
         value: List::new(alloc),
         rest: tokens,
     };
-    while before_close(binds.rest) {
+    while before_close(&binds.rest) {
         binds = with_next_bind(alloc, binds)?;
     }
     Ok(binds)
@@ -404,12 +387,9 @@ fn read_many_binds<'a>(
 
 /// Bindings in braces.
 #[tactic(auto, unfolding(crate::specs::Reading::read_braced_binds))]
-fn read_braced_binds<'a>(
-    alloc: Global,
-    tokens: &'a [Lexeme<'a>],
-) -> Result<Read<'a, List<Bind>>, Stop>
-    ensures shorter { IfOk result (λ r. length r.rest.now < length tokens.now) }
-    ensures gives { Gives (seen_read (seen_list seen_bind)) result (read_braced_binds (toks tokens.now)) }
+fn read_braced_binds<'a>(alloc: Global, tokens: Cursor<'a>) -> Result<Read<'a, List<Bind>>, Stop>
+    ensures shorter { IfOk result (λ r. length r.rest < length tokens.entry) }
+    ensures gives { Gives (seen_read (seen_list seen_bind)) result (read_braced_binds tokens.entry) }
 {
     let open = read_mark(tokens, b'{')?;
     let binds = read_many_binds(alloc, open.rest)?;
@@ -422,11 +402,11 @@ fn read_braced_binds<'a>(
 
 /// A `;`, or bindings in braces.
 #[tactic(auto, unfolding(crate::specs::Reading::read_binds))]
-fn read_binds<'a>(alloc: Global, tokens: &'a [Lexeme<'a>]) -> Result<Read<'a, List<Bind>>, Stop>
-    ensures shorter { IfOk result (λ r. length r.rest.now < length tokens.now) }
-    ensures gives { Gives (seen_read (seen_list seen_bind)) result (read_binds (toks tokens.now)) }
+fn read_binds<'a>(alloc: Global, tokens: Cursor<'a>) -> Result<Read<'a, List<Bind>>, Stop>
+    ensures shorter { IfOk result (λ r. length r.rest < length tokens.entry) }
+    ensures gives { Gives (seen_read (seen_list seen_bind)) result (read_binds tokens.entry) }
 {
-    if !begins_mark(tokens, b';') {
+    if !begins_mark(&tokens, b';') {
         return read_braced_binds(alloc, tokens);
     }
     let end = read_mark(tokens, b';')?;
@@ -438,12 +418,9 @@ fn read_binds<'a>(alloc: Global, tokens: &'a [Lexeme<'a>]) -> Result<Read<'a, Li
 
 /// An instance behind its name.
 #[tactic(auto, unfolding(crate::specs::Reading::read_child))]
-pub(crate) fn read_child<'a>(
-    alloc: Global,
-    tokens: &'a [Lexeme<'a>],
-) -> Result<Read<'a, What>, Stop>
-    ensures shorter { IfOk result (λ r. length r.rest.now < length tokens.now) }
-    ensures gives { Gives (seen_read seen_what) result (read_child (toks tokens.now)) }
+pub(crate) fn read_child<'a>(alloc: Global, tokens: Cursor<'a>) -> Result<Read<'a, What>, Stop>
+    ensures shorter { IfOk result (λ r. length r.rest < length tokens.entry) }
+    ensures gives { Gives (seen_read seen_what) result (read_child tokens.entry) }
 {
     let of = read_word(tokens, b"Of")?;
     let module = read_name(alloc, of.rest)?;

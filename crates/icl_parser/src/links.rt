@@ -4,7 +4,7 @@ ghost use Rattle.std.specs.Option.{option_map};
 ghost use Rattle.icl_syntax.specs.Views.{bytes_of, seen_list, seen_instr, seen_enum_word, seen_what};
 ghost use Rattle.icl_syntax.specs.Grammar.{appended};
 ghost use Rattle.icl_syntax.specs.Modules.{with_member};
-ghost use Rattle.icl_expressions.specs.Seen.{toks, seen_read, same, Gives};
+ghost use Rattle.icl_expressions.specs.Seen.{seen_read, same, Gives};
 ghost use Rattle.icl_parser.specs.SeenParts.{seen_selected};
 ghost use Rattle.icl_expressions.specs.Reading.{read_put};
 ghost use Rattle.icl_parser.specs.Reading.{read_enum_word, read_many_words, read_words, read_member_word, read_member_behind, read_member, read_members, read_interface, read_selected, read_selecting, read_instruction, read_instructions, read_entity, read_link_kind, read_link};
@@ -12,20 +12,20 @@ ghost use Rattle.icl_parser.specs.Reading.{read_enum_word, read_many_words, read
 use crate::bodies::read_attribute_said;
 use crate::words::{link_kind, member_word};
 use icl_expressions::{
-    Lexeme, Read, Stop, before_close, pushed, read_mark, read_name, read_value, read_word,
+    Read, Stop, before_close, pushed, read_mark, read_name, read_value, read_word,
 };
-use icl_syntax::{EnumWord, LinkInstr, LinkKind, MemberWord, What};
+use icl_lexer::Cursor;
+use icl_syntax::{EnumWord, LinkInstr, LinkKind, MemberWord, SmallText, What};
 use ij_bits::{List, OutOfMemory};
-use ij_text::Name;
 use std::alloc::Global;
 
 // ---- enumerations
 
 /// A word of an enumeration up to its `;`.
 #[tactic(auto, unfolding(crate::specs::Reading::read_enum_word))]
-fn read_enum_word<'a>(alloc: Global, tokens: &'a [Lexeme<'a>]) -> Result<Read<'a, EnumWord>, Stop>
-    ensures shorter { IfOk result (λ r. length r.rest.now < length tokens.now) }
-    ensures gives { Gives (seen_read seen_enum_word) result (read_enum_word (toks tokens.now)) }
+fn read_enum_word<'a>(alloc: Global, tokens: Cursor<'a>) -> Result<Read<'a, EnumWord>, Stop>
+    ensures shorter { IfOk result (λ r. length r.rest < length tokens.entry) }
+    ensures gives { Gives (seen_read seen_enum_word) result (read_enum_word tokens.entry) }
 {
     let name = read_name(alloc, tokens)?;
     let equals = read_mark(name.rest, b'=')?;
@@ -45,26 +45,23 @@ fn with_next_word<'a>(
     alloc: Global,
     words: Read<'a, List<EnumWord>>,
 ) -> Result<Read<'a, List<EnumWord>>, Stop>
-    ensures shorter { IfOk result (λ r. length r.rest.now < length words.entry.rest.now) }
-    ensures gives { Gives (seen_read (seen_list seen_enum_word)) result (read_put read_enum_word appended (seen_list seen_enum_word words.entry.value) (toks words.entry.rest.now)) }
+    ensures shorter { IfOk result (λ r. length r.rest < length words.entry.rest) }
+    ensures gives { Gives (seen_read (seen_list seen_enum_word)) result (read_put read_enum_word appended (seen_list seen_enum_word words.entry.value) words.entry.rest) }
 {
     let next = read_enum_word(alloc, words.rest)?;
     Ok(pushed(words.value, next)?)
 }
 
 /// Words of an enumeration up to a `}`.
-fn read_many_words<'a>(
-    alloc: Global,
-    tokens: &'a [Lexeme<'a>],
-) -> Result<Read<'a, List<EnumWord>>, Stop>
-    ensures shorter { IfOk result (λ r. length r.rest.now ≤ length tokens.now) }
-    ensures gives { Gives (seen_read (seen_list seen_enum_word)) result (read_many_words (toks tokens.now)) }
+fn read_many_words<'a>(alloc: Global, tokens: Cursor<'a>) -> Result<Read<'a, List<EnumWord>>, Stop>
+    ensures shorter { IfOk result (λ r. length r.rest ≤ length tokens.entry) }
+    ensures gives { Gives (seen_read (seen_list seen_enum_word)) result (read_many_words tokens.entry) }
 {
     let mut words = Read {
         value: List::new(alloc),
         rest: tokens,
     };
-    while before_close(words.rest) {
+    while before_close(&words.rest) {
         words = with_next_word(alloc, words)?;
     }
     Ok(words)
@@ -72,12 +69,9 @@ fn read_many_words<'a>(
 
 /// An enumeration behind its name.
 #[tactic(auto, unfolding(crate::specs::Reading::read_words))]
-pub(crate) fn read_words<'a>(
-    alloc: Global,
-    tokens: &'a [Lexeme<'a>],
-) -> Result<Read<'a, What>, Stop>
-    ensures shorter { IfOk result (λ r. length r.rest.now < length tokens.now) }
-    ensures gives { Gives (seen_read seen_what) result (read_words (toks tokens.now)) }
+pub(crate) fn read_words<'a>(alloc: Global, tokens: Cursor<'a>) -> Result<Read<'a, What>, Stop>
+    ensures shorter { IfOk result (λ r. length r.rest < length tokens.entry) }
+    ensures gives { Gives (seen_read seen_what) result (read_words tokens.entry) }
 {
     let open = read_mark(tokens, b'{')?;
     let words = read_many_words(alloc, open.rest)?;
@@ -90,16 +84,17 @@ pub(crate) fn read_words<'a>(
 
 // ---- interfaces
 
-fn read_member_word<'a>(tokens: &'a [Lexeme<'a>]) -> Result<Read<'a, MemberWord>, Stop>
-    ensures shorter { IfOk result (λ r. length r.rest.now < length tokens.now) }
-    ensures gives { Gives (seen_read same) result (read_member_word (toks tokens.now)) }
+fn read_member_word<'a>(tokens: Cursor<'a>) -> Result<Read<'a, MemberWord>, Stop>
+    ensures shorter { IfOk result (λ r. length r.rest < length tokens.entry) }
+    ensures gives { Gives (seen_read same) result (read_member_word tokens.entry) }
 {
-    match tokens {
-        [t, rest @ ..] => match member_word(t) {
+    let left = tokens.len();
+    match tokens.next() {
+        Some((t, rest)) => match member_word(&t) {
             Some(value) => Ok(Read { value, rest }),
-            None => Err(Stop::At(tokens.len(), None)),
+            None => Err(Stop::At(left, None)),
         },
-        [] => Err(Stop::At(0, None)),
+        None => Err(Stop::At(0, None)),
     }
 }
 
@@ -107,10 +102,10 @@ fn read_member_word<'a>(tokens: &'a [Lexeme<'a>]) -> Result<Read<'a, MemberWord>
 fn read_member_behind<'a>(
     alloc: Global,
     word: MemberWord,
-    tokens: &'a [Lexeme<'a>],
-) -> Result<Read<'a, Option<Name>>, Stop>
-    ensures shorter { IfOk result (λ r. length r.rest.now < length tokens.now) }
-    ensures gives { Gives (seen_read (option_map bytes_of)) result (read_member_behind word (toks tokens.now)) }
+    tokens: Cursor<'a>,
+) -> Result<Read<'a, Option<SmallText>>, Stop>
+    ensures shorter { IfOk result (λ r. length r.rest < length tokens.entry) }
+    ensures gives { Gives (seen_read (option_map bytes_of)) result (read_member_behind word tokens.entry) }
 {
     match word {
         MemberWord::MemberPort => {
@@ -132,9 +127,9 @@ fn read_member_behind<'a>(
 
 /// A member of an interface up to its `;`.
 #[tactic(auto, unfolding(crate::specs::Reading::read_member))]
-fn read_member<'a>(alloc: Global, tokens: &'a [Lexeme<'a>]) -> Result<Read<'a, Option<Name>>, Stop>
-    ensures shorter { IfOk result (λ r. length r.rest.now < length tokens.now) }
-    ensures gives { Gives (seen_read (option_map bytes_of)) result (read_member (toks tokens.now)) }
+fn read_member<'a>(alloc: Global, tokens: Cursor<'a>) -> Result<Read<'a, Option<SmallText>>, Stop>
+    ensures shorter { IfOk result (λ r. length r.rest < length tokens.entry) }
+    ensures gives { Gives (seen_read (option_map bytes_of)) result (read_member tokens.entry) }
 {
     let word = read_member_word(tokens)?;
     let name = read_member_behind(alloc, word.value, word.rest)?;
@@ -147,11 +142,11 @@ fn read_member<'a>(alloc: Global, tokens: &'a [Lexeme<'a>]) -> Result<Read<'a, O
 
 /// Names with the next one behind them, if it is kept.
 fn with<'a>(
-    names: List<Name>,
-    next: Read<'a, Option<Name>>,
-) -> Result<Read<'a, List<Name>>, OutOfMemory>
+    names: List<SmallText>,
+    next: Read<'a, Option<SmallText>>,
+) -> Result<Read<'a, List<SmallText>>, OutOfMemory>
     ensures value { IfOk result (λ r. seen_list bytes_of r.value ≡ with_member (seen_list bytes_of names) (option_map bytes_of next.entry.value)) }
-    ensures rest { IfOk result (λ r. r.rest.now ≡ next.entry.rest.now) }
+    ensures rest { IfOk result (λ r. r.rest ≡ next.entry.rest) }
 {
     let rest = next.rest;
     match next.value {
@@ -163,25 +158,25 @@ fn with<'a>(
 /// Members of an interface with the next one.
 fn with_next_member<'a>(
     alloc: Global,
-    names: Read<'a, List<Name>>,
-) -> Result<Read<'a, List<Name>>, Stop>
-    ensures shorter { IfOk result (λ r. length r.rest.now < length names.entry.rest.now) }
-    ensures gives { Gives (seen_read (seen_list bytes_of)) result (read_put read_member with_member (seen_list bytes_of names.entry.value) (toks names.entry.rest.now)) }
+    names: Read<'a, List<SmallText>>,
+) -> Result<Read<'a, List<SmallText>>, Stop>
+    ensures shorter { IfOk result (λ r. length r.rest < length names.entry.rest) }
+    ensures gives { Gives (seen_read (seen_list bytes_of)) result (read_put read_member with_member (seen_list bytes_of names.entry.value) names.entry.rest) }
 {
     let next = read_member(alloc, names.rest)?;
     Ok(with(names.value, next)?)
 }
 
 /// Members of an interface up to a `}`.
-fn read_members<'a>(alloc: Global, tokens: &'a [Lexeme<'a>]) -> Result<Read<'a, List<Name>>, Stop>
-    ensures shorter { IfOk result (λ r. length r.rest.now ≤ length tokens.now) }
-    ensures gives { Gives (seen_read (seen_list bytes_of)) result (read_members (toks tokens.now)) }
+fn read_members<'a>(alloc: Global, tokens: Cursor<'a>) -> Result<Read<'a, List<SmallText>>, Stop>
+    ensures shorter { IfOk result (λ r. length r.rest ≤ length tokens.entry) }
+    ensures gives { Gives (seen_read (seen_list bytes_of)) result (read_members tokens.entry) }
 {
     let mut names = Read {
         value: List::new(alloc),
         rest: tokens,
     };
-    while before_close(names.rest) {
+    while before_close(&names.rest) {
         names = with_next_member(alloc, names)?;
     }
     Ok(names)
@@ -189,12 +184,9 @@ fn read_members<'a>(alloc: Global, tokens: &'a [Lexeme<'a>]) -> Result<Read<'a, 
 
 /// A scan interface behind its name.
 #[tactic(auto, unfolding(crate::specs::Reading::read_interface))]
-pub(crate) fn read_interface<'a>(
-    alloc: Global,
-    tokens: &'a [Lexeme<'a>],
-) -> Result<Read<'a, What>, Stop>
-    ensures shorter { IfOk result (λ r. length r.rest.now < length tokens.now) }
-    ensures gives { Gives (seen_read seen_what) result (read_interface (toks tokens.now)) }
+pub(crate) fn read_interface<'a>(alloc: Global, tokens: Cursor<'a>) -> Result<Read<'a, What>, Stop>
+    ensures shorter { IfOk result (λ r. length r.rest < length tokens.entry) }
+    ensures gives { Gives (seen_read seen_what) result (read_interface tokens.entry) }
 {
     let open = read_mark(tokens, b'{')?;
     let ports = read_members(alloc, open.rest)?;
@@ -210,14 +202,14 @@ pub(crate) fn read_interface<'a>(
 /// The instance and the interface that an instruction selects.
 #[derive(Drop)]
 pub(crate) struct Selected {
-    pub cell: Name,
-    pub interface: Name,
+    pub cell: SmallText,
+    pub interface: SmallText,
 }
 
 #[tactic(auto, unfolding(crate::specs::Reading::read_selected))]
-fn read_selected<'a>(alloc: Global, tokens: &'a [Lexeme<'a>]) -> Result<Read<'a, Selected>, Stop>
-    ensures shorter { IfOk result (λ r. length r.rest.now < length tokens.now) }
-    ensures gives { Gives (seen_read seen_selected) result (read_selected (toks tokens.now)) }
+fn read_selected<'a>(alloc: Global, tokens: Cursor<'a>) -> Result<Read<'a, Selected>, Stop>
+    ensures shorter { IfOk result (λ r. length r.rest < length tokens.entry) }
+    ensures gives { Gives (seen_read seen_selected) result (read_selected tokens.entry) }
 {
     let cell = read_name(alloc, tokens)?;
     let dot = read_mark(cell.rest, b'.')?;
@@ -234,9 +226,9 @@ fn read_selected<'a>(alloc: Global, tokens: &'a [Lexeme<'a>]) -> Result<Read<'a,
 
 /// The `ScanInterface` of an instruction.
 #[tactic(auto, unfolding(crate::specs::Reading::read_selecting))]
-fn read_selecting<'a>(alloc: Global, tokens: &'a [Lexeme<'a>]) -> Result<Read<'a, Selected>, Stop>
-    ensures shorter { IfOk result (λ r. length r.rest.now < length tokens.now) }
-    ensures gives { Gives (seen_read seen_selected) result (read_selecting (toks tokens.now)) }
+fn read_selecting<'a>(alloc: Global, tokens: Cursor<'a>) -> Result<Read<'a, Selected>, Stop>
+    ensures shorter { IfOk result (λ r. length r.rest < length tokens.entry) }
+    ensures gives { Gives (seen_read seen_selected) result (read_selecting tokens.entry) }
 {
     let word = read_word(tokens, b"ScanInterface")?;
     let open = read_mark(word.rest, b'{')?;
@@ -250,12 +242,9 @@ fn read_selecting<'a>(alloc: Global, tokens: &'a [Lexeme<'a>]) -> Result<Read<'a
 
 /// An instruction of an access link.
 #[tactic(auto, unfolding(crate::specs::Reading::read_instruction))]
-fn read_instruction<'a>(
-    alloc: Global,
-    tokens: &'a [Lexeme<'a>],
-) -> Result<Read<'a, LinkInstr>, Stop>
-    ensures shorter { IfOk result (λ r. length r.rest.now < length tokens.now) }
-    ensures gives { Gives (seen_read seen_instr) result (read_instruction (toks tokens.now)) }
+fn read_instruction<'a>(alloc: Global, tokens: Cursor<'a>) -> Result<Read<'a, LinkInstr>, Stop>
+    ensures shorter { IfOk result (λ r. length r.rest < length tokens.entry) }
+    ensures gives { Gives (seen_read seen_instr) result (read_instruction tokens.entry) }
 {
     let name = read_name(alloc, tokens)?;
     let open = read_mark(name.rest, b'{')?;
@@ -276,8 +265,8 @@ fn with_next_instruction<'a>(
     alloc: Global,
     instrs: Read<'a, List<LinkInstr>>,
 ) -> Result<Read<'a, List<LinkInstr>>, Stop>
-    ensures shorter { IfOk result (λ r. length r.rest.now < length instrs.entry.rest.now) }
-    ensures gives { Gives (seen_read (seen_list seen_instr)) result (read_put read_instruction appended (seen_list seen_instr instrs.entry.value) (toks instrs.entry.rest.now)) }
+    ensures shorter { IfOk result (λ r. length r.rest < length instrs.entry.rest) }
+    ensures gives { Gives (seen_read (seen_list seen_instr)) result (read_put read_instruction appended (seen_list seen_instr instrs.entry.value) instrs.entry.rest) }
 {
     let next = read_instruction(alloc, instrs.rest)?;
     Ok(pushed(instrs.value, next)?)
@@ -286,16 +275,16 @@ fn with_next_instruction<'a>(
 /// Instructions up to a `}`.
 fn read_instructions<'a>(
     alloc: Global,
-    tokens: &'a [Lexeme<'a>],
+    tokens: Cursor<'a>,
 ) -> Result<Read<'a, List<LinkInstr>>, Stop>
-    ensures shorter { IfOk result (λ r. length r.rest.now ≤ length tokens.now) }
-    ensures gives { Gives (seen_read (seen_list seen_instr)) result (read_instructions (toks tokens.now)) }
+    ensures shorter { IfOk result (λ r. length r.rest ≤ length tokens.entry) }
+    ensures gives { Gives (seen_read (seen_list seen_instr)) result (read_instructions tokens.entry) }
 {
     let mut instrs = Read {
         value: List::new(alloc),
         rest: tokens,
     };
-    while before_close(instrs.rest) {
+    while before_close(&instrs.rest) {
         instrs = with_next_instruction(alloc, instrs)?;
     }
     Ok(instrs)
@@ -303,9 +292,9 @@ fn read_instructions<'a>(
 
 /// The entity of an access link.
 #[tactic(auto, unfolding(crate::specs::Reading::read_entity))]
-fn read_entity<'a>(alloc: Global, tokens: &'a [Lexeme<'a>]) -> Result<Read<'a, Name>, Stop>
-    ensures shorter { IfOk result (λ r. length r.rest.now < length tokens.now) }
-    ensures gives { Gives (seen_read bytes_of) result (read_entity (toks tokens.now)) }
+fn read_entity<'a>(alloc: Global, tokens: Cursor<'a>) -> Result<Read<'a, SmallText>, Stop>
+    ensures shorter { IfOk result (λ r. length r.rest < length tokens.entry) }
+    ensures gives { Gives (seen_read bytes_of) result (read_entity tokens.entry) }
 {
     let word = read_word(tokens, b"BSDLEntity")?;
     let name = read_name(alloc, word.rest)?;
@@ -316,24 +305,25 @@ fn read_entity<'a>(alloc: Global, tokens: &'a [Lexeme<'a>]) -> Result<Read<'a, N
     })
 }
 
-fn read_link_kind<'a>(tokens: &'a [Lexeme<'a>]) -> Result<Read<'a, LinkKind>, Stop>
-    ensures shorter { IfOk result (λ r. length r.rest.now < length tokens.now) }
-    ensures gives { Gives (seen_read same) result (read_link_kind (toks tokens.now)) }
+fn read_link_kind<'a>(tokens: Cursor<'a>) -> Result<Read<'a, LinkKind>, Stop>
+    ensures shorter { IfOk result (λ r. length r.rest < length tokens.entry) }
+    ensures gives { Gives (seen_read same) result (read_link_kind tokens.entry) }
 {
-    match tokens {
-        [t, rest @ ..] => match link_kind(t) {
+    let left = tokens.len();
+    match tokens.next() {
+        Some((t, rest)) => match link_kind(&t) {
             Some(value) => Ok(Read { value, rest }),
-            None => Err(Stop::At(tokens.len(), None)),
+            None => Err(Stop::At(left, None)),
         },
-        [] => Err(Stop::At(0, None)),
+        None => Err(Stop::At(0, None)),
     }
 }
 
 /// An access link behind its name.
 #[tactic(auto, unfolding(crate::specs::Reading::read_link))]
-pub(crate) fn read_link<'a>(alloc: Global, tokens: &'a [Lexeme<'a>]) -> Result<Read<'a, What>, Stop>
-    ensures shorter { IfOk result (λ r. length r.rest.now < length tokens.now) }
-    ensures gives { Gives (seen_read seen_what) result (read_link (toks tokens.now)) }
+pub(crate) fn read_link<'a>(alloc: Global, tokens: Cursor<'a>) -> Result<Read<'a, What>, Stop>
+    ensures shorter { IfOk result (λ r. length r.rest < length tokens.entry) }
+    ensures gives { Gives (seen_read seen_what) result (read_link tokens.entry) }
 {
     let of = read_word(tokens, b"Of")?;
     let kind = read_link_kind(of.rest)?;

@@ -2,7 +2,7 @@
 ghost use Rattle.std.specs.Prelude.{◌<◌, ◌≤◌, IfOk, length};
 ghost use Rattle.icl_syntax.specs.Views.{seen_list, seen_item, seen_module, seen_what};
 ghost use Rattle.icl_syntax.specs.Grammar.{appended};
-ghost use Rattle.icl_expressions.specs.Seen.{toks, seen_read, Gives};
+ghost use Rattle.icl_expressions.specs.Seen.{seen_read, Gives};
 ghost use Rattle.icl_parser.specs.SeenParts.{seen_item_begin};
 ghost use Rattle.icl_expressions.specs.Reading.{read_put};
 ghost use Rattle.icl_parser.specs.Reading.{read_item_begin, read_meaning_behind, read_item, read_items, read_module, whole_design};
@@ -12,7 +12,8 @@ use crate::items::{
 };
 use crate::links::{read_interface, read_link, read_words};
 use crate::words::item_word;
-use icl_expressions::{Lexeme, Read, Stop, before_close, pushed, read_mark, read_name, read_word};
+use icl_expressions::{Read, Stop, before_close, pushed, read_mark, read_name, read_word};
+use icl_lexer::Cursor;
 use icl_syntax::{Item, ItemWord, Module, What};
 use ij_bits::List;
 use ij_text::Place;
@@ -25,19 +26,20 @@ pub(crate) struct ItemBegin {
     pub word: ItemWord,
 }
 
-fn read_item_begin<'a>(tokens: &'a [Lexeme<'a>]) -> Result<Read<'a, ItemBegin>, Stop>
-    ensures shorter { IfOk result (λ r. length r.rest.now < length tokens.now) }
-    ensures gives { Gives (seen_read seen_item_begin) result (read_item_begin (toks tokens.now)) }
+fn read_item_begin<'a>(tokens: Cursor<'a>) -> Result<Read<'a, ItemBegin>, Stop>
+    ensures shorter { IfOk result (λ r. length r.rest < length tokens.entry) }
+    ensures gives { Gives (seen_read seen_item_begin) result (read_item_begin tokens.entry) }
 {
-    match tokens {
-        [t, rest @ ..] => match item_word(t) {
+    let left = tokens.len();
+    match tokens.next() {
+        Some((t, rest)) => match item_word(&t) {
             Some(word) => Ok(Read {
                 value: ItemBegin { at: t.at, word },
                 rest,
             }),
-            None => Err(Stop::At(tokens.len(), None)),
+            None => Err(Stop::At(left, None)),
         },
-        [] => Err(Stop::At(0, None)),
+        None => Err(Stop::At(0, None)),
     }
 }
 
@@ -46,10 +48,10 @@ fn read_item_begin<'a>(tokens: &'a [Lexeme<'a>]) -> Result<Read<'a, ItemBegin>, 
 fn read_meaning_behind<'a>(
     alloc: Global,
     word: ItemWord,
-    tokens: &'a [Lexeme<'a>],
+    tokens: Cursor<'a>,
 ) -> Result<Read<'a, What>, Stop>
-    ensures shorter { IfOk result (λ r. length r.rest.now < length tokens.now) }
-    ensures gives { Gives (seen_read seen_what) result (read_meaning_behind word (toks tokens.now)) }
+    ensures shorter { IfOk result (λ r. length r.rest < length tokens.entry) }
+    ensures gives { Gives (seen_read seen_what) result (read_meaning_behind word tokens.entry) }
 {
     match word {
         ItemWord::OfPort(kind) => read_port(alloc, kind, tokens),
@@ -67,9 +69,9 @@ fn read_meaning_behind<'a>(
 
 /// An item.
 #[tactic(auto, unfolding(crate::specs::Reading::read_item))]
-fn read_item<'a>(alloc: Global, tokens: &'a [Lexeme<'a>]) -> Result<Read<'a, Item>, Stop>
-    ensures shorter { IfOk result (λ r. length r.rest.now < length tokens.now) }
-    ensures gives { Gives (seen_read seen_item) result (read_item (toks tokens.now)) }
+fn read_item<'a>(alloc: Global, tokens: Cursor<'a>) -> Result<Read<'a, Item>, Stop>
+    ensures shorter { IfOk result (λ r. length r.rest < length tokens.entry) }
+    ensures gives { Gives (seen_read seen_item) result (read_item tokens.entry) }
 {
     let begin = read_item_begin(tokens)?;
     let name = read_name(alloc, begin.rest)?;
@@ -89,23 +91,23 @@ fn with_next_item<'a>(
     alloc: Global,
     items: Read<'a, List<Item>>,
 ) -> Result<Read<'a, List<Item>>, Stop>
-    ensures shorter { IfOk result (λ r. length r.rest.now < length items.entry.rest.now) }
-    ensures gives { Gives (seen_read (seen_list seen_item)) result (read_put read_item appended (seen_list seen_item items.entry.value) (toks items.entry.rest.now)) }
+    ensures shorter { IfOk result (λ r. length r.rest < length items.entry.rest) }
+    ensures gives { Gives (seen_read (seen_list seen_item)) result (read_put read_item appended (seen_list seen_item items.entry.value) items.entry.rest) }
 {
     let next = read_item(alloc, items.rest)?;
     Ok(pushed(items.value, next)?)
 }
 
 /// Items up to a `}`.
-fn read_items<'a>(alloc: Global, tokens: &'a [Lexeme<'a>]) -> Result<Read<'a, List<Item>>, Stop>
-    ensures shorter { IfOk result (λ r. length r.rest.now ≤ length tokens.now) }
-    ensures gives { Gives (seen_read (seen_list seen_item)) result (read_items (toks tokens.now)) }
+fn read_items<'a>(alloc: Global, tokens: Cursor<'a>) -> Result<Read<'a, List<Item>>, Stop>
+    ensures shorter { IfOk result (λ r. length r.rest ≤ length tokens.entry) }
+    ensures gives { Gives (seen_read (seen_list seen_item)) result (read_items tokens.entry) }
 {
     let mut items = Read {
         value: List::new(alloc),
         rest: tokens,
     };
-    while before_close(items.rest) {
+    while before_close(&items.rest) {
         items = with_next_item(alloc, items)?;
     }
     Ok(items)
@@ -113,9 +115,9 @@ fn read_items<'a>(alloc: Global, tokens: &'a [Lexeme<'a>]) -> Result<Read<'a, Li
 
 /// A module.
 #[tactic(auto, unfolding(crate::specs::Reading::read_module))]
-fn read_module<'a>(alloc: Global, tokens: &'a [Lexeme<'a>]) -> Result<Read<'a, Module>, Stop>
-    ensures shorter { IfOk result (λ r. length r.rest.now < length tokens.now) }
-    ensures gives { Gives (seen_read seen_module) result (read_module (toks tokens.now)) }
+fn read_module<'a>(alloc: Global, tokens: Cursor<'a>) -> Result<Read<'a, Module>, Stop>
+    ensures shorter { IfOk result (λ r. length r.rest < length tokens.entry) }
+    ensures gives { Gives (seen_read seen_module) result (read_module tokens.entry) }
 {
     let word = read_word(tokens, b"Module")?;
     let name = read_name(alloc, word.rest)?;
@@ -137,16 +139,16 @@ fn with_next_module<'a>(
     alloc: Global,
     modules: Read<'a, List<Module>>,
 ) -> Result<Read<'a, List<Module>>, Stop>
-    ensures shorter { IfOk result (λ r. length r.rest.now < length modules.entry.rest.now) }
-    ensures gives { Gives (seen_read (seen_list seen_module)) result (read_put read_module appended (seen_list seen_module modules.entry.value) (toks modules.entry.rest.now)) }
+    ensures shorter { IfOk result (λ r. length r.rest < length modules.entry.rest) }
+    ensures gives { Gives (seen_read (seen_list seen_module)) result (read_put read_module appended (seen_list seen_module modules.entry.value) modules.entry.rest) }
 {
     let next = read_module(alloc, modules.rest)?;
     Ok(pushed(modules.value, next)?)
 }
 
 /// Modules up to the end.
-pub(crate) fn read_design<'a>(alloc: Global, tokens: &'a [Lexeme<'a>]) -> Result<List<Module>, Stop>
-    ensures { Gives (seen_list seen_module) result (whole_design (toks tokens.now)) }
+pub(crate) fn read_design<'a>(alloc: Global, tokens: Cursor<'a>) -> Result<List<Module>, Stop>
+    ensures { Gives (seen_list seen_module) result (whole_design tokens.entry) }
 {
     let mut modules = Read {
         value: List::new(alloc),

@@ -1,13 +1,13 @@
 // The words by which the parts of a text are told apart.
 ghost use Rattle.std.specs.Prelude.{◌≡◌, Option};
 ghost use Rattle.std.specs.Str.{bytes_eq};
+ghost use Rattle.icl_lexer.specs.Lexemes.{tok};
 ghost use Rattle.icl_syntax.specs.Tokens.{is_left_out};
 ghost use Rattle.icl_syntax.specs.Words.{data_port_named, control_port_named, to_port_named, port_named, other_item_named, item_named, prop_named, bind_named, member_named, link_named};
 ghost use Rattle.icl_syntax.specs.Grammar.{prop_word_at};
 ghost use Rattle.icl_syntax.specs.Modules.{item_word_at, bind_word_at, member_word_at, link_kind_at};
-ghost use Rattle.icl_expressions.specs.Seen.{tok};
 
-use icl_expressions::Lexeme;
+use icl_lexer::Lexeme;
 use icl_syntax::{BindWord, ItemWord, LinkKind, MemberWord, PortKind, PropWord};
 
 /// Whether a text is a word.

@@ -16,10 +16,10 @@ ghost use Rattle.icl_references.specs.Tables.{IsHere, frames_of, here_in, no_fra
 use crate::marks::{Row, note};
 use icl_frames::{Stretch, is_data_in, is_input, is_scan_in, named_in, width};
 use icl_references::{Member, Ref, Tables, control_signals, data_signals, scan_signal};
-use icl_syntax::{Bind, Range, Sig, What};
+use icl_syntax::{Bind, Range, Sig, SmallText, What};
 use icl_values::ElabFault;
 use ij_bits::{List, OutOfMemory};
-use ij_text::{Name, Place, name_of};
+use ij_text::{Place, name_of};
 use std::alloc::Global;
 use std::marker::Model;
 
@@ -305,7 +305,7 @@ fn bound_in(
     child: u32,
     bindings: &Bindings,
     at: Place,
-    name: &Name,
+    name: &SmallText,
     range: &Option<Range>,
     sigs: &[Sig],
 ) -> Result<Bound, ElabFault>

@@ -12,7 +12,7 @@ ghost use Rattle.icl_references.specs.Tables.{IsHere, frames_of, here_in, seen_m
 
 use icl_frames::is_interface;
 use icl_references::{Member, Tables};
-use icl_syntax::{LinkInstr, What};
+use icl_syntax::{LinkInstr, SmallText, What};
 use icl_values::ElabFault;
 use ij_bits::List;
 use ij_text::{Name, Place, name_of};
@@ -30,7 +30,7 @@ fn port_number(
     tables: &Tables,
     here: u32,
     at: Place,
-    name: &Name,
+    name: &SmallText,
 ) -> Result<u32, ElabFault>
     requires { IsHere tables.now here }
     ensures { Gives same result (port_number (frames_of tables.now) (here_in tables.now here) at name.now.items) }
@@ -48,7 +48,7 @@ pub(crate) fn port_numbers(
     tables: &Tables,
     here: u32,
     at: Place,
-    names: &[Name],
+    names: &[SmallText],
 ) -> Result<List<u32>, ElabFault>
     requires { IsHere tables.now here }
     ensures { Gives seen_numbers result (each (port_number (frames_of tables.now) (here_in tables.now here) at) (map bytes_of names.now)) }
@@ -77,7 +77,7 @@ fn interface_named<'a>(members: &[Member<'a>], name: &[u8]) -> Option<Member<'a>
 fn known_interface(
     alloc: Global,
     at: Place,
-    name: &Name,
+    name: &SmallText,
     m: Option<Member>,
 ) -> Result<u32, ElabFault>
     ensures { Gives same result (known_number at name.now.items (option_map seen_member m.entry)) }

@@ -14,7 +14,7 @@ ghost use Rattle.icl_references.specs.Tables.{seen_member};
 
 use icl_frames::{Frame, is_enum};
 use icl_references::{Member, width_of};
-use icl_syntax::{EnumWord, Item, What};
+use icl_syntax::{EnumWord, Item, SmallText, What};
 use icl_values::{ElabFault, ParamTable, value_in};
 use ij_bits::{List, Tern};
 use ij_text::{Name, Place, name_of};
@@ -46,7 +46,7 @@ fn words_in(what: &What) -> &[EnumWord]
 fn known_enum<'a>(
     alloc: Global,
     at: Place,
-    name: &Name,
+    name: &SmallText,
     item: Option<&'a Item>,
 ) -> Result<&'a [EnumWord], ElabFault>
     ensures { Gives (λ words. map seen_enum_word words.now) result (known_enum at name.now.items (option_map (λ item. seen_item item.now) item.entry)) }
@@ -99,7 +99,7 @@ pub(crate) fn words_named(
     alloc: Global,
     frame: &Frame,
     m: &Member,
-    name: &Name,
+    name: &SmallText,
 ) -> Result<List<(Name, Tern)>, ElabFault>
     ensures { Gives seen_words result (words_named (seen_frame frame.now) (seen_member m.now) name.now.items) }
 {

@@ -1,7 +1,7 @@
 // The rows of a multiplexer.
 ghost use Rattle.std.specs.Prelude.{length, map, Ok};
 ghost use Rattle.ij_text.specs.Numbers.{tern_bits};
-ghost use Rattle.icl_syntax.specs.Views.{seen_expr, seen_list, seen_sig, seen_row};
+ghost use Rattle.icl_syntax.specs.Views.{seen_expr, seen_few, seen_sig, seen_row};
 ghost use Rattle.icl_values.specs.Expressions.{same};
 ghost use Rattle.icl_values.specs.Faults.{Gives, each};
 ghost use Rattle.icl_values.specs.Widths.{value_in};
@@ -13,7 +13,7 @@ use crate::hier::{Body, Ref};
 use crate::overlaps::{Row, some_meet};
 use crate::signals::{scan_signal, select_signals};
 use crate::tables::Tables;
-use icl_syntax::{Expr, MuxRow, Sig};
+use icl_syntax::{Expr, Few, MuxRow, Sig};
 use icl_values::{ElabFault, value_in};
 use ij_bits::{List, Tern};
 use ij_text::Place;
@@ -26,10 +26,10 @@ fn row_values(
     here: u32,
     at: Place,
     width: u32,
-    values: &[List<Expr>],
+    values: &[Few<Expr>],
 ) -> Result<List<Tern>, ElabFault>
     requires { IsHere tables.now here }
-    ensures { Gives (λ all. map tern_bits all.items) result (each (value_in (here_in tables.now here).frame.params at width) (map (seen_list seen_expr) values.now)) }
+    ensures { Gives (λ all. map tern_bits all.items) result (each (value_in (here_in tables.now here).frame.params at width) (map (seen_few seen_expr) values.now)) }
 {
     let mut all = List::new(alloc);
     for value in values {

@@ -7,8 +7,9 @@ ghost use Rattle.icl_references.specs.Tables.{IsHere, frames_of, here_in};
 ghost use Rattle.icl_references.specs.Targets.{child_named, seen_target, target_named};
 
 use crate::tables::{Member, Tables};
+use icl_syntax::SmallText;
 use icl_values::ElabFault;
-use ij_text::{Name, Place};
+use ij_text::Place;
 use std::alloc::Global;
 
 /// A part of a cell.
@@ -58,7 +59,7 @@ pub(crate) fn path_from<'a>(
     tables: &Tables<'a>,
     here: u32,
     at: Place,
-    path: &[Name],
+    path: &[SmallText],
 ) -> Result<Target<'a>, ElabFault>
     requires { IsHere tables.now here }
     ensures { Gives (seen_target tables.now) result (path_from (frames_of tables.now) (here_in tables.now here) at (map bytes_of path.now)) }

@@ -17,10 +17,10 @@ use crate::sources::{is_alias_source, is_data_source, is_scan_source};
 use crate::tables::Tables;
 use crate::values::number_bits;
 use icl_frames::{Bounds, indices, is_register, named_in};
-use icl_syntax::{Expr, Range, Sig, SigWhat};
+use icl_syntax::{Expr, Range, Sig, SigWhat, SmallText};
 use icl_values::{ElabFault, evaluate, place_in};
 use ij_bits::List;
-use ij_text::{Name, Place};
+use ij_text::Place;
 use std::alloc::Global;
 
 // ---- scan signals
@@ -84,7 +84,7 @@ fn scan_path(
     here: u32,
     at: Place,
     inverted: bool,
-    path: &[Name],
+    path: &[SmallText],
     range: &Option<Range>,
 ) -> Result<Ref, ElabFault>
     requires { IsHere tables.now here }
@@ -133,7 +133,7 @@ fn data_path(
     here: u32,
     at: Place,
     inverted: bool,
-    path: &[Name],
+    path: &[SmallText],
     range: &Option<Range>,
 ) -> Result<List<Ref>, ElabFault>
     requires { IsHere tables.now here }
@@ -278,7 +278,7 @@ fn alias_path(
     here: u32,
     at: Place,
     inverted: bool,
-    path: &[Name],
+    path: &[SmallText],
     range: &Option<Range>,
 ) -> Result<List<Ref>, ElabFault>
     requires { IsHere tables.now here }

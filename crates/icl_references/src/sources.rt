@@ -7,8 +7,7 @@ ghost use Rattle.icl_references.specs.Signals.{is_data_source, is_of_child, is_o
 use icl_frames::{
     is_data_in, is_data_out, is_data_port, is_mux, is_register, is_scan_in, is_scan_out,
 };
-use icl_syntax::What;
-use ij_text::Name;
+use icl_syntax::{SmallText, What};
 
 fn is_scan_in_port(what: &What) -> bool
     ensures { result ≡ port_that is_scan_in (seen_what what.now) }
@@ -47,21 +46,21 @@ fn is_data_out_port(what: &What) -> bool
 }
 
 /// A name of this cell.
-fn is_own(path: &[Name]) -> bool
+fn is_own(path: &[SmallText]) -> bool
     ensures { result ≡ is_own (map bytes_of path.now) }
 {
     path.len() == 1
 }
 
 /// A name in an instance of this cell.
-fn is_of_child(path: &[Name]) -> bool
+fn is_of_child(path: &[SmallText]) -> bool
     ensures { result ≡ is_of_child (map bytes_of path.now) }
 {
     path.len() == 2
 }
 
 /// Whether a scan signal may name what a path leads to: an own `ScanInPort`, a multiplexer, a register, or the `ScanOutPort` of an instance.
-pub(crate) fn is_scan_source(path: &[Name], what: &What) -> bool
+pub(crate) fn is_scan_source(path: &[SmallText], what: &What) -> bool
     ensures { result ≡ is_scan_source (map bytes_of path.now) (seen_what what.now) }
 {
     (is_own(path) && (is_register(what) || is_mux(what) || is_scan_in_port(what)))
@@ -69,7 +68,7 @@ pub(crate) fn is_scan_source(path: &[Name], what: &What) -> bool
 }
 
 /// Whether a data signal may name what a path leads to: a register, an own `DataInPort`, or the `DataOutPort` of an instance.
-pub(crate) fn is_data_source(path: &[Name], what: &What) -> bool
+pub(crate) fn is_data_source(path: &[SmallText], what: &What) -> bool
     ensures { result ≡ is_data_source (map bytes_of path.now) (seen_what what.now) }
 {
     (is_own(path) && (is_register(what) || is_data_in_port(what)))

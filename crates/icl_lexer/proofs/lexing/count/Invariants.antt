@@ -1,4 +1,5 @@
-use Rattle.std.proofs.Common.{◌≡◌, ◌+◌, ◌-◌, ◌≤◌, List, length}
+use Rattle.std.proofs.Common.{◌≡◌, ◌-◌, ◌≤◌, List, length}
+use Rattle.ij_text.specs.declared.Place.{Place}
 use Rattle.icl_lexer.specs.Token.{Token}
 use Rattle.icl_lexer.proofs.Cuts.{CutSoFar}
 use Rattle.icl_lexer.proofs.lexing.count.Given as goal
@@ -7,9 +8,7 @@ abbrev pub invariant-loop-start : goal.invariant-loop-start
 invariant-loop-start l = record {
   within : l.start ≤ length l.src;
   few : l.count ≤ l.start;
-  column : 1 ≤ l.at.col;
-  sum : l.at.line + l.at.col ≤ l.start + 2;
-  cut : (tokens : List Token) × (CutSoFar l.src tokens l.start l.at) × (l.count ≡ length tokens);
+  cut : (tokens : List Token) × (at : Place) × (CutSoFar l.src tokens l.start at) × (l.count ≡ length tokens);
 }
 
 abbrev pub decreases-loop-start : goal.decreases-loop-start

@@ -1,0 +1,136 @@
+// Reading a token.
+ghost use Rattle.std.specs.Prelude.{◌≡◌, ◌<◌, true, false, length, IfOk, ◌++◌, ◌∷◌, []};
+ghost use Rattle.icl_lexer.specs.Seen.{is_mark, if_word};
+ghost use Rattle.icl_syntax.specs.Views.{bytes_of};
+ghost use Rattle.icl_expressions.specs.Seen.{seen_read, same, Gives};
+ghost use Rattle.icl_expressions.specs.Reading.{begins, no_close, read_mark, read_word, read_name};
+
+use crate::stop::Stop;
+use icl_lexer::Cursor;
+use icl_syntax::{Few, SmallText};
+use ij_bits::{List, OutOfMemory};
+use ij_text::Place;
+use std::alloc::Global;
+
+/// A value, and the tokens behind it.
+#[derive(Drop)]
+pub struct Read<'a, X> {
+    /// What was read.
+    pub value: X,
+    /// The tokens behind it.
+    pub rest: Cursor<'a>,
+}
+
+/// A list, with a value at its end, and the tokens behind the value. Most lists have one value, and room for no more.
+pub fn pushed<'a, X: Drop>(
+    list: List<X>,
+    read: Read<'a, X>,
+) -> Result<Read<'a, List<X>>, OutOfMemory>
+    ensures items { IfOk result (λ r. r.value.items ≡ list.items ++ read.entry.value ∷ []) }
+    ensures rest { IfOk result (λ r. r.rest ≡ read.entry.rest) }
+{
+    let mut values = list.into_vec();
+    if values.is_empty() {
+        values.reserve_exact(1)?;
+    }
+    values.push(read.value)?;
+    Ok(Read {
+        value: List::from(values),
+        rest: read.rest,
+    })
+}
+
+/// A value alone, and the tokens behind it.
+pub fn few_of<'a, X: Drop>(read: Read<'a, X>) -> Read<'a, Few<X>>
+    ensures items { result.value.items ≡ read.entry.value ∷ [] }
+    ensures rest { result.rest ≡ read.entry.rest }
+{
+    Read {
+        value: Few::one(read.value),
+        rest: read.rest,
+    }
+}
+
+/// Values, with one more behind them, and the tokens behind it.
+pub fn few_with<'a, X: Drop>(
+    alloc: Global,
+    few: Few<X>,
+    read: Read<'a, X>,
+) -> Result<Read<'a, Few<X>>, OutOfMemory>
+    ensures items { IfOk result (λ r. r.value.items ≡ few.items ++ read.entry.value ∷ []) }
+    ensures rest { IfOk result (λ r. r.rest ≡ read.entry.rest) }
+{
+    Ok(Read {
+        value: few.with(alloc, read.value)?,
+        rest: read.rest,
+    })
+}
+
+/// Whether a mark is the next token.
+pub fn begins_mark(tokens: &Cursor, mark: u8) -> bool
+    ensures { result ≡ begins (is_mark mark) tokens.now }
+{
+    match tokens.first() {
+        Some(t) => t.is_mark(mark),
+        None => false,
+    }
+}
+
+/// Whether a word is the next token.
+pub(crate) fn begins_name(tokens: &Cursor) -> bool
+    ensures { result ≡ begins (λ t. if_word t.kind true false) tokens.now }
+{
+    match tokens.first() {
+        Some(t) => t.is_name(),
+        None => false,
+    }
+}
+
+/// Whether a token that isn't a `}` is the next one.
+pub fn before_close(tokens: &Cursor) -> bool
+    ensures { result ≡ begins no_close tokens.now }
+{
+    match tokens.first() {
+        Some(t) => !t.is_mark(b'}'),
+        None => false,
+    }
+}
+
+/// A mark, and its place.
+pub fn read_mark<'a>(tokens: Cursor<'a>, mark: u8) -> Result<Read<'a, Place>, Stop>
+    ensures shorter { IfOk result (λ r. length r.rest < length tokens.entry) }
+    ensures gives { Gives (seen_read same) result (read_mark mark tokens.entry) }
+{
+    let left = tokens.len();
+    match tokens.next() {
+        Some((t, rest)) if t.is_mark(mark) => Ok(Read { value: t.at, rest }),
+        _ => Err(Stop::At(left, None)),
+    }
+}
+
+/// A word that is this one, and its place.
+pub fn read_word<'a>(tokens: Cursor<'a>, word: &[u8]) -> Result<Read<'a, Place>, Stop>
+    ensures shorter { IfOk result (λ r. length r.rest < length tokens.entry) }
+    ensures gives { Gives (seen_read same) result (read_word word.now tokens.entry) }
+{
+    let left = tokens.len();
+    match tokens.next() {
+        Some((t, rest)) if t.is_word(word) => Ok(Read { value: t.at, rest }),
+        _ => Err(Stop::At(left, None)),
+    }
+}
+
+/// Any word, a keyword included.
+pub fn read_name<'a>(alloc: Global, tokens: Cursor<'a>) -> Result<Read<'a, SmallText>, Stop>
+    ensures shorter { IfOk result (λ r. length r.rest < length tokens.entry) }
+    ensures gives { Gives (seen_read bytes_of) result (read_name tokens.entry) }
+{
+    let left = tokens.len();
+    match tokens.next() {
+        Some((t, rest)) if t.is_name() => Ok(Read {
+            value: SmallText::of(alloc, t.text)?,
+            rest,
+        }),
+        _ => Err(Stop::At(left, None)),
+    }
+}
