@@ -55,7 +55,7 @@ fn read_modules<'a>(
     tokens: Cursor<'a>,
 ) -> Result<Design, StageFault>
     requires { length text.now ≤ 134217728 }
-    ensures { Follows (icl_design text.now tokens) seen_design result }
+    ensures { Follows (icl_design text.now tokens.entry) seen_design result }
 {
     match parse(alloc, text, tokens) {
         Ok(design) => Ok(design),
