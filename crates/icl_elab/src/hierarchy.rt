@@ -19,9 +19,9 @@ ghost use Rattle.icl_elab.specs.SeenCells.{heads_of_cells, heads_of_frame, seen_
 ghost use Rattle.icl_references.specs.Tables.{AreTables, frames_of};
 
 use crate::pass::{CellParts, Placed, second_pass};
-use icl_frames::{Bounds, Frame, first_pass};
+use icl_frames::{Frame, first_pass};
 use icl_parts::Bindings;
-use icl_references::{Body, Cell, Hier, Part, Ref, Tables, width_of};
+use icl_references::{Body, Cell, Hier, Part, Ref, Tables};
 use icl_syntax::Design;
 use icl_values::ElabFault;
 use ij_bits::{List, OutOfMemory};

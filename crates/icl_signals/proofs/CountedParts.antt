@@ -1,16 +1,16 @@
 -- How many stand in front of a part is its number among those of its kind.
-use Rattle.std.proofs.Common.{◌≡◌, ◌+◌, ◌==◌, ◌++◌, ◌&&◌, ℕ, zero, suc, Bool, true, false, cond, List, [], ◌∷◌, map, length, get_or, Option, Some, None, refl, sym, ap, subst, ◌∙◌, arith, append_assoc, length-append}
+use Rattle.std.proofs.Common.{◌≡◌, ◌+◌, ◌==◌, ◌++◌, ◌&&◌, ℕ, zero, suc, Bool, true, false, List, [], ◌∷◌, map, length, get_or, Option, Some, None, refl, sym, ap, subst, ◌∙◌, arith, append_assoc, length-append}
 use Rattle.std.specs.Prelude.{filter, flat_map, position, slice_get, unwrap_or}
 use Rattle.std.specs.List.{AllByRecursion, enumerate_from, position_from}
 use Rattle.std.proofs.lemmas.Bool.{eq-eqb, ne_eqb}
 use Rattle.std.proofs.lemmas.Iterator.Adapters.{position_from-zero}
 use Rattle.std.proofs.lemmas.List.Elements.{filter-append}
 use Rattle.icl_elab.specs.WellFormed.{is_instrument}
-use Rattle.icl_references.specs.Roles.{Role, PartOf, CellOf, part_of, part_at}
+use Rattle.icl_references.specs.Roles.{PartOf, CellOf, part_of, part_at}
 use Rattle.icl_signals.specs.declared.parts.Kind.{Kind}
 use Rattle.icl_signals.specs.declared.parts.Kind.TheVariants.{Output}
-use Rattle.icl_signals.specs.Moves.{Entry, entry_of, entries_in, entries}
-use Rattle.icl_signals.specs.Connecting.{is_same, entries_that, number_among, instruments, instrument_number, parts_that, outputs_at, output_number}
+use Rattle.icl_signals.specs.Moves.{Entry, entry_of, entries_in}
+use Rattle.icl_signals.specs.Connecting.{is_same, entries_that, number_among, instrument_number, parts_that, output_number}
 use Rattle.icl_signals.specs.Kinds.{test_of, is_of, one_if, in_front, with_all, numbers_from, number_at}
 
 -- ---- the first that passes a test

@@ -1,5 +1,5 @@
 -- The nodes of a network by their paths and modules.
-use Rattle.std.proofs.Common.{◌≡◌, ◌+◌, ℕ, zero, suc, List, [], ◌∷◌, map, get_or, refl, sym, ap, ◌∙◌, arith}
+use Rattle.std.proofs.Common.{◌≡◌, ◌+◌, ℕ, suc, List, [], ◌∷◌, map, get_or, refl, sym, ap, ◌∙◌, arith}
 use Rattle.std.specs.List.{enumerate_from}
 use Rattle.icl_references.specs.Roles.{CellOf}
 use Rattle.icl_signals.specs.PlainNets.{NodeOf}

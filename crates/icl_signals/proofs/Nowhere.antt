@@ -1,5 +1,5 @@
 -- What is at a place of a list, or isn't there.
-use Rattle.std.proofs.Common.{◌≡◌, ◌<◌, ℕ, zero, suc, List, [], ◌∷◌, length, map, get_or, Option, Some, None, refl, sym, ap, ◌∙◌, arith}
+use Rattle.std.proofs.Common.{◌≡◌, ◌<◌, ℕ, zero, suc, List, [], ◌∷◌, length, map, get_or, None, refl, ap, arith}
 use Rattle.std.specs.Prelude.{slice_get}
 
 pub mapped_at : {A B C : Type 0} (f : B → C) (g : A → B) (d : C) (xs : List A) (k : ℕ) (x : A) → k < length xs → x ≡ get_or xs k x → f (g x) ≡ get_or (map f (map g xs)) k d

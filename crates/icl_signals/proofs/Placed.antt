@@ -1,13 +1,13 @@
 -- The entries of a hierarchy are its parts, at their numbers.
-use Rattle.std.proofs.Common.{◌≡◌, ◌+◌, ◌<◌, ℕ, zero, suc, Bool, true, false, List, [], ◌∷◌, map, length, refl, sym, ap, subst, arith}
-use Rattle.std.specs.Prelude.{filter, slice_get, slice_index_or}
+use Rattle.std.proofs.Common.{◌≡◌, ◌+◌, ℕ, zero, suc, Bool, true, false, List, [], ◌∷◌, map, refl, sym, ap, subst, arith}
+use Rattle.std.specs.Prelude.{filter, slice_get}
 use Rattle.std.specs.List.{AllByRecursion, enumerate_from}
 use Rattle.icl_references.specs.Roles.{Role, PartOf, CellOf}
 use Rattle.icl_signals.specs.declared.entries.PartAt.{PartAt}
-use Rattle.icl_signals.specs.Moves.{Entry, entry_of, entries}
+use Rattle.icl_signals.specs.Moves.{entry_of, entries}
 use Rattle.icl_signals.specs.Connecting.{entries_that}
 use Rattle.icl_signals.specs.Inside.{numbered}
-use Rattle.icl_signals.specs.Told.{seen_entry, IsPlaced, ArePlaced}
+use Rattle.icl_signals.specs.Told.{seen_entry, ArePlaced}
 use Rattle.icl_signals.proofs.Joined.{Known, all_known}
 
 kept : {A : Type 0} (P : A → Type 0) (test : A → Bool) (xs : List A) → AllByRecursion P xs → AllByRecursion P (filter test xs)

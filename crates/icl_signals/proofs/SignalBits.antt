@@ -1,10 +1,10 @@
 -- The bits of a hierarchy, cell by cell.
-use Rattle.std.proofs.Common.{◌≡◌, ◌+◌, ◌++◌, ℕ, List, [], ◌∷◌, map, refl, sym, ap, ◌∙◌, arith}
+use Rattle.std.proofs.Common.{◌≡◌, ◌+◌, ◌++◌, ℕ, List, [], ◌∷◌, map, refl, sym, ◌∙◌, arith}
 use Rattle.std.specs.Prelude.{sum_by, flat_map}
 use Rattle.std.specs.List.{enumerate_from}
 use Rattle.std.proofs.lemmas.List.Sums.{sum_by-cons}
 use Rattle.icl_references.specs.Roles.{PartOf, CellOf, part_width}
-use Rattle.icl_signals.specs.Moves.{Entry, entry_of, entries_in, entries}
+use Rattle.icl_signals.specs.Moves.{Entry, entry_of, entries_in}
 use Rattle.icl_signals.specs.Traces.{signal_bits}
 
 abbrev pub bits_of_cells : List CellOf → ℕ

@@ -1,13 +1,13 @@
 -- What a bit's part is, by what the bit stands for.
-use Rattle.std.proofs.Common.{◌≡◌, ℕ, zero, suc, Bool, true, false, cond, List, [], ◌∷◌, map, get_or, Option, Some, None, refl, sym, ap, subst, ◌∙◌}
+use Rattle.std.proofs.Common.{◌≡◌, ℕ, Bool, true, false, cond, List, Option, Some, None, refl}
 use Rattle.std.specs.Prelude.{slice_get}
-use Rattle.icl_elab.specs.WellFormed.{is_register, is_mux, is_data_out, is_instrument}
+use Rattle.icl_elab.specs.WellFormed.{is_register, is_mux, is_data_out}
 use Rattle.icl_references.specs.declared.hier.Ref.{Ref}
 use Rattle.icl_references.specs.Roles.{Role, ScanInput, ScanOutput, DataInput, DataOutput, ControlPort, AScanRegister, AScanMux, AnAliasOf, AnInstance, AnInterfaceOf, AnAccessLink, PartOf, CellOf, part_of, part_at}
 use Rattle.icl_signals.specs.declared.wires.Wire.{Wire}
 use Rattle.icl_signals.specs.declared.wires.StandsFor.{StandsFor}
 use Rattle.icl_signals.specs.declared.wires.StandsFor.TheVariants.{Another, ARegisterBit, AMuxOutput, AnInstrumentOutput, TheEntry, AFreeInput, NothingAtAll}
-use Rattle.icl_signals.specs.Moves.{is_top, is_instrument_cell, one_ref, ref_in, role_move, part_move, is_entry, stands_for}
+use Rattle.icl_signals.specs.Moves.{is_top, is_instrument_cell, one_ref, role_move, part_move, is_entry, stands_for}
 
 -- what is so of the role, and of whether the cell is an instrument
 abbrev pub IsOfRole : StandsFor → Bool → Role → Type 0

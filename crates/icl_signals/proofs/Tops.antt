@@ -1,5 +1,5 @@
 -- A cell that isn't there.
-use Rattle.std.proofs.Common.{◌≡◌, ℕ, zero, suc, true, List, [], ◌∷◌, Option, Some, None, refl}
+use Rattle.std.proofs.Common.{◌≡◌, ℕ, zero, suc, true, List, [], ◌∷◌, None, refl}
 use Rattle.std.specs.Prelude.{slice_get}
 use Rattle.icl_references.specs.Roles.{CellOf}
 use Rattle.icl_signals.specs.Moves.{is_top}

@@ -1,8 +1,7 @@
 -- What following a signal looks at: the hierarchy, which cells are instruments, the numbers of parts, where the network begins, and ends that were found.
-use Rattle.std.specs.Prelude.{◌≡◌, ◌+◌, ℕ, List, map}
+use Rattle.std.specs.Prelude.{◌≡◌, ◌+◌, List, map}
 use Rattle.icl_elab.specs.WellFormed.{is_instrument}
 use Rattle.icl_references.specs.Roles.{CellOf, seen_hier}
-use Rattle.icl_signals.specs.declared.wires.Wire.{Wire}
 use Rattle.icl_signals.specs.declared.parts.Kind.TheVariants.{Register, Mux, Thing, Output}
 use Rattle.icl_signals.specs.declared.wiring.Wiring.{Wiring}
 use Rattle.icl_signals.specs.Traces.{signal_bits}

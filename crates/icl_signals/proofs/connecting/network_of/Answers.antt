@@ -1,4 +1,4 @@
-use Rattle.std.proofs.Common.{◌≡◌, sym, ap, subst, ◌∙◌, map}
+use Rattle.std.proofs.Common.{sym, ap, subst, ◌∙◌, map}
 use Rattle.icl_elab.specs.WellFormed.{is_register}
 use Rattle.icl_references.specs.Roles.{seen_hier}
 use Rattle.icl_signals.specs.Told.{seen_entry, ArePlaced}

@@ -1,4 +1,4 @@
-use Rattle.std.proofs.Common.{◌≡◌, false, ap, ◌∙◌}
+use Rattle.std.proofs.Common.{false, ap, ◌∙◌}
 use Rattle.std.specs.Prelude.{replicate}
 use Rattle.ij_text.specs.Numbers.{open_bits}
 use Rattle.icl_signals.proofs.OpenBits.{all_open}

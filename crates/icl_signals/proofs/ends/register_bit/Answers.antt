@@ -1,14 +1,11 @@
-use Rattle.std.proofs.Common.{◌≡◌, ℕ, List, Bool, true, map, subst, ap, sym, ◌∙◌, Some}
-use Rattle.std.specs.Prelude.{get_or}
-use Rattle.icl_references.specs.Roles.{PartOf, part_at}
-use Rattle.net_graph.specs.declared.net.BitId.{BitId}
-use Rattle.icl_signals.specs.declared.parts.Kind.TheVariants.{Register, Mux, Output}
-use Rattle.icl_signals.specs.declared.wires.StandsFor.TheVariants.{ARegisterBit, AMuxOutput, AnInstrumentOutput}
+use Rattle.std.proofs.Common.{map, subst, ap, ◌∙◌}
+use Rattle.icl_references.specs.Roles.{part_at}
+use Rattle.icl_signals.specs.declared.parts.Kind.TheVariants.{Register}
 use Rattle.icl_signals.specs.Kinds.{number_at}
 use Rattle.icl_signals.specs.Moves.{is_instrument_cell}
 use Rattle.icl_signals.specs.Wirings.{cells_of}
-use Rattle.icl_signals.proofs.Standing.{IsAtSome, stands_at, in_cell}
-use Rattle.icl_signals.proofs.CountedParts.{number_at_is, output_number_is, instrument_number_is, get_mapped}
+use Rattle.icl_signals.proofs.Standing.{IsAtSome, stands_at}
+use Rattle.icl_signals.proofs.CountedParts.{number_at_is}
 use Rattle.icl_signals.proofs.ends.register_bit.Goals as goal
 
 pub returns : goal.returns

@@ -1,4 +1,4 @@
-use Rattle.std.proofs.Common.{◌≡◌, ◌++◌, map, ap, ◌∙◌}
+use Rattle.std.proofs.Common.{◌++◌, map, ap, ◌∙◌}
 use Rattle.std.specs.Prelude.{filter}
 use Rattle.icl_references.specs.Roles.{seen_cell}
 use Rattle.icl_signals.specs.Moves.{Entry, entries_in}

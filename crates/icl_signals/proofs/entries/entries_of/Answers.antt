@@ -1,10 +1,10 @@
-use Rattle.std.proofs.Common.{◌≡◌, ◌+◌, ◌++◌, ℕ, List, ◌∷◌, map, drop, sym, ap, ◌∙◌, append_assoc}
+use Rattle.std.proofs.Common.{◌+◌, ◌++◌, ℕ, List, map, drop, sym, ap, ◌∙◌, append_assoc}
 use Rattle.std.specs.Prelude.{filter, flat_map}
 use Rattle.std.specs.List.{enumerate_from}
 use Rattle.std.proofs.lemmas.List.Elements.{filter-append}
 use Rattle.icl_signals.proofs.Rounds.{split_at}
 use Rattle.icl_references.specs.declared.hier.Cell.{Cell}
-use Rattle.icl_references.specs.Roles.{CellOf, seen_cell, seen_hier}
+use Rattle.icl_references.specs.Roles.{seen_cell}
 use Rattle.icl_signals.specs.Moves.{Entry, entries_in}
 use Rattle.icl_signals.specs.Kinds.{test_of}
 use Rattle.icl_signals.specs.Told.{seen_entry}

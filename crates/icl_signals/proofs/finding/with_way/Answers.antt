@@ -1,4 +1,4 @@
-use Rattle.std.proofs.Common.{◌≡◌, ◌+◌, ◌≤◌, ℕ, suc, ap, ◌∙◌, arith}
+use Rattle.std.proofs.Common.{ap, ◌∙◌, arith}
 use Rattle.icl_signals.specs.Wirings.{cells_of}
 use Rattle.icl_signals.specs.Traces.{follow}
 use Rattle.icl_signals.specs.Told.{resume}

@@ -1,4 +1,4 @@
-use Rattle.std.proofs.Common.{◌≡◌, map, drop}
+use Rattle.std.proofs.Common.{◌≡◌, drop}
 use Rattle.icl_values.specs.Faults.{each}
 use Rattle.icl_signals.specs.Refusals.{behind}
 use Rattle.icl_signals.specs.Wirings.{cells_of}

@@ -1,4 +1,4 @@
-use Rattle.std.proofs.Common.{◌≡◌, [], map, length, sym, ap, ◌∙◌, arith}
+use Rattle.std.proofs.Common.{[], map, length, sym, ap, ◌∙◌}
 use Rattle.std.proofs.lemmas.Bool.{ltb-true}
 use Rattle.icl_signals.specs.PlainNets.{seen_node}
 use Rattle.icl_signals.proofs.Nowhere.{mapped_at}

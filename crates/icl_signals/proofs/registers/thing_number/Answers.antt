@@ -1,4 +1,4 @@
-use Rattle.std.proofs.Common.{◌≡◌, map, ap, ◌∙◌}
+use Rattle.std.proofs.Common.{map, ap, ◌∙◌}
 use Rattle.icl_references.specs.Roles.{seen_part}
 use Rattle.icl_signals.specs.declared.parts.Kind.TheVariants.{Thing}
 use Rattle.icl_signals.specs.Kinds.{number_at}
