@@ -21,7 +21,7 @@ pub struct Read<'a, X> {
     pub rest: Cursor<'a>,
 }
 
-/// A list, with a value at its end, and the tokens behind the value. Most lists have one value, and room for no more.
+/// A list with one more value at its end, and the tokens behind the value. The first value makes room for itself alone.
 pub fn pushed<'a, X: Drop>(
     list: List<X>,
     read: Read<'a, X>,

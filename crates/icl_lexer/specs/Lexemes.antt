@@ -14,7 +14,7 @@ abbrev pub tokens_at_hand : Option TokenKind → Place → List ℕ → List ℕ
 tokens_at_hand None at text behind = []
 tokens_at_hand (Some kind) at text behind = record { kind = kind; at = at; text = text } ∷ tokens_in behind (place_behind at text)
 
--- the places of so many bytes are numbers
+-- the places of so many bytes from a place on, and the one behind them, are below 2^32
 abbrev pub HasPlaces : Place → ℕ → Type 0
 HasPlaces at n = (1 ≤ at.col) × (at.line + at.col + n < 2 ^ 32)
 

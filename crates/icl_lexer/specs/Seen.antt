@@ -70,7 +70,7 @@ abbrev pub unless_mark : Bool → Option Match → Option Match
 unless_mark opens None = None
 unless_mark opens (Some found) = cond (opens && (found.len == 1)) None (Some found)
 
--- the piece with which a text begins
+-- the piece with which a text begins, if there is one
 unfoldable pub front : List ℕ → Option Match
 front text = unless_mark (opens_comment text) (longest_match text (length text))
 
@@ -85,12 +85,12 @@ tokens_of_front next text at None = []
 tokens_of_front next text at (Some found) =
     seen_piece found.kind at (take found.len text) ++ next (drop found.len text) (place_behind at (take found.len text))
 
--- the tokens of a text at a place, up to its end or to what begins no piece; at most so many pieces
+-- the tokens of so many pieces at most, at the front of a text that stands at a place
 unfoldable pub tokens_within : ℕ → List ℕ → Place → List SeenToken
 tokens_within zero text at = []
 tokens_within (suc n) text at = tokens_of_front (tokens_within n) text at (front text)
 
--- each piece has a byte, so that there are no more pieces than bytes
+-- the tokens of a text at a place, up to its end or to what begins no piece; each piece has a byte, so there are no more pieces than bytes
 unfoldable pub tokens_in : List ℕ → Place → List SeenToken
 tokens_in text at = tokens_within (length text) text at
 

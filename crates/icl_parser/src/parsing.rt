@@ -68,8 +68,8 @@ fn rest_of<'a>(tokens: Cursor<'a>, left: usize) -> Cursor<'a>
     rest
 }
 
-/// The design of an ICL text (IEEE 1687-2014, as far as it is read here), whose tokens [`icl_lexer::lex`] gave. Takes
-/// memory by `alloc`, for the design alone, and leaves the text as it is.
+/// The design that these tokens make (IEEE 1687-2014, as far as it is read here). They are those that [`icl_lexer::lex`] gives of the
+/// text; the text itself is looked at for its end alone. Takes memory by `alloc`, for the design or for the word of a fault.
 ///
 /// The text has at most 134,217,728 bytes. An ICL file may have 16,777,216.
 ///

@@ -32,7 +32,7 @@ impl<T> Model for Few<T> {
 }
 
 impl<T: Drop> Values<T> {
-    /// The values in a list, with room for another one.
+    /// The values in a list.
     fn into_list(self, alloc: Global) -> Result<List<T>, OutOfMemory>
         ensures { IfOk result (λ list. list.items ≡ one_or_more self) }
     {
@@ -69,7 +69,7 @@ impl<T: Drop> Few<T> {
         })
     }
 
-    /// The values. That one of them fits in memory is plain of each type that is known.
+    /// The values. A known type always fits in memory; a generic caller asks for it too.
     pub fn as_slice(&self) -> &[T]
         requires { FitsInMemory T.row }
         ensures { result.now ≡ self.now.items }

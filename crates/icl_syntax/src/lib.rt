@@ -14,7 +14,7 @@ mod words;
 pub use few::Few;
 pub use small_text::SmallText;
 pub use tree::{
-    Bind, Design, Ends, EnumWord, Expr, Item, LinkInstr, LinkKind, Module, MuxRow, PortKind, Prop, Range,
-    Sig, SigWhat, Sign, What,
+    Bind, Design, Ends, EnumWord, Expr, Item, LinkInstr, LinkKind, Module, MuxRow, PortKind, Prop,
+    Range, Sig, SigWhat, Sign, What,
 };
 pub use words::{BindWord, ItemWord, Limit, MemberWord, Owner, PropWord};

@@ -1,5 +1,5 @@
 // Short texts.
-ghost use Rattle.std.specs.Prelude.{◌≡◌, IfOk};
+ghost use Rattle.std.specs.Prelude.{◌≡◌, ◌≤◌, length, IfOk, IsOk};
 
 use ij_bits::OutOfMemory;
 use std::alloc::Global;
@@ -12,7 +12,7 @@ const NEAR: usize = 14;
 #[derive(Drop)]
 enum Held {
     /// So many of these.
-    Near(u8, [u8; 14]),
+    Near(u8, [u8; NEAR]),
     /// Here.
     Far(Box<Vec<u8>>),
 }
@@ -37,12 +37,13 @@ impl Model for SmallText {
 }
 
 impl SmallText {
-    /// A text with these bytes.
+    /// A text with these bytes. Up to 14 take no memory.
     pub fn of(alloc: Global, bytes: &[u8]) -> Result<SmallText, OutOfMemory>
-        ensures { IfOk result (λ t. t.items ≡ bytes.now) }
+        ensures bytes { IfOk result (λ t. t.items ≡ bytes.now) }
+        ensures near { length bytes.now ≤ 14 → IsOk result }
     {
         let held = if bytes.len() <= NEAR {
-            let mut near = [0; 14];
+            let mut near = [0; NEAR];
             near[..bytes.len()].copy_from_slice(bytes);
             Held::Near(bytes.len() as u8, near)
         } else {

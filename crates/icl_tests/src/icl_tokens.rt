@@ -52,10 +52,7 @@ fn texts_have_tokens(rt: HostRuntime) -> Result<(), Fail> {
         ),
         ("$W'b0$W", "Sized 1:1 $W'b0 Param 1:6 $W"),
         ("4'bxyz", "Sized 1:1 4'bx Word 1:5 yz"),
-        (
-            "/* a /* b */ c */",
-            "Word 1:14 c Mark 1:16 * Mark 1:17 /",
-        ),
+        ("/* a /* b */ c */", "Word 1:14 c Mark 1:16 * Mark 1:17 /"),
         ("/***/a/**/", "Word 1:6 a"),
     ];
     for (text, wanted) in rows {

@@ -49,11 +49,7 @@ fn read_tokens<'a>(alloc: Global, text: &'a [u8]) -> Result<Cursor<'a>, StageFau
 
 /// What the grammar makes of the tokens of a text.
 #[tactic(auto, unfolding(crate::specs::IclText::icl_design))]
-fn read_modules<'a>(
-    alloc: Global,
-    text: &[u8],
-    tokens: Cursor<'a>,
-) -> Result<Design, StageFault>
+fn read_modules<'a>(alloc: Global, text: &[u8], tokens: Cursor<'a>) -> Result<Design, StageFault>
     requires { length text.now ≤ 134217728 }
     ensures { Follows (icl_design text.now tokens.entry) seen_design result }
 {
