@@ -1,7 +1,5 @@
 -- The decimals of tokens, and the words of ICL that this compiler leaves out.
-use Rattle.std.specs.Prelude.{ℕ, ◌+◌, ◌-◌, ◌*◌, ◌==◌, nat_lt, Bool, false, ◌||◌, cond, List, [], ◌∷◌, map, slice_range, Option, Some, None, codes}
-use Rattle.std.specs.Str.{bytes_eq}
-use Rattle.ij_text.specs.declared.Place.{Place}
+use Rattle.std.specs.Prelude.{ℕ, nat_lt, Bool, cond, List, [], ◌∷◌, Option, Some, None, codes}
 use Rattle.ij_text.specs.Numbers.{decimal_from}
 use Rattle.ij_text.specs.Words.{is_one_of}
 use Rattle.icl_lexer.specs.declared.token.TokenKind.{TokenKind}
