@@ -4,9 +4,9 @@ ghost use Rattle.instruments.specs.Seen.{seen_word, seen_memory, seen_port, seen
 ghost use Rattle.table_file.specs.Tables.{named};
 ghost use Rattle.bench_file.specs.Fits.{in_port, out_port, no_out, out_named};
 
-use bench_lines::words::{is, to_name};
+use bench_lines::{is, to_name};
 use ij_bits::{List, OutOfMemory};
-use instruments::model::{MemDef, OutDef, PortDef, WordDef};
+use instruments::{MemDef, OutDef, PortDef, WordDef};
 use net_graph::{PortIn, PortOut};
 use std::alloc::Global;
 

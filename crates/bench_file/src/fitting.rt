@@ -8,10 +8,10 @@ ghost use Rattle.bench_file.specs.Fits.{in_port, out_port, model_out_port, same_
 ghost use Rattle.table_file.specs.Answers.{seen_tables};
 
 use crate::fault::FitsFault;
-use bench_lines::words::is;
+use bench_lines::is;
 use ij_bits::List;
 use ij_text::Name;
-use instruments::model::{Model, OutDef, PortDef};
+use instruments::{Model, OutDef, PortDef};
 use net_graph::{Inst, Net, PortIn, PortOut};
 use table_file::Table;
 

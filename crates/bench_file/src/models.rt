@@ -15,7 +15,7 @@ use crate::fault::FitsFault;
 use crate::fitting::{has_ports, inst_path, misfit, table_named};
 use crate::moving::rows_moved;
 use ij_bits::{List, OutOfMemory};
-use instruments::model::Model;
+use instruments::Model;
 use net_graph::{Inst, Net};
 use std::alloc::Global;
 use table_file::Table;

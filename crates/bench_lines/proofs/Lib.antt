@@ -3,4 +3,4 @@ pub mod Lined
 pub mod Saying
 pub mod Above
 pub mod Lows
-pub mod Plain
+pub mod PlainNumbers

@@ -16,7 +16,7 @@ use crate::names::{NoNames, ReadNames};
 use crate::state::put_state;
 use ij_bits::List;
 use ij_io::{Sink, StoreFault};
-use instruments::model::Model;
+use instruments::Model;
 use net_bench::Bench;
 use net_graph::{Device, Net};
 use report::{Totals, put_totals};

@@ -11,7 +11,7 @@ ghost use Rattle.bench_report.specs.Report.{inst_text, instruments_text, state_t
 
 use ij_bits::List;
 use ij_io::{Sink, StoreFault};
-use instruments::model::Model;
+use instruments::Model;
 use net_bench::Bench;
 use net_graph::Net;
 use report::{put_instrument, put_registers};

@@ -19,7 +19,7 @@ use crate::state::put_values;
 use bit_marks::BitMarks;
 use ij_bits::{List, OutOfMemory};
 use ij_io::{Sink, StoreFault};
-use instruments::model::Model;
+use instruments::Model;
 use net_graph::{BitStep, Group, Net};
 use pdl_runner::DataState;
 use report::{Totals, put_totals};

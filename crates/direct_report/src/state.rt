@@ -12,7 +12,7 @@ ghost use Rattle.runners.specs.Runners.{AreModels};
 
 use ij_bits::List;
 use ij_io::{Sink, StoreFault};
-use instruments::model::Model;
+use instruments::Model;
 use net_graph::Net;
 use pdl_runner::DataState;
 use report::{put_instrument, put_registers};

@@ -16,7 +16,7 @@ use crate::play::DirectPlay;
 use bit_steps::BitSteps;
 use ij_bits::List;
 use ij_io::{Sink, StoreFault};
-use instruments::model::Model;
+use instruments::Model;
 use net_graph::{BitStep, Net};
 use std::alloc::Global;
 

@@ -6,4 +6,3 @@ pub mod Chains
 pub mod Steps
 pub mod Lists
 pub mod SignalLaws
-pub mod SignalLoops

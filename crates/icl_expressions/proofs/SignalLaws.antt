@@ -11,9 +11,10 @@ use Rattle.icl_syntax.specs.declared.words.Limit.{Limit}
 use Rattle.icl_lexer.specs.Seen.{SeenToken, if_word, if_mark, is_mark, name_at}
 use Rattle.icl_syntax.specs.Values.{APath}
 use Rattle.icl_syntax.specs.Grammar.{Of, mark, name, expr, value, maybe, expr_behind, range, number_of, number_located, number_at, Named, named_at, path_behind, named_sig, plain_sig, sig, sigs}
-use Rattle.icl_expressions.specs.Reading.{Reading, gives, any, is_name, no_close, read_name, read_maybe, read_value, read_expr_behind, read_range, read_number, read_path_behind, read_named_behind, read_named_sig, read_plain_sig, read_inverted, read_straight, read_sig, read_sigs}
+use Rattle.icl_expressions.specs.Reading.{Reading, Shrinks, gives, any, is_name, no_close, read_name, read_maybe, read_expr, read_value, read_expr_behind, read_range, read_number, read_path_behind, read_named_behind, read_named_sig, read_plain_sig, read_inverted, read_straight, read_sig, read_sigs}
 use Rattle.icl_expressions.proofs.Tokens.{nothing, no_mark, marks, both_false, left_false, right_false, marks_apart, no_mark_is, mark_apart}
 use Rattle.icl_expressions.proofs.Symbols.{then_reads, mark_reads, made_reads, sign_marks, expr_reads}
+use Rattle.icl_expressions.proofs.Steps.{reads_shrink}
 use Rattle.icl_expressions.proofs.Lists.{after_reads, more_parted_reads, parted_reads}
 
 -- ---- values and ranges
@@ -176,3 +177,14 @@ sigs_marks = 44 ∷ path_marks
 pub sigs_reads : Reads sigs any (marks sigs_marks) false read_sigs
 unfolding sigs read_sigs
 sigs_reads = parted_reads 44 sig_reads (λ t h. marks_apart 44 path_marks refl t h)
+
+-- ---- parts in a row
+
+pub expr_shrinks : Shrinks read_expr
+expr_shrinks = reads_shrink expr_reads
+
+pub value_shrinks : Shrinks read_value
+value_shrinks = reads_shrink value_reads
+
+pub sig_shrinks : Shrinks read_sig
+sig_shrinks = reads_shrink sig_reads

@@ -1,5 +1,5 @@
 -- What each function of the parser reads: the readers of the productions, put together as the productions are.
-use Rattle.std.specs.Prelude.{ℕ, zero, suc, ◌+◌, ◌-◌, Bool, true, false, not, List, [], ◌∷◌, length, Option, Some, None, Result, Ok, Err, is_some}
+use Rattle.std.specs.Prelude.{◌≡◌, ◌<◌, ℕ, zero, suc, ◌+◌, ◌-◌, Bool, true, false, not, List, [], ◌∷◌, length, Option, Some, None, Result, Ok, Err, is_some}
 use Rattle.grammar.specs.Reading.{Stop as Unfit, Reader, read_barred, read_one, read_in_turn, read_either, read_repeat}
 use Rattle.ij_text.specs.declared.Place.{Place}
 use Rattle.icl_syntax.specs.declared.words.Limit.{Limit}
@@ -10,6 +10,10 @@ use Rattle.icl_syntax.specs.Grammar.{Counted, leaf_at, Signed, sum_sign, product
 
 abbrev pub Reading : Type 0 → Type 0
 Reading A = Reader SeenToken Limit A
+
+-- a part takes one token at least
+abbrev pub Shrinks : {A : Type 0} → Reading A → Type 0
+Shrinks {A} r = (ts rest : List SeenToken) (a : A) → r ts ≡ Ok (a, rest) → length rest < length ts
 
 -- ---- tests on the next token
 
@@ -59,6 +63,13 @@ read_ended c r = read_in_turn r (λ a. read_in_turn (read_mark c) (λ e. gives a
 -- a part that begins with a mark, if the mark is there
 abbrev pub read_maybe : {A : Type 0} → ℕ → Reading A → Reading (Option A)
 read_maybe c r = read_either (is_mark c) (read_in_turn r (λ a. gives (Some a))) (gives None)
+
+-- parts behind some that are read already: each behind a mark, or up to a `}`
+abbrev pub more_parted : {A : Type 0} → ℕ → Reading A → List A → Reading (List A)
+more_parted {A} c r xs ts = read_repeat (is_mark c) (λ (ys : List A). read_after c r) appended xs ts
+
+abbrev pub more : {A : Type 0} → Reading A → List A → Reading (List A)
+more {A} r xs ts = read_repeat no_close (λ (ys : List A). r) appended xs ts
 
 -- parts with a mark between them
 abbrev pub read_parted : {A : Type 0} → ℕ → Reading A → Reading (List A)

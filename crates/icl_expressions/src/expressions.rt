@@ -1,12 +1,14 @@
 // Expressions.
 ghost use Rattle.std.specs.Prelude.{◌≡◌, ◌≤◌, ◌<◌, ◌+◌, true, false, IfOk, length};
 ghost use Rattle.grammar.specs.Reading.{read_barred};
+ghost use Rattle.icl_syntax.specs.Values.{SeenExpr};
 ghost use Rattle.icl_syntax.specs.Grammar.{too_deep, sum_sign, product_sign, with_operand};
 ghost use Rattle.icl_syntax.specs.Views.{seen_expr};
 ghost use Rattle.icl_expressions.specs.Seen.{seen_read, seen_counting, seen_sign, Gives};
 ghost use Rattle.icl_expressions.specs.Reading.{read_put, read_operand, read_factor, read_term, read_sum, read_parentheses, read_expr, joined};
 
 use crate::leaves::read_leaf;
+use crate::parts::Part;
 use crate::reading::{Read, begins_mark, read_mark};
 use crate::signs::{
     SignAt, begins_product_sign, begins_sum_sign, read_product_sign, read_sum_sign,
@@ -192,13 +194,18 @@ fn joined<'a>(
 
 /// An expression: at most 64 levels of parentheses and 256 operators.
 #[tactic(auto, unfolding(crate::specs::Reading::read_expr))]
-pub(crate) fn read_expr<'a>(alloc: Global, tokens: Cursor<'a>) -> Result<Read<'a, Expr>, Stop>
-    ensures shorter { IfOk result (λ r. length r.rest < length tokens.entry) }
-    ensures gives { Gives (seen_read seen_expr) result (read_expr tokens.entry) }
-{
-    let read = sum(alloc, tokens, 64, 0)?;
-    Ok(Read {
-        value: read.value.expr,
-        rest: read.rest,
-    })
+impl Part for Expr {
+    ghost Plain = { SeenExpr };
+
+    ghost view = { seen_expr };
+
+    ghost reader = { read_expr };
+
+    fn read<'a>(alloc: Global, tokens: Cursor<'a>) -> Result<Read<'a, Expr>, Stop> {
+        let read = sum(alloc, tokens, 64, 0)?;
+        Ok(Read {
+            value: read.value.expr,
+            rest: read.rest,
+        })
+    }
 }

@@ -3,15 +3,15 @@
 
 mod expressions;
 mod leaves;
+mod parts;
 mod reading;
 mod signals;
 mod signs;
 mod stop;
 
 pub use leaves::read_decimal;
-pub use reading::{
-    Read, before_close, begins_mark, few_of, few_with, pushed, read_mark, read_name, read_word,
-};
+pub use parts::{Part, read_parted};
+pub use reading::{Read, before_close, begins_mark, pushed, read_mark, read_name, read_word};
 pub use signals::{
     maybe_expr_behind, maybe_range, read_expr_behind, read_sig, read_sigs, read_value,
 };

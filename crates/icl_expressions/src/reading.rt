@@ -7,7 +7,7 @@ ghost use Rattle.icl_expressions.specs.Reading.{begins, no_close, read_mark, rea
 
 use crate::stop::Stop;
 use icl_lexer::Cursor;
-use icl_syntax::{Few, SmallText};
+use icl_syntax::SmallText;
 use ij_bits::{List, OutOfMemory};
 use ij_text::Place;
 use std::alloc::Global;
@@ -36,32 +36,6 @@ pub fn pushed<'a, X: Drop>(
     values.push(read.value)?;
     Ok(Read {
         value: List::from(values),
-        rest: read.rest,
-    })
-}
-
-/// A value alone, and the tokens behind it.
-pub fn few_of<'a, X: Drop>(read: Read<'a, X>) -> Read<'a, Few<X>>
-    ensures items { result.value.items ≡ read.entry.value ∷ [] }
-    ensures rest { result.rest ≡ read.entry.rest }
-{
-    Read {
-        value: Few::one(read.value),
-        rest: read.rest,
-    }
-}
-
-/// Values, with one more behind them, and the tokens behind it.
-pub fn few_with<'a, X: Drop>(
-    alloc: Global,
-    few: Few<X>,
-    read: Read<'a, X>,
-) -> Result<Read<'a, Few<X>>, OutOfMemory>
-    ensures items { IfOk result (λ r. r.value.items ≡ few.items ++ read.entry.value ∷ []) }
-    ensures rest { IfOk result (λ r. r.rest ≡ read.entry.rest) }
-{
-    Ok(Read {
-        value: few.with(alloc, read.value)?,
         rest: read.rest,
     })
 }

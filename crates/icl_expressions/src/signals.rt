@@ -1,17 +1,14 @@
 // Values, ranges and signals.
-ghost use Rattle.std.specs.Prelude.{◌<◌, ◌≤◌, [], IfOk, length};
+ghost use Rattle.std.specs.Prelude.{◌<◌, ◌≤◌, IfOk, length};
 ghost use Rattle.std.specs.Option.{option_map};
 ghost use Rattle.icl_syntax.specs.Views.{bytes_of, seen_expr, seen_few, seen_list, seen_range, seen_sig};
-ghost use Rattle.icl_syntax.specs.Grammar.{appended};
 ghost use Rattle.icl_expressions.specs.Seen.{seen_read, Gives};
 ghost use Rattle.icl_expressions.specs.SeenParts.{seen_located};
-ghost use Rattle.icl_expressions.specs.Reading.{read_put, read_after, read_expr, read_value, read_expr_behind, read_maybe, read_range, read_number, read_name, read_path_behind, read_named_behind, read_named_sig, read_plain_sig, read_inverted, read_sig, read_sigs};
+ghost use Rattle.icl_expressions.specs.Reading.{read_value, read_expr_behind, read_maybe, read_range, read_number, read_path_behind, read_named_behind, read_named_sig, read_plain_sig, read_inverted, read_sig, read_sigs};
 
-use crate::expressions::read_expr;
 use crate::leaves::number_value;
-use crate::reading::{
-    Read, begins_mark, begins_name, few_of, few_with, pushed, read_mark, read_name,
-};
+use crate::parts::{Part, read_behind, read_parted};
+use crate::reading::{Read, begins_mark, begins_name, read_mark};
 use crate::stop::Stop;
 use icl_lexer::{Cursor, Lexeme};
 use icl_syntax::{Ends, Expr, Few, Range, Sig, SigWhat, SmallText};
@@ -21,30 +18,13 @@ use std::alloc::Global;
 
 // ---- values
 
-/// Expressions with the next one, behind a `,`.
-fn with_next_expr<'a>(
-    alloc: Global,
-    value: Read<'a, Few<Expr>>,
-) -> Result<Read<'a, Few<Expr>>, Stop>
-    ensures shorter { IfOk result (λ r. length r.rest < length value.entry.rest) }
-    ensures gives { Gives (seen_read (seen_few seen_expr)) result (read_put (read_after 44 read_expr) appended (seen_few seen_expr value.entry.value) value.entry.rest) }
-{
-    let mark = read_mark(value.rest, b',')?;
-    let next = read_expr(alloc, mark.rest)?;
-    Ok(few_with(alloc, value.value, next)?)
-}
-
 /// Expressions with `,` between them.
+#[tactic(auto, using(crate::proofs::SignalLaws::expr_shrinks), unfolding(crate::specs::Reading::read_value))]
 pub fn read_value<'a>(alloc: Global, tokens: Cursor<'a>) -> Result<Read<'a, Few<Expr>>, Stop>
     ensures shorter { IfOk result (λ r. length r.rest < length tokens.entry) }
     ensures gives { Gives (seen_read (seen_few seen_expr)) result (read_value tokens.entry) }
 {
-    let first = read_expr(alloc, tokens)?;
-    let mut value = few_of(first);
-    while begins_mark(&value.rest, b',') {
-        value = with_next_expr(alloc, value)?;
-    }
-    Ok(value)
+    read_parted(alloc, tokens, b',')
 }
 
 // ---- ranges
@@ -60,7 +40,7 @@ pub fn read_expr_behind<'a>(
     ensures gives { Gives (seen_read seen_expr) result (read_expr_behind mark tokens.entry) }
 {
     let mark = read_mark(tokens, mark)?;
-    read_expr(alloc, mark.rest)
+    Expr::read(alloc, mark.rest)
 }
 
 /// The same, where the mark is the next token.
@@ -92,7 +72,7 @@ fn read_range<'a>(alloc: Global, tokens: Cursor<'a>) -> Result<Read<'a, Range>, 
     ensures gives { Gives (seen_read seen_range) result (read_range tokens.entry) }
 {
     let open = read_mark(tokens, b'[')?;
-    let left = read_expr(alloc, open.rest)?;
+    let left = Expr::read(alloc, open.rest)?;
     let right = maybe_expr_behind(alloc, left.rest, b':')?;
     let close = read_mark(right.rest, b']')?;
     let ends = Ends {
@@ -156,20 +136,8 @@ fn read_number<'a>(alloc: Global, tokens: Cursor<'a>) -> Result<Read<'a, Located
     }
 }
 
-/// A name behind a `.`, which is put at the end of a list.
-fn with_next_name<'a>(
-    alloc: Global,
-    path: Read<'a, Few<SmallText>>,
-) -> Result<Read<'a, Few<SmallText>>, Stop>
-    ensures shorter { IfOk result (λ r. length r.rest < length path.entry.rest) }
-    ensures gives { Gives (seen_read (seen_few bytes_of)) result (read_put (read_after 46 read_name) appended (seen_few bytes_of path.entry.value) path.entry.rest) }
-{
-    let dot = read_mark(path.rest, b'.')?;
-    let name = read_name(alloc, dot.rest)?;
-    Ok(few_with(alloc, path.value, name)?)
-}
-
 /// The names behind a first one, with `.` in front of each.
+#[tactic(auto, unfolding(crate::specs::Reading::read_path_behind))]
 fn read_path<'a>(
     alloc: Global,
     first: SmallText,
@@ -182,11 +150,7 @@ fn read_path<'a>(
         value: first,
         rest: tokens,
     };
-    let mut path = few_of(first);
-    while begins_mark(&path.rest, b'.') {
-        path = with_next_name(alloc, path)?;
-    }
-    Ok(path)
+    read_behind(alloc, first, b'.')
 }
 
 /// Names with `.` between them, and maybe a range, behind the first token.
@@ -276,25 +240,15 @@ pub fn read_sig<'a>(alloc: Global, tokens: Cursor<'a>) -> Result<Read<'a, Sig>, 
     })
 }
 
-/// Signals with the next one, behind a `,`.
-fn with_next_sig<'a>(alloc: Global, sigs: Read<'a, List<Sig>>) -> Result<Read<'a, List<Sig>>, Stop>
-    ensures shorter { IfOk result (λ r. length r.rest < length sigs.entry.rest) }
-    ensures gives { Gives (seen_read (seen_list seen_sig)) result (read_put (read_after 44 read_sig) appended (seen_list seen_sig sigs.entry.value) sigs.entry.rest) }
-{
-    let mark = read_mark(sigs.rest, b',')?;
-    let next = read_sig(alloc, mark.rest)?;
-    Ok(pushed(sigs.value, next)?)
-}
-
 /// Signals with `,` between them.
+#[tactic(auto, using(crate::proofs::SignalLaws::sig_shrinks), unfolding(crate::specs::Reading::read_sigs))]
 pub fn read_sigs<'a>(alloc: Global, tokens: Cursor<'a>) -> Result<Read<'a, List<Sig>>, Stop>
     ensures shorter { IfOk result (λ r. length r.rest < length tokens.entry) }
     ensures gives { Gives (seen_read (seen_list seen_sig)) result (read_sigs tokens.entry) }
 {
-    let first = read_sig(alloc, tokens)?;
-    let mut sigs = pushed(List::new(alloc), first)?;
-    while begins_mark(&sigs.rest, b',') {
-        sigs = with_next_sig(alloc, sigs)?;
-    }
-    Ok(sigs)
+    let sigs = read_parted(alloc, tokens, b',')?;
+    Ok(Read {
+        value: sigs.value.into_list(alloc)?,
+        rest: sigs.rest,
+    })
 }

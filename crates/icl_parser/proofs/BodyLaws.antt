@@ -2,7 +2,7 @@
 use Rattle.std.proofs.Common.{◌≡◌, ℕ, Bool, true, false, cond, List, [], ◌∷◌, Option, Some, None, refl, is_some}
 use Rattle.std.specs.Prelude.{◌||◌}
 use Rattle.grammar.specs.Symbol.{one, give, none, ◌>>=◌, repeat}
-use Rattle.grammar.specs.Reading.{read_in_turn, read_repeat}
+use Rattle.grammar.specs.Reading.{read_in_turn}
 use Rattle.grammar.proofs.Combinators.{Reads, one_reads, give_reads, none_reads, turn_reads, either_reads, wider_reads}
 use Rattle.icl_lexer.specs.declared.token.TokenKind.{TokenKind}
 use Rattle.icl_lexer.specs.declared.token.TokenKind.TheVariants.{Word, Decimal, Sized, Quoted, Param, Mark}
@@ -116,9 +116,3 @@ body_reads owner =
     wide true b h = h
     wide false true h = h
     wide false false h = h
-
--- ---- where the loop of properties begins
-
-pub properties_start : (owner : Owner) (ps : List SeenProp) (ts : List SeenToken) → ps ≡ [] → read_repeat no_close (read_property owner) with_property ps ts ≡ read_properties owner ts
-unfolding read_properties
-properties_start owner ps ts e = rw e refl

@@ -17,10 +17,11 @@ use Rattle.icl_lexer.specs.Seen.{SeenToken, if_word, if_mark, is_mark}
 use Rattle.icl_syntax.specs.Values.{SeenLinkInstr, SomeWords, AnInterface, ALink, SeenModule}
 use Rattle.icl_syntax.specs.Grammar.{mark, name, value, ended_by, appended}
 use Rattle.icl_syntax.specs.Modules.{braced, enum_word, words, member_word_at, member_behind, member, with_member, interface, selected, selecting, instruction, link_kind_at, entity, link, item_begun, item_begin_at, meaning_behind, item, module_of, design}
-use Rattle.icl_expressions.specs.Reading.{gives, any, is_name, no_close, read_mark, read_ended}
+use Rattle.icl_expressions.specs.Reading.{Shrinks, gives, any, is_name, no_close, read_mark, read_ended}
 use Rattle.icl_parser.specs.Reading.{read_enum_word, read_many_words, read_words, read_member_word, read_member_behind, read_member, read_members, read_interface, read_selected, read_selecting, read_instruction, read_instructions, read_entity, read_link_kind, read_link, read_item_begin, read_meaning_behind, read_item, read_items, read_module, read_design}
 use Rattle.icl_expressions.proofs.Tokens.{nothing, marks_apart, no_mark_closes}
 use Rattle.icl_expressions.proofs.Symbols.{then_reads, mark_reads, made_reads, sign_marks}
+use Rattle.icl_expressions.proofs.Steps.{reads_shrink}
 use Rattle.icl_expressions.proofs.SignalLaws.{value_reads, name_reads}
 use Rattle.icl_parser.proofs.BodyLaws.{attribute_said_reads}
 use Rattle.icl_parser.proofs.ItemLaws.{word_reads, braced_reads, port_reads, register_reads, alias_reads, parameter_reads, attribute_reads, mux_reads, child_reads}
@@ -49,6 +50,9 @@ enum_word_reads =
     (λ t h. refl))
     (λ t h. refl))
     no_close nothing name_closes (λ t h. refl)
+
+pub enum_word_shrinks : Shrinks read_enum_word
+enum_word_shrinks = reads_shrink enum_word_reads
 
 words_reads : Reads words any nothing false read_words
 unfolding words read_words read_many_words
@@ -116,6 +120,9 @@ instruction_reads =
     (λ t h. refl))
     no_close nothing name_closes (λ t h. refl)
 
+pub instruction_shrinks : Shrinks read_instruction
+instruction_shrinks = reads_shrink instruction_reads
+
 entity_reads : Reads entity any nothing false read_entity
 unfolding entity read_entity
 entity_reads =
@@ -172,6 +179,9 @@ item_reads =
     (λ b. then_reads (λ n. meaning_behind b.word >>= λ m. give (record { at = b.at; name = n; what = m })) any nothing false _ name_reads
     (λ n. made_reads (λ m. record { at = b.at; name = n; what = m }) (meaning_reads b.word)) (λ t h. refl))
     (λ t h. refl)
+
+pub item_shrinks : Shrinks read_item
+item_shrinks = reads_shrink item_reads
 
 pub module_reads : Reads module_of any nothing false read_module
 unfolding module_of read_module read_items

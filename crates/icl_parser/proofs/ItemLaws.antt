@@ -17,10 +17,11 @@ use Rattle.icl_lexer.specs.Seen.{SeenToken, if_word, if_mark, is_mark, word_at}
 use Rattle.icl_syntax.specs.Values.{SeenRow, ABoundPort, ABoundParameter, ABoundAttribute, APort, ARegister, AMux, AChild, AnAlias, AParameter, AnAttribute}
 use Rattle.icl_syntax.specs.Grammar.{Of, mark, word, name, value, maybe, expr_behind, ended_by, appended, parted, range, sig, sigs, body}
 use Rattle.icl_syntax.specs.Modules.{owner_of, port_range, port, register, alias, parameter, attribute, row, rows, mux, begun_by, bind_begin_at, bound_port, bound_parameter, bound_attribute, bind_behind, bind, braced, binds, child}
-use Rattle.icl_expressions.specs.Reading.{Reading, gives, any, is_name, no_close, read_mark, read_word, read_maybe, read_ended, read_many, read_braced, read_expr_behind, read_range}
+use Rattle.icl_expressions.specs.Reading.{Reading, Shrinks, gives, any, is_name, no_close, read_mark, read_word, read_maybe, read_ended, read_many, read_braced, read_expr_behind, read_range}
 use Rattle.icl_parser.specs.Reading.{read_port_range, read_port, read_register, read_alias, read_parameter, read_attribute, read_values, read_row, read_rows, read_mux, read_bind_begin, read_bound_port, read_bound_parameter, read_bound_attribute, read_bind_behind, read_bind, read_many_binds, read_braced_binds, read_binds, read_child}
 use Rattle.icl_expressions.proofs.Tokens.{nothing, marks, both_false, left_false, marks_apart, mark_apart, no_mark_closes}
 use Rattle.icl_expressions.proofs.Symbols.{then_reads, mark_reads, made_reads, sign_marks}
+use Rattle.icl_expressions.proofs.Steps.{reads_shrink}
 use Rattle.icl_expressions.proofs.SignalLaws.{value_reads, expr_behind_reads, maybe_reads, maybe_range_reads, name_reads, path_marks, sig_reads, sigs_marks, sigs_reads}
 use Rattle.icl_parser.proofs.BodyLaws.{attribute_said_reads, body_marks, body_reads}
 use Rattle.icl_expressions.proofs.Lists.{parted_reads, parts_reads, parts_then_reads, ended_reads}
@@ -116,6 +117,9 @@ row_reads =
     (λ t h. refl))
     (λ t h. marks_apart 58 values_marks refl t h)
 
+pub row_shrinks : Shrinks read_row
+row_shrinks = reads_shrink row_reads
+
 pub rows_reads : Reads rows no_close no_close false read_rows
 unfolding rows read_rows
 rows_reads =
@@ -177,6 +181,9 @@ bind_ended_reads at BindsAttribute = ended_reads 59 bound_attribute_reads (λ t 
 pub bind_reads : Reads bind no_close nothing false read_bind
 unfolding bind read_bind
 bind_reads = then_reads (λ b. ended_by 59 (bind_behind b.at b.word)) any nothing false (λ b. read_ended 59 (read_bind_behind b.at b.word)) bind_begin_reads (λ b. bind_ended_reads b.at b.word) (λ t h. refl)
+
+pub bind_shrinks : Shrinks read_bind
+bind_shrinks = reads_shrink bind_reads
 
 -- parts in braces
 pub braced_reads : {A : Type 0} (S : Of A) (r : Reading A) → Reads S no_close nothing false r → Reads (braced S) (is_mark 123) nothing false (read_braced (read_many r))

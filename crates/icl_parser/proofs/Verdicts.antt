@@ -9,7 +9,7 @@ use Rattle.icl_syntax.specs.declared.words.Limit.{Limit}
 use Rattle.icl_lexer.specs.Seen.{SeenToken}
 use Rattle.icl_syntax.specs.Values.{SeenModule}
 use Rattle.icl_syntax.specs.Grammar.{appended}
-use Rattle.icl_syntax.specs.Modules.{module_of, design}
+use Rattle.icl_syntax.specs.Modules.{design}
 use Rattle.icl_parser.specs.declared.fault.ParseFault.{ParseFault}
 use Rattle.icl_parser.specs.declared.fault.ParseFault.TheVariants.{OutOfMemory, LeftOut, ExprLimit, Syntax}
 use Rattle.icl_expressions.specs.declared.stop.Stop.{Stop}
@@ -18,8 +18,7 @@ use Rattle.icl_expressions.specs.Seen.{Fails}
 use Rattle.icl_expressions.specs.Reading.{begins, any, read_put}
 use Rattle.icl_parser.specs.Reading.{read_module, read_design, whole_design}
 use Rattle.icl_parser.specs.Refusals.{IsFaultOf, IsRefused, OnRefusal, end_of}
-use Rattle.icl_expressions.proofs.Tokens.{nothing}
-use Rattle.icl_expressions.proofs.Steps.{go_on, round_fails, ends}
+use Rattle.icl_expressions.proofs.Steps.{reads_shrink, go_on, round_fails, ends}
 use Rattle.icl_parser.proofs.More.{more_modules}
 use Rattle.icl_parser.proofs.DesignLaws.{module_reads, design_reads}
 
@@ -34,13 +33,13 @@ pub begins_none : (none : Bool) (ts : List SeenToken) → (none ≡ true) ↔ (t
 begins_none none ts h e = let k : ts ≡ [] = h.0 e in rw k refl
 
 pub modules_go_on : (bs : List SeenModule) (ts : List SeenToken) (x : List SeenModule × List SeenToken) → begins any ts ≡ true → read_put read_module appended bs ts ≡ Ok x → more_modules x.0 x.1 ≡ more_modules bs ts
-modules_go_on = go_on (λ (bs : List SeenModule). module_of) appended any nothing (λ bs. read_module) (λ bs. module_reads) (λ t h. refl)
+modules_go_on = go_on appended any (λ (bs : List SeenModule). read_module) (λ bs. reads_shrink module_reads)
 
 modules_round_fails : (bs : List SeenModule) (ts : List SeenToken) (stop : Stop) → begins any ts ≡ true → Fails stop (read_put read_module appended bs ts) → Fails stop (more_modules bs ts)
-modules_round_fails = round_fails (λ (bs : List SeenModule). module_of) appended any nothing (λ bs. read_module) (λ bs. module_reads) (λ t h. refl)
+modules_round_fails = round_fails appended any (λ (bs : List SeenModule). read_module) (λ bs. reads_shrink module_reads)
 
 modules_end : (bs : List SeenModule) (ts : List SeenToken) → begins any ts ≡ false → more_modules bs ts ≡ Ok (bs, ts)
-modules_end = ends (λ (bs : List SeenModule). module_of) appended any nothing (λ bs. read_module) (λ bs. module_reads) (λ t h. refl)
+modules_end = ends appended any (λ (bs : List SeenModule). read_module) (λ bs. reads_shrink module_reads)
 
 pub design_fails : (all : List SeenToken) (bs : List SeenModule) (ts : List SeenToken) (stop : Stop) → begins any ts ≡ true → Fails stop (read_put read_module appended bs ts) → more_modules bs ts ≡ read_design all → Fails stop (whole_design all)
 unfolding whole_design

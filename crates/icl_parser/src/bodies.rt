@@ -1,5 +1,5 @@
 // Properties and bodies.
-ghost use Rattle.std.specs.Prelude.{◌≡◌, ◌<◌, ◌≤◌, [], Some, IfOk, length, map};
+ghost use Rattle.std.specs.Prelude.{◌≡◌, ◌<◌, ◌≤◌, Some, IfOk, length, map};
 ghost use Rattle.std.specs.Option.{option_map};
 ghost use Rattle.icl_lexer.specs.Lexemes.{tok};
 ghost use Rattle.icl_syntax.specs.Views.{seen_list, seen_prop, seen_sig};
@@ -299,6 +299,7 @@ fn with_property<'a>(
 }
 
 /// Properties up to a `}`.
+#[tactic(auto, unfolding(crate::specs::Reading::read_properties))]
 fn read_properties<'a>(
     alloc: Global,
     owner: Owner,

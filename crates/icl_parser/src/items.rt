@@ -1,22 +1,22 @@
 // Items that declare or bind: ports, registers, aliases, parameters, attributes, multiplexers, instances.
 ghost use Rattle.std.specs.Prelude.{◌≡◌, ◌<◌, ◌≤◌, IfOk, length};
 ghost use Rattle.std.specs.Option.{option_map};
-ghost use Rattle.icl_syntax.specs.Views.{seen_few, seen_list, seen_expr, seen_range, seen_row, seen_bind, seen_what};
-ghost use Rattle.icl_syntax.specs.Grammar.{appended};
+ghost use Rattle.icl_syntax.specs.Values.{SeenRow, SeenBind};
+ghost use Rattle.icl_syntax.specs.Views.{seen_list, seen_range, seen_row, seen_bind, seen_what};
 ghost use Rattle.icl_syntax.specs.Modules.{owner_of};
 ghost use Rattle.icl_expressions.specs.Seen.{seen_read, Gives};
 ghost use Rattle.icl_parser.specs.SeenParts.{seen_bind_begin};
-ghost use Rattle.icl_expressions.specs.Reading.{read_put, read_after, read_value};
-ghost use Rattle.icl_parser.specs.Reading.{read_port_range, read_port, read_register, read_alias, read_parameter, read_attribute, read_values, read_row, read_rows, read_mux, read_bound_port, read_bound_parameter, read_bound_attribute, read_bind_behind, read_bind_begin, read_bind, read_many_binds, read_braced_binds, read_binds, read_child};
+ghost use Rattle.icl_parser.specs.Reading.{read_port_range, read_port, read_register, read_alias, read_parameter, read_attribute, read_row, read_rows, read_mux, read_bound_port, read_bound_parameter, read_bound_attribute, read_bind_behind, read_bind_begin, read_bind, read_binds, read_child};
 
 use crate::bodies::{read_attribute_said, read_body};
+use crate::entries::{Entry, read_behind, read_braced};
 use crate::words::bind_word;
 use icl_expressions::{
-    Read, Stop, before_close, begins_mark, few_of, few_with, maybe_expr_behind, maybe_range,
-    pushed, read_expr_behind, read_mark, read_name, read_sig, read_sigs, read_value, read_word,
+    Read, Stop, begins_mark, maybe_expr_behind, maybe_range, pushed, read_expr_behind, read_mark,
+    read_name, read_parted, read_sig, read_sigs, read_word,
 };
 use icl_lexer::Cursor;
-use icl_syntax::{Bind, BindWord, Expr, Few, MuxRow, Owner, PortKind, Range, What};
+use icl_syntax::{Bind, BindWord, MuxRow, Owner, PortKind, Range, What};
 use ij_bits::List;
 use ij_text::Place;
 use std::alloc::Global;
@@ -151,74 +151,39 @@ pub(crate) fn read_attribute<'a>(alloc: Global, tokens: Cursor<'a>) -> Result<Re
 
 // ---- multiplexers
 
-/// Values with the next one, behind a `|`.
-fn with_next_value<'a>(
-    alloc: Global,
-    values: Read<'a, Few<Few<Expr>>>,
-) -> Result<Read<'a, Few<Few<Expr>>>, Stop>
-    ensures shorter { IfOk result (λ r. length r.rest < length values.entry.rest) }
-    ensures gives { Gives (seen_read (seen_few (seen_few seen_expr))) result (read_put (read_after 124 read_value) appended (seen_few (seen_few seen_expr) values.entry.value) values.entry.rest) }
-{
-    let bar = read_mark(values.rest, b'|')?;
-    let next = read_value(alloc, bar.rest)?;
-    Ok(few_with(alloc, values.value, next)?)
-}
-
-/// Values with `|` between them.
-fn read_values<'a>(alloc: Global, tokens: Cursor<'a>) -> Result<Read<'a, Few<Few<Expr>>>, Stop>
-    ensures shorter { IfOk result (λ r. length r.rest < length tokens.entry) }
-    ensures gives { Gives (seen_read (seen_few (seen_few seen_expr))) result (read_values tokens.entry) }
-{
-    let first = read_value(alloc, tokens)?;
-    let mut values = few_of(first);
-    while begins_mark(&values.rest, b'|') {
-        values = with_next_value(alloc, values)?;
-    }
-    Ok(values)
-}
-
 /// A row of a multiplexer.
-#[tactic(auto, unfolding(crate::specs::Reading::read_row))]
-fn read_row<'a>(alloc: Global, tokens: Cursor<'a>) -> Result<Read<'a, MuxRow>, Stop>
-    ensures shorter { IfOk result (λ r. length r.rest < length tokens.entry) }
-    ensures gives { Gives (seen_read seen_row) result (read_row tokens.entry) }
-{
-    let values = read_values(alloc, tokens)?;
-    let colon = read_mark(values.rest, b':')?;
-    let source = read_sig(alloc, colon.rest)?;
-    let end = read_mark(source.rest, b';')?;
-    Ok(Read {
-        value: MuxRow {
-            values: values.value,
-            source: source.value,
-        },
-        rest: end.rest,
-    })
-}
+#[tactic(auto, using(icl_expressions::proofs::SignalLaws::value_shrinks), unfolding(crate::specs::Reading::read_values, crate::specs::Reading::read_row))]
+impl Entry for MuxRow {
+    ghost Plain = { SeenRow };
 
-/// Rows with the next one.
-fn with_next_row<'a>(
-    alloc: Global,
-    rows: Read<'a, List<MuxRow>>,
-) -> Result<Read<'a, List<MuxRow>>, Stop>
-    ensures shorter { IfOk result (λ r. length r.rest < length rows.entry.rest) }
-    ensures gives { Gives (seen_read (seen_list seen_row)) result (read_put read_row appended (seen_list seen_row rows.entry.value) rows.entry.rest) }
-{
-    let next = read_row(alloc, rows.rest)?;
-    Ok(pushed(rows.value, next)?)
+    ghost view = { seen_row };
+
+    ghost reader = { read_row };
+
+    fn read<'a>(alloc: Global, tokens: Cursor<'a>) -> Result<Read<'a, MuxRow>, Stop> {
+        let values = read_parted(alloc, tokens, b'|')?;
+        let colon = read_mark(values.rest, b':')?;
+        let source = read_sig(alloc, colon.rest)?;
+        let end = read_mark(source.rest, b';')?;
+        Ok(Read {
+            value: MuxRow {
+                values: values.value,
+                source: source.value,
+            },
+            rest: end.rest,
+        })
+    }
 }
 
 /// One row or more, up to a `}`.
+#[tactic(auto, using(crate::proofs::ItemLaws::row_shrinks), unfolding(crate::specs::Reading::read_rows))]
 fn read_rows<'a>(alloc: Global, tokens: Cursor<'a>) -> Result<Read<'a, List<MuxRow>>, Stop>
     ensures shorter { IfOk result (λ r. length r.rest < length tokens.entry) }
     ensures gives { Gives (seen_read (seen_list seen_row)) result (read_rows tokens.entry) }
 {
-    let first = read_row(alloc, tokens)?;
-    let mut rows = pushed(List::new(alloc), first)?;
-    while before_close(&rows.rest) {
-        rows = with_next_row(alloc, rows)?;
-    }
-    Ok(rows)
+    let first = MuxRow::read(alloc, tokens)?;
+    let rows = pushed(List::new(alloc), first)?;
+    read_behind(alloc, rows)
 }
 
 /// A multiplexer behind its name.
@@ -345,69 +310,32 @@ fn read_bind_begin<'a>(tokens: Cursor<'a>) -> Result<Read<'a, BindBegin>, Stop>
 
 /// A binding up to its `;`.
 #[tactic(auto, unfolding(crate::specs::Reading::read_bind))]
-fn read_bind<'a>(alloc: Global, tokens: Cursor<'a>) -> Result<Read<'a, Bind>, Stop>
-    ensures shorter { IfOk result (λ r. length r.rest < length tokens.entry) }
-    ensures gives { Gives (seen_read seen_bind) result (read_bind tokens.entry) }
-{
-    let begin = read_bind_begin(tokens)?;
-    let bind = read_bind_behind(alloc, begin.value.at, begin.value.word, begin.rest)?;
-    let end = read_mark(bind.rest, b';')?;
-    Ok(Read {
-        value: bind.value,
-        rest: end.rest,
-    })
-}
+impl Entry for Bind {
+    ghost Plain = { SeenBind };
 
-/// Bindings with the next one.
-fn with_next_bind<'a>(
-    alloc: Global,
-    binds: Read<'a, List<Bind>>,
-) -> Result<Read<'a, List<Bind>>, Stop>
-    ensures shorter { IfOk result (λ r. length r.rest < length binds.entry.rest) }
-    ensures gives { Gives (seen_read (seen_list seen_bind)) result (read_put read_bind appended (seen_list seen_bind binds.entry.value) binds.entry.rest) }
-{
-    let next = read_bind(alloc, binds.rest)?;
-    Ok(pushed(binds.value, next)?)
-}
+    ghost view = { seen_bind };
 
-/// Bindings up to a `}`.
-fn read_many_binds<'a>(alloc: Global, tokens: Cursor<'a>) -> Result<Read<'a, List<Bind>>, Stop>
-    ensures shorter { IfOk result (λ r. length r.rest ≤ length tokens.entry) }
-    ensures gives { Gives (seen_read (seen_list seen_bind)) result (read_many_binds tokens.entry) }
-{
-    let mut binds = Read {
-        value: List::new(alloc),
-        rest: tokens,
-    };
-    while before_close(&binds.rest) {
-        binds = with_next_bind(alloc, binds)?;
+    ghost reader = { read_bind };
+
+    fn read<'a>(alloc: Global, tokens: Cursor<'a>) -> Result<Read<'a, Bind>, Stop> {
+        let begin = read_bind_begin(tokens)?;
+        let bind = read_bind_behind(alloc, begin.value.at, begin.value.word, begin.rest)?;
+        let end = read_mark(bind.rest, b';')?;
+        Ok(Read {
+            value: bind.value,
+            rest: end.rest,
+        })
     }
-    Ok(binds)
-}
-
-/// Bindings in braces.
-#[tactic(auto, unfolding(crate::specs::Reading::read_braced_binds))]
-fn read_braced_binds<'a>(alloc: Global, tokens: Cursor<'a>) -> Result<Read<'a, List<Bind>>, Stop>
-    ensures shorter { IfOk result (λ r. length r.rest < length tokens.entry) }
-    ensures gives { Gives (seen_read (seen_list seen_bind)) result (read_braced_binds tokens.entry) }
-{
-    let open = read_mark(tokens, b'{')?;
-    let binds = read_many_binds(alloc, open.rest)?;
-    let close = read_mark(binds.rest, b'}')?;
-    Ok(Read {
-        value: binds.value,
-        rest: close.rest,
-    })
 }
 
 /// A `;`, or bindings in braces.
-#[tactic(auto, unfolding(crate::specs::Reading::read_binds))]
+#[tactic(auto, using(crate::proofs::ItemLaws::bind_shrinks), unfolding(crate::specs::Reading::read_binds, crate::specs::Reading::read_braced_binds, crate::specs::Reading::read_many_binds))]
 fn read_binds<'a>(alloc: Global, tokens: Cursor<'a>) -> Result<Read<'a, List<Bind>>, Stop>
     ensures shorter { IfOk result (λ r. length r.rest < length tokens.entry) }
     ensures gives { Gives (seen_read (seen_list seen_bind)) result (read_binds tokens.entry) }
 {
     if !begins_mark(&tokens, b';') {
-        return read_braced_binds(alloc, tokens);
+        return read_braced(alloc, tokens);
     }
     let end = read_mark(tokens, b';')?;
     Ok(Read {

@@ -3,6 +3,7 @@
 
 mod bodies;
 mod ends;
+mod entries;
 mod fault;
 mod items;
 mod laws;

@@ -1,15 +1,16 @@
 // Items of names: enumerations, scan interfaces and access links.
 ghost use Rattle.std.specs.Prelude.{◌≡◌, ◌<◌, ◌≤◌, IfOk, length};
 ghost use Rattle.std.specs.Option.{option_map};
+ghost use Rattle.icl_syntax.specs.Values.{SeenEnumWord, SeenLinkInstr};
 ghost use Rattle.icl_syntax.specs.Views.{bytes_of, seen_list, seen_instr, seen_enum_word, seen_what};
-ghost use Rattle.icl_syntax.specs.Grammar.{appended};
 ghost use Rattle.icl_syntax.specs.Modules.{with_member};
 ghost use Rattle.icl_expressions.specs.Seen.{seen_read, same, Gives};
 ghost use Rattle.icl_parser.specs.SeenParts.{seen_selected};
 ghost use Rattle.icl_expressions.specs.Reading.{read_put};
-ghost use Rattle.icl_parser.specs.Reading.{read_enum_word, read_many_words, read_words, read_member_word, read_member_behind, read_member, read_members, read_interface, read_selected, read_selecting, read_instruction, read_instructions, read_entity, read_link_kind, read_link};
+ghost use Rattle.icl_parser.specs.Reading.{read_enum_word, read_words, read_member_word, read_member_behind, read_member, read_members, read_interface, read_selected, read_selecting, read_instruction, read_entity, read_link_kind, read_link};
 
 use crate::bodies::read_attribute_said;
+use crate::entries::{Entry, read_braced, read_many};
 use crate::words::{link_kind, member_word};
 use icl_expressions::{
     Read, Stop, before_close, pushed, read_mark, read_name, read_value, read_word,
@@ -23,62 +24,38 @@ use std::alloc::Global;
 
 /// A word of an enumeration up to its `;`.
 #[tactic(auto, unfolding(crate::specs::Reading::read_enum_word))]
-fn read_enum_word<'a>(alloc: Global, tokens: Cursor<'a>) -> Result<Read<'a, EnumWord>, Stop>
-    ensures shorter { IfOk result (λ r. length r.rest < length tokens.entry) }
-    ensures gives { Gives (seen_read seen_enum_word) result (read_enum_word tokens.entry) }
-{
-    let name = read_name(alloc, tokens)?;
-    let equals = read_mark(name.rest, b'=')?;
-    let value = read_value(alloc, equals.rest)?;
-    let end = read_mark(value.rest, b';')?;
-    Ok(Read {
-        value: EnumWord {
-            name: name.value,
-            value: value.value,
-        },
-        rest: end.rest,
-    })
-}
+impl Entry for EnumWord {
+    ghost Plain = { SeenEnumWord };
 
-/// Words with the next one.
-fn with_next_word<'a>(
-    alloc: Global,
-    words: Read<'a, List<EnumWord>>,
-) -> Result<Read<'a, List<EnumWord>>, Stop>
-    ensures shorter { IfOk result (λ r. length r.rest < length words.entry.rest) }
-    ensures gives { Gives (seen_read (seen_list seen_enum_word)) result (read_put read_enum_word appended (seen_list seen_enum_word words.entry.value) words.entry.rest) }
-{
-    let next = read_enum_word(alloc, words.rest)?;
-    Ok(pushed(words.value, next)?)
-}
+    ghost view = { seen_enum_word };
 
-/// Words of an enumeration up to a `}`.
-fn read_many_words<'a>(alloc: Global, tokens: Cursor<'a>) -> Result<Read<'a, List<EnumWord>>, Stop>
-    ensures shorter { IfOk result (λ r. length r.rest ≤ length tokens.entry) }
-    ensures gives { Gives (seen_read (seen_list seen_enum_word)) result (read_many_words tokens.entry) }
-{
-    let mut words = Read {
-        value: List::new(alloc),
-        rest: tokens,
-    };
-    while before_close(&words.rest) {
-        words = with_next_word(alloc, words)?;
+    ghost reader = { read_enum_word };
+
+    fn read<'a>(alloc: Global, tokens: Cursor<'a>) -> Result<Read<'a, EnumWord>, Stop> {
+        let name = read_name(alloc, tokens)?;
+        let equals = read_mark(name.rest, b'=')?;
+        let value = read_value(alloc, equals.rest)?;
+        let end = read_mark(value.rest, b';')?;
+        Ok(Read {
+            value: EnumWord {
+                name: name.value,
+                value: value.value,
+            },
+            rest: end.rest,
+        })
     }
-    Ok(words)
 }
 
 /// An enumeration behind its name.
-#[tactic(auto, unfolding(crate::specs::Reading::read_words))]
+#[tactic(auto, using(crate::proofs::DesignLaws::enum_word_shrinks), unfolding(crate::specs::Reading::read_words, crate::specs::Reading::read_many_words))]
 pub(crate) fn read_words<'a>(alloc: Global, tokens: Cursor<'a>) -> Result<Read<'a, What>, Stop>
     ensures shorter { IfOk result (λ r. length r.rest < length tokens.entry) }
     ensures gives { Gives (seen_read seen_what) result (read_words tokens.entry) }
 {
-    let open = read_mark(tokens, b'{')?;
-    let words = read_many_words(alloc, open.rest)?;
-    let close = read_mark(words.rest, b'}')?;
+    let words = read_braced(alloc, tokens)?;
     Ok(Read {
         value: What::Words { words: words.value },
-        rest: close.rest,
+        rest: words.rest,
     })
 }
 
@@ -168,6 +145,7 @@ fn with_next_member<'a>(
 }
 
 /// Members of an interface up to a `}`.
+#[tactic(auto, unfolding(crate::specs::Reading::read_members))]
 fn read_members<'a>(alloc: Global, tokens: Cursor<'a>) -> Result<Read<'a, List<SmallText>>, Stop>
     ensures shorter { IfOk result (λ r. length r.rest ≤ length tokens.entry) }
     ensures gives { Gives (seen_read (seen_list bytes_of)) result (read_members tokens.entry) }
@@ -242,52 +220,27 @@ fn read_selecting<'a>(alloc: Global, tokens: Cursor<'a>) -> Result<Read<'a, Sele
 
 /// An instruction of an access link.
 #[tactic(auto, unfolding(crate::specs::Reading::read_instruction))]
-fn read_instruction<'a>(alloc: Global, tokens: Cursor<'a>) -> Result<Read<'a, LinkInstr>, Stop>
-    ensures shorter { IfOk result (λ r. length r.rest < length tokens.entry) }
-    ensures gives { Gives (seen_read seen_instr) result (read_instruction tokens.entry) }
-{
-    let name = read_name(alloc, tokens)?;
-    let open = read_mark(name.rest, b'{')?;
-    let selected = read_selecting(alloc, open.rest)?;
-    let close = read_mark(selected.rest, b'}')?;
-    Ok(Read {
-        value: LinkInstr {
-            name: name.value,
-            cell: selected.value.cell,
-            interface: selected.value.interface,
-        },
-        rest: close.rest,
-    })
-}
+impl Entry for LinkInstr {
+    ghost Plain = { SeenLinkInstr };
 
-/// Instructions with the next one.
-fn with_next_instruction<'a>(
-    alloc: Global,
-    instrs: Read<'a, List<LinkInstr>>,
-) -> Result<Read<'a, List<LinkInstr>>, Stop>
-    ensures shorter { IfOk result (λ r. length r.rest < length instrs.entry.rest) }
-    ensures gives { Gives (seen_read (seen_list seen_instr)) result (read_put read_instruction appended (seen_list seen_instr instrs.entry.value) instrs.entry.rest) }
-{
-    let next = read_instruction(alloc, instrs.rest)?;
-    Ok(pushed(instrs.value, next)?)
-}
+    ghost view = { seen_instr };
 
-/// Instructions up to a `}`.
-fn read_instructions<'a>(
-    alloc: Global,
-    tokens: Cursor<'a>,
-) -> Result<Read<'a, List<LinkInstr>>, Stop>
-    ensures shorter { IfOk result (λ r. length r.rest ≤ length tokens.entry) }
-    ensures gives { Gives (seen_read (seen_list seen_instr)) result (read_instructions tokens.entry) }
-{
-    let mut instrs = Read {
-        value: List::new(alloc),
-        rest: tokens,
-    };
-    while before_close(&instrs.rest) {
-        instrs = with_next_instruction(alloc, instrs)?;
+    ghost reader = { read_instruction };
+
+    fn read<'a>(alloc: Global, tokens: Cursor<'a>) -> Result<Read<'a, LinkInstr>, Stop> {
+        let name = read_name(alloc, tokens)?;
+        let open = read_mark(name.rest, b'{')?;
+        let selected = read_selecting(alloc, open.rest)?;
+        let close = read_mark(selected.rest, b'}')?;
+        Ok(Read {
+            value: LinkInstr {
+                name: name.value,
+                cell: selected.value.cell,
+                interface: selected.value.interface,
+            },
+            rest: close.rest,
+        })
     }
-    Ok(instrs)
 }
 
 /// The entity of an access link.
@@ -320,7 +273,7 @@ fn read_link_kind<'a>(tokens: Cursor<'a>) -> Result<Read<'a, LinkKind>, Stop>
 }
 
 /// An access link behind its name.
-#[tactic(auto, unfolding(crate::specs::Reading::read_link))]
+#[tactic(auto, using(crate::proofs::DesignLaws::instruction_shrinks), unfolding(crate::specs::Reading::read_link, crate::specs::Reading::read_instructions))]
 pub(crate) fn read_link<'a>(alloc: Global, tokens: Cursor<'a>) -> Result<Read<'a, What>, Stop>
     ensures shorter { IfOk result (λ r. length r.rest < length tokens.entry) }
     ensures gives { Gives (seen_read seen_what) result (read_link tokens.entry) }
@@ -329,7 +282,7 @@ pub(crate) fn read_link<'a>(alloc: Global, tokens: Cursor<'a>) -> Result<Read<'a
     let kind = read_link_kind(of.rest)?;
     let open = read_mark(kind.rest, b'{')?;
     let entity = read_entity(alloc, open.rest)?;
-    let instrs = read_instructions(alloc, entity.rest)?;
+    let instrs = read_many(alloc, entity.rest)?;
     let close = read_mark(instrs.rest, b'}')?;
     Ok(Read {
         value: What::Link {

@@ -1,18 +1,18 @@
 // Items, modules and designs.
-ghost use Rattle.std.specs.Prelude.{◌<◌, ◌≤◌, IfOk, length};
+ghost use Rattle.std.specs.Prelude.{◌<◌, IfOk, length};
+ghost use Rattle.icl_syntax.specs.Values.{SeenItem, SeenModule};
 ghost use Rattle.icl_syntax.specs.Views.{seen_list, seen_item, seen_module, seen_what};
-ghost use Rattle.icl_syntax.specs.Grammar.{appended};
 ghost use Rattle.icl_expressions.specs.Seen.{seen_read, Gives};
 ghost use Rattle.icl_parser.specs.SeenParts.{seen_item_begin};
-ghost use Rattle.icl_expressions.specs.Reading.{read_put};
-ghost use Rattle.icl_parser.specs.Reading.{read_item_begin, read_meaning_behind, read_item, read_items, read_module, whole_design};
+ghost use Rattle.icl_parser.specs.Reading.{read_item_begin, read_meaning_behind, read_item, read_module, whole_design};
 
+use crate::entries::{Entry, read_braced, with_next};
 use crate::items::{
     read_alias, read_attribute, read_child, read_mux, read_parameter, read_port, read_register,
 };
 use crate::links::{read_interface, read_link, read_words};
 use crate::words::item_word;
-use icl_expressions::{Read, Stop, before_close, pushed, read_mark, read_name, read_word};
+use icl_expressions::{Read, Stop, read_name, read_word};
 use icl_lexer::Cursor;
 use icl_syntax::{Item, ItemWord, Module, What};
 use ij_bits::List;
@@ -69,84 +69,54 @@ fn read_meaning_behind<'a>(
 
 /// An item.
 #[tactic(auto, unfolding(crate::specs::Reading::read_item))]
-fn read_item<'a>(alloc: Global, tokens: Cursor<'a>) -> Result<Read<'a, Item>, Stop>
-    ensures shorter { IfOk result (λ r. length r.rest < length tokens.entry) }
-    ensures gives { Gives (seen_read seen_item) result (read_item tokens.entry) }
-{
-    let begin = read_item_begin(tokens)?;
-    let name = read_name(alloc, begin.rest)?;
-    let what = read_meaning_behind(alloc, begin.value.word, name.rest)?;
-    Ok(Read {
-        value: Item {
-            at: begin.value.at,
-            name: name.value,
-            what: what.value,
-        },
-        rest: what.rest,
-    })
-}
+impl Entry for Item {
+    ghost Plain = { SeenItem };
 
-/// Items with the next one.
-fn with_next_item<'a>(
-    alloc: Global,
-    items: Read<'a, List<Item>>,
-) -> Result<Read<'a, List<Item>>, Stop>
-    ensures shorter { IfOk result (λ r. length r.rest < length items.entry.rest) }
-    ensures gives { Gives (seen_read (seen_list seen_item)) result (read_put read_item appended (seen_list seen_item items.entry.value) items.entry.rest) }
-{
-    let next = read_item(alloc, items.rest)?;
-    Ok(pushed(items.value, next)?)
-}
+    ghost view = { seen_item };
 
-/// Items up to a `}`.
-fn read_items<'a>(alloc: Global, tokens: Cursor<'a>) -> Result<Read<'a, List<Item>>, Stop>
-    ensures shorter { IfOk result (λ r. length r.rest ≤ length tokens.entry) }
-    ensures gives { Gives (seen_read (seen_list seen_item)) result (read_items tokens.entry) }
-{
-    let mut items = Read {
-        value: List::new(alloc),
-        rest: tokens,
-    };
-    while before_close(&items.rest) {
-        items = with_next_item(alloc, items)?;
+    ghost reader = { read_item };
+
+    fn read<'a>(alloc: Global, tokens: Cursor<'a>) -> Result<Read<'a, Item>, Stop> {
+        let begin = read_item_begin(tokens)?;
+        let name = read_name(alloc, begin.rest)?;
+        let what = read_meaning_behind(alloc, begin.value.word, name.rest)?;
+        Ok(Read {
+            value: Item {
+                at: begin.value.at,
+                name: name.value,
+                what: what.value,
+            },
+            rest: what.rest,
+        })
     }
-    Ok(items)
 }
 
 /// A module.
-#[tactic(auto, unfolding(crate::specs::Reading::read_module))]
-fn read_module<'a>(alloc: Global, tokens: Cursor<'a>) -> Result<Read<'a, Module>, Stop>
-    ensures shorter { IfOk result (λ r. length r.rest < length tokens.entry) }
-    ensures gives { Gives (seen_read seen_module) result (read_module tokens.entry) }
-{
-    let word = read_word(tokens, b"Module")?;
-    let name = read_name(alloc, word.rest)?;
-    let open = read_mark(name.rest, b'{')?;
-    let items = read_items(alloc, open.rest)?;
-    let close = read_mark(items.rest, b'}')?;
-    Ok(Read {
-        value: Module {
-            name: name.value,
-            at: word.value,
-            items: items.value,
-        },
-        rest: close.rest,
-    })
-}
+#[tactic(auto, using(crate::proofs::DesignLaws::item_shrinks), unfolding(crate::specs::Reading::read_module, crate::specs::Reading::read_items))]
+impl Entry for Module {
+    ghost Plain = { SeenModule };
 
-/// Modules with the next one.
-fn with_next_module<'a>(
-    alloc: Global,
-    modules: Read<'a, List<Module>>,
-) -> Result<Read<'a, List<Module>>, Stop>
-    ensures shorter { IfOk result (λ r. length r.rest < length modules.entry.rest) }
-    ensures gives { Gives (seen_read (seen_list seen_module)) result (read_put read_module appended (seen_list seen_module modules.entry.value) modules.entry.rest) }
-{
-    let next = read_module(alloc, modules.rest)?;
-    Ok(pushed(modules.value, next)?)
+    ghost view = { seen_module };
+
+    ghost reader = { read_module };
+
+    fn read<'a>(alloc: Global, tokens: Cursor<'a>) -> Result<Read<'a, Module>, Stop> {
+        let word = read_word(tokens, b"Module")?;
+        let name = read_name(alloc, word.rest)?;
+        let items = read_braced(alloc, name.rest)?;
+        Ok(Read {
+            value: Module {
+                name: name.value,
+                at: word.value,
+                items: items.value,
+            },
+            rest: items.rest,
+        })
+    }
 }
 
 /// Modules up to the end.
+#[tactic(auto, unfolding(crate::specs::Reading::read_design))]
 pub(crate) fn read_design<'a>(alloc: Global, tokens: Cursor<'a>) -> Result<List<Module>, Stop>
     ensures { Gives (seen_list seen_module) result (whole_design tokens.entry) }
 {
@@ -155,7 +125,7 @@ pub(crate) fn read_design<'a>(alloc: Global, tokens: Cursor<'a>) -> Result<List<
         rest: tokens,
     };
     while !modules.rest.is_empty() {
-        modules = with_next_module(alloc, modules)?;
+        modules = with_next(alloc, modules)?;
     }
     Ok(modules.value)
 }

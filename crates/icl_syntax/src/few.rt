@@ -69,6 +69,21 @@ impl<T: Drop> Few<T> {
         })
     }
 
+    /// The values in a list. One alone makes room for itself alone.
+    pub fn into_list(self, alloc: Global) -> Result<List<T>, OutOfMemory>
+        ensures { IfOk result (λ list. list.items ≡ self.items) }
+    {
+        match self.values {
+            Values::One(first) => {
+                let mut values = Vec::new(alloc);
+                values.reserve_exact(1)?;
+                values.push(first)?;
+                Ok(List::from(values))
+            }
+            Values::More(list) => Ok(list),
+        }
+    }
+
     /// The values. A known type always fits in memory; a generic caller asks for it too.
     pub fn as_slice(&self) -> &[T]
         requires { FitsInMemory T.row }

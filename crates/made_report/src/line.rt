@@ -13,7 +13,7 @@ ghost use Rattle.tap_machine.specs.Play.{pins, scans_in};
 use crate::play::{played, scan_count};
 use ij_bits::List;
 use ij_io::{Sink, StoreFault};
-use instruments::model::Model;
+use instruments::Model;
 use net_graph::{Device, Net};
 use report::{Totals, put_totals};
 use std::alloc::Global;

@@ -10,7 +10,7 @@ ghost use Rattle.tap_machine.specs.declared.Stable.TheVariants.{Reset as InReset
 ghost use Rattle.tap_machine.specs.Play.{pins, scans_in};
 
 use ij_bits::{List, OutOfMemory};
-use instruments::model::Model;
+use instruments::Model;
 use net_bench::Bench;
 use net_graph::{Device, Net};
 use std::alloc::Global;

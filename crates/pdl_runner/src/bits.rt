@@ -14,7 +14,7 @@ ghost use Rattle.pdl_runner.specs.States.{Reads, direct_at};
 ghost use Rattle.runners.specs.Runners.{machines_of, insts_of, AreRunning};
 
 use ij_bits::List;
-use instruments::model::Model;
+use instruments::Model;
 use net_graph::{BitId, Holds, Net, Sig, WriteBit};
 use runners::{Runner, run_all};
 

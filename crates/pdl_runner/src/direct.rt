@@ -13,8 +13,7 @@ ghost use Rattle.runners.specs.Runners.{machines_of, AreModels};
 
 use crate::state::DataState;
 use ij_bits::{List, OutOfMemory};
-use instruments::Counts;
-use instruments::model::Model;
+use instruments::{Counts, Model};
 use net_graph::{BitId, BitStep, Group, Net, ReadBit};
 use std::alloc::Global;
 

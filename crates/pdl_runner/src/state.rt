@@ -14,8 +14,7 @@ ghost use Rattle.runners.specs.Runners.{machines_of, AreModels};
 
 use crate::bits::{capture_of, run_times, write_bits};
 use ij_bits::{List, OutOfMemory};
-use instruments::Counts;
-use instruments::model::Model;
+use instruments::{Counts, Model};
 use net_graph::{BitId, Holds, Net, WriteBit};
 use runners::{Runner, captured, reset_all, show_all, start};
 use std::alloc::Global;

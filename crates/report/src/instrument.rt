@@ -11,8 +11,7 @@ use crate::number::put_hex_number;
 use crate::path::{put_instrument_path, put_name};
 use ij_bits::List;
 use ij_io::{Sink, StoreFault, Word, put_words};
-use instruments::Counts;
-use instruments::model::{MemDef, Model, WordDef};
+use instruments::{Counts, MemDef, Model, WordDef};
 use net_graph::Net;
 
 /// Writes a word.

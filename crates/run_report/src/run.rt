@@ -16,7 +16,7 @@ ghost use Rattle.tap_machine.specs.Play.{pins, scans_in};
 use bench_report::put_named_play;
 use ij_bits::List;
 use ij_io::{Sink, StoreFault};
-use instruments::model::Model;
+use instruments::Model;
 use net_graph::{Device, Net};
 use net_tree::Tree;
 use pdl_parser::Proc;

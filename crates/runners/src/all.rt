@@ -14,9 +14,7 @@ ghost use Rattle.runners.specs.Runners.{machines_of, AreModels, insts_of, shown_
 
 use crate::runner::{Runner, inputs_of};
 use ij_bits::{List, OutOfMemory};
-use instruments::Counts;
-use instruments::machine::Machine;
-use instruments::model::Model;
+use instruments::{Counts, Machine, Model};
 use net_graph::{Holds, Net, Sig};
 use std::alloc::Global;
 

@@ -11,9 +11,7 @@ ghost use Rattle.net_graph.specs.Signals.{signal};
 ghost use Rattle.runners.specs.Driven.{IsDriven};
 ghost use Rattle.runners.specs.Runners.{running_of};
 
-use instruments::Counts;
-use instruments::machine::Machine;
-use instruments::model::Model;
+use instruments::{Counts, Machine, Model};
 use net_graph::{Holds, Inst, Sig};
 
 /// One instrument: its state, the numbers at its inputs, and how often it had each kind of event.

@@ -8,9 +8,9 @@ ghost use Rattle.table_file.specs.Small.{AreNarrow, IsFewAmount};
 
 use crate::names::{cond_operand, operand_named};
 use crate::widths::{cond_width, known, slice_word, word_width};
-use bench_lines::words::{care_in, plain_number, to_name, value_in};
+use bench_lines::{care_in, plain_number, to_name, value_in};
 use ij_bits::{List, OutOfMemory};
-use instruments::model::{Amount, Cond, Model, Operand, OutDef, RowDef, Set, Slot};
+use instruments::{Amount, Cond, Model, Operand, OutDef, RowDef, Set, Slot};
 use std::alloc::Global;
 use table_lines::{SaidAmount, SaidCond, SaidRow, SaidSet, SaidSlot, Slice};
 

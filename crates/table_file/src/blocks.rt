@@ -16,10 +16,10 @@ use crate::limits::{limit_fault, rank};
 use crate::names::name_fault;
 use crate::table::Table;
 use crate::widths::width_fault;
-use bench_lines::words::to_name;
+use bench_lines::to_name;
 use ij_bits::{List, OutOfMemory};
 use ij_text::{Name, Names, Place};
-use instruments::model::Model;
+use instruments::Model;
 use std::alloc::Global;
 use table_lines::{SaidLine, instrument, line};
 

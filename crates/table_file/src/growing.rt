@@ -8,10 +8,10 @@ ghost use Rattle.table_file.specs.Small.{IsSmall, AreFewStarts};
 ghost use Rattle.table_file.specs.Tables.{with_line, width_fault, limit_fault};
 
 use crate::adding::{out_said, row_said};
-use bench_lines::words::{plain_number, to_name};
+use bench_lines::{plain_number, to_name};
 use ij_bits::OutOfMemory;
 use ij_text::Number;
-use instruments::model::{MemDef, Model, PortDef, WordDef};
+use instruments::{MemDef, Model, PortDef, WordDef};
 use std::alloc::Global;
 use table_lines::{SaidLine, SaidRow, Slice, StartNumbers};
 

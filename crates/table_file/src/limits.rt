@@ -4,7 +4,7 @@ ghost use Rattle.instruments.specs.Seen.{seen_model, seen_row};
 ghost use Rattle.table_file.specs.Tables.{no_width, limit_fault, rank};
 ghost use Rattle.table_lines.specs.SeenSaid.{seen_said};
 
-use instruments::model::Model;
+use instruments::Model;
 use table_lines::SaidLine;
 
 fn no_width(width: u128) -> bool

@@ -6,8 +6,8 @@ ghost use Rattle.instruments.specs.Models.{memory_names, names};
 ghost use Rattle.table_file.specs.Tables.{named, stands_in, word_named, input_named, operand_named, cond_operand, no_operand, no_entry, no_slot, no_amount, target, row_names, name_fault, has_twice};
 ghost use Rattle.table_lines.specs.SeenSaid.{seen_entry, seen_slot, seen_amount, seen_cond, seen_set, seen_row, seen_said};
 
-use bench_lines::words::is;
-use instruments::model::{MemDef, Model, Operand, OutDef, PortDef, WordDef};
+use bench_lines::is;
+use instruments::{MemDef, Model, Operand, OutDef, PortDef, WordDef};
 use table_lines::{SaidAmount, SaidCond, SaidEntry, SaidLine, SaidRow, SaidSet, SaidSlot};
 
 /// The number of the word of a name.

@@ -11,7 +11,7 @@ ghost use Rattle.table_file.specs.Tables.{tables, read_lines, from_head, no_tabl
 use crate::blocks::{SoFar, next_line as one_more_line};
 use crate::fault::TableFault;
 use crate::table::Table;
-use bench_lines::lines::{end_place, next_line, words};
+use bench_lines::{end_place, next_line, words};
 use ij_bits::List;
 use ij_text::{Names, Place};
 use std::alloc::Global;

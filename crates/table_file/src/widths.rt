@@ -9,8 +9,8 @@ ghost use Rattle.table_file.specs.Tables.{known, word_named, name_width, cond_wi
 ghost use Rattle.table_lines.specs.SeenSaid.{seen_slot, seen_amount, seen_cond, seen_set, seen_row, seen_starts, seen_said};
 
 use crate::names::{cond_operand, operand_named, word_named};
-use bench_lines::words::{is_decimal_above, is_number_above, is_wide};
-use instruments::model::{MemDef, Model, Operand};
+use bench_lines::{is_decimal_above, is_number_above, is_wide};
+use instruments::{MemDef, Model, Operand};
 use table_lines::{SaidAmount, SaidCond, SaidLine, SaidRow, SaidSet, SaidSlot, StartNumbers};
 
 pub(crate) fn word_width(m: &Model, k: u32) -> u32

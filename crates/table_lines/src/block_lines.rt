@@ -5,7 +5,7 @@ ghost use Rattle.table_lines.specs.Said.{change_line, run_line, line_by, input_l
 ghost use Rattle.table_lines.specs.SeenSaid.{seen_row, seen_said};
 
 use crate::said::{SaidLine, SaidRow, row, slice_words, starts};
-use bench_lines::words::{decimal, is};
+use bench_lines::{decimal, is};
 use ij_bits::OutOfMemory;
 use ij_text::is_name;
 use std::alloc::Global;

@@ -4,7 +4,7 @@ ghost use Rattle.bench_lines.specs.Reading.{texts};
 ghost use Rattle.table_lines.specs.Said.{parts};
 ghost use Rattle.table_lines.specs.Parted.{part_length, part_list};
 
-use bench_lines::words::is;
+use bench_lines::is;
 
 /// Words up to a comma, and those behind it, where there is one.
 #[derive(Clone, Copy)]

@@ -10,8 +10,7 @@ ghost use Rattle.table_lines.specs.Parted.{part_list, behind_parts, with_conds, 
 ghost use Rattle.table_lines.specs.SeenSaid.{seen_front, seen_bracketed, seen_entry, seen_slot, seen_amount, seen_cond, seen_set, seen_row, seen_starts, seen_slice};
 
 use crate::parts::{Part, next_part};
-use bench_lines::bytes::cut_at;
-use bench_lines::words::{decimal, is, number, plain};
+use bench_lines::{cut_at, decimal, is, number, plain};
 use ij_bits::OutOfMemory;
 use ij_text::{Number, is_name};
 use std::alloc::Global;

@@ -11,7 +11,7 @@ ghost use Rattle.table_writer.specs.Pieces.{word_front, memory_front, out_front}
 use crate::names::{word_name, word_width};
 use crate::row::put_row;
 use ij_io::{Sink, StoreFault, Word, put_words};
-use instruments::model::{MemDef, Model, OutDef, PortDef, RowDef, WordDef};
+use instruments::{MemDef, Model, OutDef, PortDef, RowDef, WordDef};
 
 #[tactic(auto, unfolding(ij_io::specs::Words::words_text))]
 fn put_input<K: Sink>(d: &PortDef, k: &mut K) -> Result<(), StoreFault>

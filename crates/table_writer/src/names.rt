@@ -8,7 +8,7 @@ ghost use Rattle.bench_file.specs.Written.{word_name, input_name, memory_name, o
 ghost use Rattle.table_writer.specs.Pieces.{old_mark, operand_name};
 
 use ij_io::{Sink, StoreFault, Word, put_words};
-use instruments::model::{MemDef, Model, Operand};
+use instruments::{MemDef, Model, Operand};
 
 pub(crate) fn word_name(m: &Model, k: u32) -> &[u8]
     ensures { result.now ≡ word_name (seen_model m.now) k }

@@ -12,7 +12,7 @@ ghost use Rattle.table_writer.specs.Pieces.{sum_text, next_cond, next_set};
 
 use crate::names::{old_mark, operand_name, operand_width, put_entry, put_operand, word_name};
 use ij_io::{Sink, StoreFault, Word, put_decimal, put_words};
-use instruments::model::{Amount, Cond, Model, Operand, RowDef, Set, Slot};
+use instruments::{Amount, Cond, Model, Operand, RowDef, Set, Slot};
 
 /// The digit of a bit, `x` where it doesn't count.
 fn digit(value: bool, care: bool) -> u8

@@ -14,7 +14,7 @@ use crate::definition::{put_change, put_ins, put_memory, put_outs_of, put_run, p
 use ij_bits::List;
 use ij_io::{Sink, StoreFault, Word, put_words};
 use ij_text::Name;
-use instruments::model::Model;
+use instruments::Model;
 use table_file::Table;
 
 #[tactic(auto, unfolding(ij_io::specs::Words::words_text))]

@@ -1,13 +1,9 @@
-use Rattle.std.proofs.Common.{map, ap, ◌∙◌}
+use Rattle.std.proofs.Common.{◌∙◌}
 use Rattle.std.proofs.lemmas.Result.{err_from_is_err_and}
 use Rattle.icl_syntax.specs.Views.{seen_list, seen_module}
 use Rattle.icl_expressions.specs.Seen.{seen_read}
-use Rattle.icl_parser.proofs.ItemLoops.{modules_start}
 use Rattle.icl_parser.proofs.Verdicts.{begins_any, begins_none, modules_go_on, design_fails, design_ends}
 use Rattle.icl_parser.proofs.modules.read_design.Goals as goal
-
-pub loop-alloc-init : goal.loop-alloc-init
-loop-alloc-init c = modules_start _ c.args.tokens (ap (map seen_module) c.new.ensures)
 
 pub loop-alloc-preserved : goal.loop-alloc-preserved
 loop-alloc-preserved c =

@@ -1,0 +1,122 @@
+// Parts with a mark between them.
+ghost use Rattle.std.specs.Prelude.{◌<◌, ◌≤◌, ℕ, List, [], ◌∷◌, IfOk, length};
+ghost use Rattle.icl_syntax.specs.Values.{SeenExpr, SeenSig};
+ghost use Rattle.icl_syntax.specs.Grammar.{appended};
+ghost use Rattle.icl_syntax.specs.Views.{bytes_of, seen_expr, seen_few, seen_sig};
+ghost use Rattle.icl_expressions.specs.Seen.{seen_read, Gives};
+ghost use Rattle.icl_expressions.specs.Reading.{Reading, Shrinks, read_put, read_after, more_parted, read_parted, read_name, read_value, read_sig};
+
+use crate::reading::{Read, begins_mark, read_mark, read_name};
+use crate::signals::{read_sig, read_value};
+use crate::stop::Stop;
+use icl_lexer::Cursor;
+use icl_syntax::{Expr, Few, Sig, SmallText};
+use std::alloc::Global;
+
+/// A part of a text, several of which may stand with a mark between them.
+pub trait Part: Sized {
+    /// The part without where it lies in memory.
+    ghost Plain: { Type 0 };
+
+    ghost view: { Self → Plain };
+
+    /// How it is read.
+    ghost reader: { Reading Plain };
+
+    /// Reads it.
+    fn read<'a>(alloc: Global, tokens: Cursor<'a>) -> Result<Read<'a, Self>, Stop>
+        ensures shorter { IfOk result (λ r. length r.rest < length tokens.entry) }
+        ensures gives { Gives (seen_read view) result (reader tokens.entry) };
+}
+
+/// Parts with the next one, behind a mark.
+fn with_next<'a, T: Part + Drop>(
+    alloc: Global,
+    parts: Read<'a, Few<T>>,
+    mark: u8,
+) -> Result<Read<'a, Few<T>>, Stop>
+    ensures shorter { IfOk result (λ r. length r.rest < length parts.entry.rest) }
+    ensures gives { Gives (seen_read (seen_few T.view)) result (read_put (read_after mark T.reader) appended (seen_few T.view parts.entry.value) parts.entry.rest) }
+{
+    let at = read_mark(parts.rest, mark)?;
+    let next = T::read(alloc, at.rest)?;
+    Ok(Read {
+        value: parts.value.with(alloc, next.value)?,
+        rest: next.rest,
+    })
+}
+
+/// A part with those that follow, each behind a mark.
+pub(crate) fn read_behind<'a, T: Part + Drop>(
+    alloc: Global,
+    first: Read<'a, T>,
+    mark: u8,
+) -> Result<Read<'a, Few<T>>, Stop>
+    requires { Shrinks T.reader }
+    ensures shorter { IfOk result (λ r. length r.rest ≤ length first.entry.rest) }
+    ensures gives { Gives (seen_read (seen_few T.view)) result (more_parted mark T.reader (T.view first.entry.value ∷ []) first.entry.rest) }
+{
+    let mut parts = Read {
+        value: Few::one(first.value),
+        rest: first.rest,
+    };
+    while begins_mark(&parts.rest, mark) {
+        parts = with_next(alloc, parts, mark)?;
+    }
+    Ok(parts)
+}
+
+/// Parts with a mark between them.
+pub fn read_parted<'a, T: Part + Drop>(
+    alloc: Global,
+    tokens: Cursor<'a>,
+    mark: u8,
+) -> Result<Read<'a, Few<T>>, Stop>
+    requires { Shrinks T.reader }
+    ensures shorter { IfOk result (λ r. length r.rest < length tokens.entry) }
+    ensures gives { Gives (seen_read (seen_few T.view)) result (read_parted mark T.reader tokens.entry) }
+{
+    let first = T::read(alloc, tokens)?;
+    read_behind(alloc, first, mark)
+}
+
+// ---- the parts of values and signals
+
+/// A name.
+impl Part for SmallText {
+    ghost Plain = { List ℕ };
+
+    ghost view = { bytes_of };
+
+    ghost reader = { read_name };
+
+    fn read<'a>(alloc: Global, tokens: Cursor<'a>) -> Result<Read<'a, SmallText>, Stop> {
+        read_name(alloc, tokens)
+    }
+}
+
+/// A value.
+impl Part for Few<Expr> {
+    ghost Plain = { List SeenExpr };
+
+    ghost view = { seen_few seen_expr };
+
+    ghost reader = { read_value };
+
+    fn read<'a>(alloc: Global, tokens: Cursor<'a>) -> Result<Read<'a, Few<Expr>>, Stop> {
+        read_value(alloc, tokens)
+    }
+}
+
+/// A signal.
+impl Part for Sig {
+    ghost Plain = { SeenSig };
+
+    ghost view = { seen_sig };
+
+    ghost reader = { read_sig };
+
+    fn read<'a>(alloc: Global, tokens: Cursor<'a>) -> Result<Read<'a, Sig>, Stop> {
+        read_sig(alloc, tokens)
+    }
+}

@@ -1,0 +1,89 @@
+// What stands behind others of its kind.
+ghost use Rattle.std.specs.Prelude.{◌<◌, ◌≤◌, IfOk, length};
+ghost use Rattle.icl_syntax.specs.Grammar.{appended};
+ghost use Rattle.icl_syntax.specs.Views.{seen_list};
+ghost use Rattle.icl_expressions.specs.Seen.{seen_read, Gives};
+ghost use Rattle.icl_expressions.specs.Reading.{Reading, Shrinks, read_put, more, read_many, read_braced};
+
+use icl_expressions::{Read, Stop, before_close, pushed, read_mark};
+use icl_lexer::Cursor;
+use ij_bits::List;
+use std::alloc::Global;
+
+/// What stands behind others of its kind, without a mark between them.
+pub(crate) trait Entry: Sized {
+    /// The entry without where it lies in memory.
+    ghost Plain: { Type 0 };
+
+    ghost view: { Self → Plain };
+
+    /// How it is read.
+    ghost reader: { Reading Plain };
+
+    /// Reads it.
+    fn read<'a>(alloc: Global, tokens: Cursor<'a>) -> Result<Read<'a, Self>, Stop>
+        ensures shorter { IfOk result (λ r. length r.rest < length tokens.entry) }
+        ensures gives { Gives (seen_read view) result (reader tokens.entry) };
+}
+
+/// Entries with the next one.
+pub(crate) fn with_next<'a, T: Entry + Drop>(
+    alloc: Global,
+    entries: Read<'a, List<T>>,
+) -> Result<Read<'a, List<T>>, Stop>
+    ensures shorter { IfOk result (λ r. length r.rest < length entries.entry.rest) }
+    ensures gives { Gives (seen_read (seen_list T.view)) result (read_put T.reader appended (seen_list T.view entries.entry.value) entries.entry.rest) }
+{
+    let next = T::read(alloc, entries.rest)?;
+    Ok(pushed(entries.value, next)?)
+}
+
+/// Entries with those that follow, up to a `}`.
+pub(crate) fn read_behind<'a, T: Entry + Drop>(
+    alloc: Global,
+    first: Read<'a, List<T>>,
+) -> Result<Read<'a, List<T>>, Stop>
+    requires { Shrinks T.reader }
+    ensures shorter { IfOk result (λ r. length r.rest ≤ length first.entry.rest) }
+    ensures gives { Gives (seen_read (seen_list T.view)) result (more T.reader (seen_list T.view first.entry.value) first.entry.rest) }
+{
+    let mut entries = first;
+    while before_close(&entries.rest) {
+        entries = with_next(alloc, entries)?;
+    }
+    Ok(entries)
+}
+
+/// Entries up to a `}`.
+pub(crate) fn read_many<'a, T: Entry + Drop>(
+    alloc: Global,
+    tokens: Cursor<'a>,
+) -> Result<Read<'a, List<T>>, Stop>
+    requires { Shrinks T.reader }
+    ensures shorter { IfOk result (λ r. length r.rest ≤ length tokens.entry) }
+    ensures gives { Gives (seen_read (seen_list T.view)) result (read_many T.reader tokens.entry) }
+{
+    let none = Read {
+        value: List::new(alloc),
+        rest: tokens,
+    };
+    read_behind(alloc, none)
+}
+
+/// Entries in braces.
+pub(crate) fn read_braced<'a, T: Entry + Drop>(
+    alloc: Global,
+    tokens: Cursor<'a>,
+) -> Result<Read<'a, List<T>>, Stop>
+    requires { Shrinks T.reader }
+    ensures shorter { IfOk result (λ r. length r.rest < length tokens.entry) }
+    ensures gives { Gives (seen_read (seen_list T.view)) result (read_braced (read_many T.reader) tokens.entry) }
+{
+    let open = read_mark(tokens, b'{')?;
+    let entries = read_many(alloc, open.rest)?;
+    let close = read_mark(entries.rest, b'}')?;
+    Ok(Read {
+        value: entries.value,
+        rest: close.rest,
+    })
+}
