@@ -1,7 +1,8 @@
 -- Pieces that their first byte tells: blanks, marks and words.
 use Rattle.std.proofs.Common.{◌≡◌, ◌==◌, ◌∷◌, [], ◌&&◌, ◌+◌, ◌<◌, ◌≤◌, ℕ, zero, suc, Bool, true, false, cond, List, length, take, drop, get_or, Option, Some, None, refl, sym, subst, ◌∙◌, arith}
 use Rattle.std.proofs.lemmas.Bool.{eqb-true}
-use Rattle.ij_text.specs.Words.{in_name}
+use Rattle.ij_text.specs.Bytes.{is_blank}
+use Rattle.ij_text.specs.Words.{begins_name, in_name}
 use Rattle.icl_lexer.specs.declared.token.TokenKind.TheVariants.{Word}
 use Rattle.icl_lexer.specs.declared.token.Kind.{Kind}
 use Rattle.icl_lexer.specs.declared.token.Kind.TheVariants.{Gap, Is}
@@ -117,3 +118,15 @@ whole_at (b ∷ rest) kind some h = whole_piece b rest kind h
 pub word_at : (text : List ℕ) (n : ℕ) → 1 ≤ length text → ((bs : List ℕ) → run in_name (Is Word) bs ≡ kind_of (get_or text 0 0 ∷ bs)) → n ≡ run_len in_name (drop 1 text) → IsPiece text (Is Word) (1 + n)
 word_at [] n some h is = absurd (omega (arith, some))
 word_at (b ∷ rest) n some h is = subst (λ len. IsPiece (b ∷ rest) (Is Word) len) (let e : suc (run_len in_name rest) ≡ 1 + n = omega (arith, is) in e) (word_piece b rest h)
+
+-- a text that begins with a blank
+pub blank_at : (text : List ℕ) → 1 ≤ length text → is_blank (get_or text 0 0) ≡ true → IsPiece text Gap 1
+blank_at text some blank = whole_at text Gap some (λ bs. sym (cond_true (is_blank (get_or text 0 0)) (ends Gap bs) _ blank))
+
+-- a text that begins with a word
+pub name_at : (text : List ℕ) (n : ℕ) → 1 ≤ length text → is_blank (get_or text 0 0) ≡ false → begins_name (get_or text 0 0) ≡ true → n ≡ run_len in_name (drop 1 text)
+    → IsPiece text (Is Word) (1 + n)
+name_at text n some no_blank begins is = word_at text n some (λ bs. sym (
+    cond_false (is_blank (get_or text 0 0)) (ends Gap bs) _ no_blank
+    ∙ cond_true (begins_name (get_or text 0 0)) (run in_name (Is Word) bs) _ begins
+    )) is

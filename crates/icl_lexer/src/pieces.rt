@@ -6,7 +6,7 @@ ghost use Rattle.icl_lexer.specs.Matches.{longest_match, longer, run_len};
 
 use crate::state::{State, begin};
 use crate::token::{Kind, TokenKind};
-use ij_text::in_name;
+use ij_text::{begins_name, in_name, is_blank};
 
 /// So many bytes at the front of a text are a piece.
 #[derive(Clone, Copy)]
@@ -72,16 +72,24 @@ fn name_len(text: &[u8]) -> usize
 fn short_piece(text: &[u8]) -> Option<Match>
     ensures { IfSome result (λ p. IsPiece text.now p.kind p.len) }
 {
-    match text {
-        [b, rest @ ..] => match begin(*b) {
-            State::Whole(kind) => Some(Match { kind, len: 1 }),
-            State::Word => Some(Match {
-                kind: Kind::Is(TokenKind::Word),
-                len: 1 + name_len(rest),
-            }),
-            _ => None,
-        },
-        [] => None,
+    let [b, rest @ ..] = text else {
+        return None;
+    };
+    if is_blank(*b) {
+        return Some(Match {
+            kind: Kind::Gap,
+            len: 1,
+        });
+    }
+    if begins_name(*b) {
+        return Some(Match {
+            kind: Kind::Is(TokenKind::Word),
+            len: 1 + name_len(rest),
+        });
+    }
+    match begin(*b) {
+        State::Whole(kind) => Some(Match { kind, len: 1 }),
+        _ => None,
     }
 }
 
