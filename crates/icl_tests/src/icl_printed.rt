@@ -18,7 +18,7 @@ fn printed(alloc: Global, text: &[u8]) -> Result<SureSink, Fail> {
 #[test]
 fn designs_are_printed(rt: HostRuntime) -> Result<(), Fail> {
     let alloc = rt.alloc();
-    let rows: [(&str, &str); 5] = [
+    let rows: [(&str, &str); 6] = [
         ("", ""),
         (
             "Module a{ScanInPort SI{}}Module b{}",
@@ -35,6 +35,10 @@ fn designs_are_printed(rt: HostRuntime) -> Result<(), Fail> {
         (
             "Module a { // chip\n  ScanRegister R[7:0] { ScanInSource SI; ResetValue 8'h0F; } }",
             "Module a {\nScanRegister R [ 7 : 0 ] {\nScanInSource SI ;\nResetValue 8'h0F ;\n}\n}\n",
+        ),
+        (
+            "Module fourteen_bytes{ScanMux fifteen_bytes_m SelectedBy 0{1'b0,1'b1,1'bx|2'b11|3'b111:a.bb.cc;}}",
+            "Module fourteen_bytes {\nScanMux fifteen_bytes_m SelectedBy 0 {\n1'b0 , 1'b1 , 1'bx | 2'b11 | 3'b111 : a . bb . cc ;\n}\n}\n",
         ),
     ];
     for (text, wanted) in rows {
