@@ -1,6 +1,6 @@
 -- Paths, one name after another.
 use Rattle.std.proofs.Common.{◌≡◌, ◌+◌, ◌<◌, ℕ, List, [], ◌∷◌, ◌++◌, length, map, get_or, drop, Option, Some, None, Result, Ok, Err, refl, sym, ap, ◌∙◌}
-use Rattle.icl_syntax.specs.Held.{Few}
+use Rattle.icl_syntax.specs.Held.{Items}
 use Rattle.icl_syntax.specs.Views.{bytes_of}
 use Rattle.ij_text.specs.declared.Place.{Place}
 use Rattle.icl_values.specs.Faults.{Answer, Fault, Fails, ◌>>=◌}
@@ -36,7 +36,7 @@ name_fails frames here at name names last e h = fails_along e _ _ (sym (first_na
 
 -- ---- in a loop over a path
 
-pub stops_at : (frames : List Frame) (here : Here) (at : Place) (front : List (Few ℕ)) (i : ℕ) (x : Few ℕ) (last : List ℕ) (e : Option Fault) (whole : Answer Target)
+pub stops_at : (frames : List Frame) (here : Here) (at : Place) (front : List (Items ℕ)) (i : ℕ) (x : Items ℕ) (last : List ℕ) (e : Option Fault) (whole : Answer Target)
     → i < length front → x ≡ get_or front i x → Fails e (child_named frames here at x.items) → path_from frames here at (map bytes_of (drop i front) ++ last ∷ []) ≡ whole → Fails e whole
 stops_at frames here at front i x last e whole lt is h goes_on =
     fails_along e (path_from frames here at (x.items ∷ (map bytes_of (drop (i + 1) front) ++ last ∷ []))) whole

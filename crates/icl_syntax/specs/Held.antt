@@ -5,8 +5,8 @@ use Rattle.icl_syntax.specs.declared.small_text.Held.TheVariants.{Near, Far}
 use Rattle.icl_syntax.specs.declared.few.Values.{Values}
 use Rattle.icl_syntax.specs.declared.few.Values.TheVariants.{One, More}
 
--- the values of a list
-pub record Few (T : Type 0) : Type 0 where
+-- the values of a list, or the bytes of a text
+pub record Items (T : Type 0) : Type 0 where
   pub items : List T
 
 abbrev pub near_or_far : Held → List ℕ

@@ -2,7 +2,7 @@
 use Rattle.std.specs.Prelude.{ℕ, List, map}
 use Rattle.std.specs.Option.{option_map}
 use Rattle.ij_bits.specs.Room.{Listed}
-use Rattle.icl_syntax.specs.Held.{Few}
+use Rattle.icl_syntax.specs.Held.{Items}
 use Rattle.icl_syntax.specs.declared.tree.Expr.{Expr}
 use Rattle.icl_syntax.specs.declared.tree.Expr.TheVariants.{Decimal, Sized, Quoted, Param, Op'}
 use Rattle.icl_syntax.specs.declared.tree.Range.{Range}
@@ -27,10 +27,10 @@ use Rattle.icl_syntax.specs.Values.{SeenExpr, ADecimal, ASized, AQuoted, AParam,
 abbrev pub seen_list : {X Y : Type 0} → (X → Y) → Listed X → List Y
 seen_list view xs = map view xs.items
 
-abbrev pub seen_few : {X Y : Type 0} → (X → Y) → Few X → List Y
+abbrev pub seen_few : {X Y : Type 0} → (X → Y) → Items X → List Y
 seen_few view xs = map view xs.items
 
-abbrev pub bytes_of : Few ℕ → List ℕ
+abbrev pub bytes_of : Items ℕ → List ℕ
 bytes_of text = text.items
 
 abbrev pub seen_expr : Expr → SeenExpr

@@ -24,9 +24,9 @@ pub struct Few<T> {
 }
 
 impl<T> Model for Few<T> {
-    ghost use Rattle.icl_syntax.specs.Held.{Few, one_or_more};
+    ghost use Rattle.icl_syntax.specs.Held.{Items, one_or_more};
 
-    ghost Value = { Few T };
+    ghost Value = { Items T };
 
     ghost view = { λ f. record { items = one_or_more f.values } };
 }

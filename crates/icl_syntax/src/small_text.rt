@@ -27,9 +27,9 @@ pub struct SmallText {
 
 impl Model for SmallText {
     ghost use Rattle.std.specs.Prelude.{ℕ};
-    ghost use Rattle.icl_syntax.specs.Held.{Few, near_or_far, IsNear};
+    ghost use Rattle.icl_syntax.specs.Held.{Items, near_or_far, IsNear};
 
-    ghost Value = { Few ℕ };
+    ghost Value = { Items ℕ };
 
     ghost view = { λ t. record { items = near_or_far t.held } };
 

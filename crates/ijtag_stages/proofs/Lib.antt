@@ -1,6 +1,5 @@
 pub mod Printed
 pub mod Faults
-pub mod Few
 pub mod Parts
 pub mod Playable
 pub mod Turns

@@ -3,7 +3,7 @@ use Rattle.icl_lexer.specs.Seen.{HasTokens}
 use Rattle.icl_syntax.specs.Modules.{design}
 use Rattle.std.proofs.Common.{subst}
 use Rattle.ijtag_stages.specs.IclText.{icl_tokens, icl_design}
-use Rattle.ijtag_stages.proofs.Few.{few_tokens}
+use Rattle.icl_lexer.proofs.Few.{few_tokens}
 use Rattle.ijtag_stages.proofs.icl.read_icl.Goals as goal
 
 pub returns-clause-written : goal.returns-clause-written

@@ -2,7 +2,7 @@ use Rattle.std.proofs.Common.{subst}
 use Rattle.icl_lexer.specs.Seen.{HasTokens}
 use Rattle.icl_syntax.specs.Modules.{design}
 use Rattle.icl_syntax.specs.Views.{seen_design}
-use Rattle.test_networks.proofs.Few.{few_tokens}
+use Rattle.icl_lexer.proofs.Few.{few_tokens}
 use Rattle.test_networks.proofs.texts.design_of.Goals as goal
 
 pub returns : goal.returns
