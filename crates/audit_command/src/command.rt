@@ -117,14 +117,16 @@ fn put_line<O: Sink>(
     can_be_audited(it, procedure);
     let of = &it.of;
     let mut steps = steps_again(alloc, &of.procs, &of.network, procedure)?;
-    let yes = put_audit(
+    let told = put_audit(
         alloc,
         &of.network.net,
         &of.device,
         &mut steps,
         &it.commands,
         out,
-    )?;
+    );
+    drop(steps);
+    let yes = told?;
     if yes {
         Ok(Verdict::Agrees)
     } else {

@@ -40,14 +40,16 @@ pub fn make_svf(
     procedures_are_plannable();
     let mut svf = SureSink::new(alloc);
     let mut steps = steps_again(alloc, procs, network, procedure)?;
-    match put_svf(
+    let told = put_svf(
         alloc,
         &network.net,
         &network.form,
         device,
         &mut steps,
         &mut svf,
-    ) {
+    );
+    drop(steps);
+    match told {
         Ok(()) => Ok(svf),
         Err(_) => Err(OutOfMemory),
     }
@@ -77,7 +79,7 @@ pub fn write_svf<S: Shelf>(
     bit_steps_are_few();
     procedures_are_plannable();
     let mut steps = steps_again(alloc, procs, network, procedure)?;
-    put_svf_file(
+    let told = put_svf_file(
         alloc,
         &network.net,
         &network.form,
@@ -85,7 +87,9 @@ pub fn write_svf<S: Shelf>(
         &mut steps,
         name,
         shelf,
-    )
+    );
+    drop(steps);
+    told
 }
 
 /// The commands of a written SVF text, in which a reader finds some: only want of memory is an error.

@@ -178,7 +178,9 @@ fn put_lines<O: Sink>(
     bit_steps_are_few();
     let mut steps = steps_again(alloc, &it.procs, &it.on.network, procedure)?;
     let net = &it.on.network.net;
-    let differs = put_direct(alloc, net, it.on.models.models(), &mut steps, out)?;
+    let told = put_direct(alloc, net, it.on.models.models(), &mut steps, out);
+    drop(steps);
+    let differs = told?;
     if differs == 0 {
         Ok(Verdict::Agrees)
     } else {

@@ -24,14 +24,12 @@ pub fn steps_again<'a>(
     requires few { length procs.now.procs.items < 2 ^ 32 }
     ensures { IfOk result (λ steps. steps ≡ bit_steps (seen_procs procs.now) network.now.net network.now.form name.now) }
 {
-    match BitSteps::new(
+    BitSteps::new(
         alloc,
         procs.procs.as_slice(),
         &network.net,
         &network.form,
         name.as_bytes(),
-    ) {
-        Ok(steps) => Ok(steps),
-        Err(_) => Err(OutOfMemory),
-    }
+    )
+    .map_err(|_| OutOfMemory)
 }

@@ -65,10 +65,7 @@ fn steps_of<'a>(
     requires can { CanRetarget net.now tree.now (bit_steps (map seen_proc procs.now) net.now tree.now name.now) }
     ensures { IfOk result (λ steps. steps ≡ bit_steps (map seen_proc procs.now) net.now tree.now name.now) }
 {
-    match BitSteps::new(alloc, procs, net, tree, name) {
-        Ok(steps) => Ok(steps),
-        Err(_) => Err(OutOfMemory),
-    }
+    BitSteps::new(alloc, procs, net, tree, name).map_err(|_| OutOfMemory)
 }
 
 impl<'a> Cursor<'a> {

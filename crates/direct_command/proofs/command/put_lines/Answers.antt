@@ -15,7 +15,7 @@ unfolding meaning_of
 returns-in_err-differs-clause-part g c =
     let on = c.args.it.now.on in
     let old : Option (List ℕ) = g.O.Sink.taken c.args.out.now in
-    let new : Option (List ℕ) = g.O.Sink.taken c.put_direct.new.k in
+    let new : Option (List ℕ) = g.O.Sink.taken c.put_direct-told.new.k in
     at_refusal _
     (subst (λ (b : BitStepsOf). AddsPart old new (direct_report on.network.net (map seen_model on.models) b.steps)) c.in_ok-steps.ensures
     (subst (λ (ms : List Model). AddsPart old new (direct_report on.network.net (map seen_model ms) c.in_ok-steps.steps.steps)) c.models.ensures c.in_err-differs.ensures.part))
@@ -25,21 +25,21 @@ unfolding meaning_of
 returns-then-differs-eq0-clause-printed g c =
     let on = c.args.it.now.on in
     let old : Option (List ℕ) = g.O.Sink.taken c.args.out.now in
-    let new : Option (List ℕ) = g.O.Sink.taken c.put_direct.new.k in
+    let new : Option (List ℕ) = g.O.Sink.taken c.put_direct-told.new.k in
     subst (λ (b : BitStepsOf). Adds old new (direct_report on.network.net (map seen_model on.models) b.steps)) c.in_ok-steps.ensures
     (subst (λ (ms : List Model). Adds old new (direct_report on.network.net (map seen_model ms) c.in_ok-steps.steps.steps)) c.models.ensures c.in_ok-differs.ensures.whole)
 
-pub returns-clause-printed : goal.returns-clause-printed
+pub returns-else-differs-eq0-clause-printed : goal.returns-else-differs-eq0-clause-printed
 unfolding meaning_of
-returns-clause-printed g c =
+returns-else-differs-eq0-clause-printed g c =
     let on = c.args.it.now.on in
     let old : Option (List ℕ) = g.O.Sink.taken c.args.out.now in
-    let new : Option (List ℕ) = g.O.Sink.taken c.put_direct.new.k in
+    let new : Option (List ℕ) = g.O.Sink.taken c.put_direct-told.new.k in
     subst (λ (b : BitStepsOf). Adds old new (direct_report on.network.net (map seen_model on.models) b.steps)) c.in_ok-steps.ensures
     (subst (λ (ms : List Model). Adds old new (direct_report on.network.net (map seen_model ms) c.in_ok-steps.steps.steps)) c.models.ensures c.in_ok-differs.ensures.whole)
 
-pub returns-clause-verdict : goal.returns-clause-verdict
-returns-clause-verdict g c =
+pub returns-else-differs-eq0-clause-verdict : goal.returns-else-differs-eq0-clause-verdict
+returns-else-differs-eq0-clause-verdict g c =
     let on = c.args.it.now.on in
     let found = direct_differs on.network.net (map seen_model c.models.result.now.items) c.in_ok-steps.steps.steps in
     let wanted = direct_differs on.network.net (map seen_model on.models) (bit_steps (seen_procs c.args.it.now.procs) on.network.net on.network.form c.args.procedure.now).steps in
