@@ -11,7 +11,7 @@ unfolding line_of
 returns-in_err-yes-clause-part g c =
     let it = c.args.it.now in
     let old : Option (List ℕ) = g.O.Sink.taken c.args.out.now in
-    let new : Option (List ℕ) = g.O.Sink.taken c.put_audit.new.k in
+    let new : Option (List ℕ) = g.O.Sink.taken c.put_audit-told.new.k in
     at_refusal _
     (subst (λ (b : BitStepsOf). AddsPart old new (audit_text it.of.network.net it.of.device b.steps it.commands)) c.in_ok-steps.ensures c.in_err-yes.ensures.part)
 
@@ -20,13 +20,13 @@ unfolding line_of
 returns-then-yes-clause-printed g c =
     let it = c.args.it.now in
     let old : Option (List ℕ) = g.O.Sink.taken c.args.out.now in
-    let new : Option (List ℕ) = g.O.Sink.taken c.put_audit.new.k in
+    let new : Option (List ℕ) = g.O.Sink.taken c.put_audit-told.new.k in
     subst (λ (b : BitStepsOf). Adds old new (audit_text it.of.network.net it.of.device b.steps it.commands)) c.in_ok-steps.ensures c.in_ok-yes.ensures.whole
 
-pub returns-clause-printed : goal.returns-clause-printed
+pub returns-else-yes-clause-printed : goal.returns-else-yes-clause-printed
 unfolding line_of
-returns-clause-printed g c =
+returns-else-yes-clause-printed g c =
     let it = c.args.it.now in
     let old : Option (List ℕ) = g.O.Sink.taken c.args.out.now in
-    let new : Option (List ℕ) = g.O.Sink.taken c.put_audit.new.k in
+    let new : Option (List ℕ) = g.O.Sink.taken c.put_audit-told.new.k in
     subst (λ (b : BitStepsOf). Adds old new (audit_text it.of.network.net it.of.device b.steps it.commands)) c.in_ok-steps.ensures c.in_ok-yes.ensures.whole

@@ -8,9 +8,9 @@ use Rattle.ijtag_work.specs.declared.accepted.Compilable.{Compilable}
 use Rattle.ijtag_work.proofs.Made.{plannable}
 use Rattle.compile_command.proofs.svf.make_svf.Goals as goal
 
-pub put_svf-requires-clause-plannable : goal.put_svf-requires-clause-plannable
+pub put_svf-told-requires-clause-plannable : goal.put_svf-told-requires-clause-plannable
 unfolding IsCompilable
-put_svf-requires-clause-plannable c =
+put_svf-told-requires-clause-plannable c =
     let it : Compilable = record { network = c.args.network.now; device = c.args.device.now; procs = c.args.procs.now } in
     let net = it.network.net in
     subst (λ (b : BitStepsOf). All (StepIsPlannable net it.network.form) b.steps) (sym c.in_ok-steps.ensures)

@@ -14,9 +14,9 @@ use Rattle.ijtag_work.proofs.Filed.{is_filed, part_filed, has_text}
 use Rattle.ijtag_work.proofs.Made.{plannable}
 use Rattle.compile_command.proofs.svf.write_svf.Goals as goal
 
-pub put_svf_file-requires-clause-plannable : goal.put_svf_file-requires-clause-plannable
+pub put_svf_file-told-requires-clause-plannable : goal.put_svf_file-told-requires-clause-plannable
 unfolding IsCompilable
-put_svf_file-requires-clause-plannable g c =
+put_svf_file-told-requires-clause-plannable g c =
     let it : Compilable = record { network = c.args.network.now; device = c.args.device.now; procs = c.args.procs.now } in
     let net = it.network.net in
     subst (λ (b : BitStepsOf). All (StepIsPlannable net it.network.form) b.steps) (sym c.in_ok-steps.ensures)
@@ -26,29 +26,29 @@ pub returns-clause-whole : goal.returns-clause-whole
 returns-clause-whole g c =
     let it : SeenCompilable = seen_compilable c.args.procedure.now (record { network = c.args.network.now; device = c.args.device.now; procs = c.args.procs.now }) in
     let old : Option Files = g.S.Shelf.files c.args.shelf.now in
-    let new : Option Files = g.S.Shelf.files c.put_svf_file.new.shelf in
-    let text : HasScript it.network.net it.network.form it.device it.steps = subst (λ (b : BitStepsOf). HasScript it.network.net it.network.form it.device b.steps) c.in_ok-steps.ensures c.put_svf_file.ensures.text in
-    let right : ScriptIsRight it.network.net it.network.form it.device it.steps = subst (λ (b : BitStepsOf). ScriptIsRight it.network.net it.network.form it.device b.steps) c.in_ok-steps.ensures c.put_svf_file.ensures.right in
-    at_ok c.put_svf_file.result
+    let new : Option Files = g.S.Shelf.files c.put_svf_file-told.new.shelf in
+    let text : HasScript it.network.net it.network.form it.device it.steps = subst (λ (b : BitStepsOf). HasScript it.network.net it.network.form it.device b.steps) c.in_ok-steps.ensures c.put_svf_file-told.ensures.text in
+    let right : ScriptIsRight it.network.net it.network.form it.device it.steps = subst (λ (b : BitStepsOf). ScriptIsRight it.network.net it.network.form it.device b.steps) c.in_ok-steps.ensures c.put_svf_file-told.ensures.right in
+    at_ok c.put_svf_file-told.result
     (λ h. is_filed it text right old new c.args.name.now (subst (λ (b : BitStepsOf). HoldsScript it.network.net it.network.form it.device b.steps old new c.args.name.now) c.in_ok-steps.ensures h))
-    c.put_svf_file.ensures.whole
+    c.put_svf_file-told.ensures.whole
 
 pub returns-clause-part : goal.returns-clause-part
 returns-clause-part g c =
     let it : SeenCompilable = seen_compilable c.args.procedure.now (record { network = c.args.network.now; device = c.args.device.now; procs = c.args.procs.now }) in
     let old : Option Files = g.S.Shelf.files c.args.shelf.now in
-    let new : Option Files = g.S.Shelf.files c.put_svf_file.new.shelf in
-    let text : HasScript it.network.net it.network.form it.device it.steps = subst (λ (b : BitStepsOf). HasScript it.network.net it.network.form it.device b.steps) c.in_ok-steps.ensures c.put_svf_file.ensures.text in
-    let right : ScriptIsRight it.network.net it.network.form it.device it.steps = subst (λ (b : BitStepsOf). ScriptIsRight it.network.net it.network.form it.device b.steps) c.in_ok-steps.ensures c.put_svf_file.ensures.right in
-    at_err c.put_svf_file.result
+    let new : Option Files = g.S.Shelf.files c.put_svf_file-told.new.shelf in
+    let text : HasScript it.network.net it.network.form it.device it.steps = subst (λ (b : BitStepsOf). HasScript it.network.net it.network.form it.device b.steps) c.in_ok-steps.ensures c.put_svf_file-told.ensures.text in
+    let right : ScriptIsRight it.network.net it.network.form it.device it.steps = subst (λ (b : BitStepsOf). ScriptIsRight it.network.net it.network.form it.device b.steps) c.in_ok-steps.ensures c.put_svf_file-told.ensures.right in
+    at_err c.put_svf_file-told.result
     (λ h. inr (part_filed it text right old new c.args.name.now (subst (λ (b : BitStepsOf). HoldsScriptPart it.network.net it.network.form it.device b.steps old new c.args.name.now) c.in_ok-steps.ensures h)))
-    c.put_svf_file.ensures.part
+    c.put_svf_file-told.ensures.part
 
 pub returns-clause-text : goal.returns-clause-text
 returns-clause-text g c =
     let it : SeenCompilable = seen_compilable c.args.procedure.now (record { network = c.args.network.now; device = c.args.device.now; procs = c.args.procs.now }) in
     let old : Option Files = g.S.Shelf.files c.args.shelf.now in
-    let new : Option Files = g.S.Shelf.files c.put_svf_file.new.shelf in
-    let text : HasScript it.network.net it.network.form it.device it.steps = subst (λ (b : BitStepsOf). HasScript it.network.net it.network.form it.device b.steps) c.in_ok-steps.ensures c.put_svf_file.ensures.text in
-    let right : ScriptIsRight it.network.net it.network.form it.device it.steps = subst (λ (b : BitStepsOf). ScriptIsRight it.network.net it.network.form it.device b.steps) c.in_ok-steps.ensures c.put_svf_file.ensures.right in
+    let new : Option Files = g.S.Shelf.files c.put_svf_file-told.new.shelf in
+    let text : HasScript it.network.net it.network.form it.device it.steps = subst (λ (b : BitStepsOf). HasScript it.network.net it.network.form it.device b.steps) c.in_ok-steps.ensures c.put_svf_file-told.ensures.text in
+    let right : ScriptIsRight it.network.net it.network.form it.device it.steps = subst (λ (b : BitStepsOf). ScriptIsRight it.network.net it.network.form it.device b.steps) c.in_ok-steps.ensures c.put_svf_file-told.ensures.right in
     λ failed. has_text it text right
