@@ -66,10 +66,13 @@ fn cursor_for<'a>(
     ensures cursor { IfOk result (IsCursor net.now tree.now (bit_steps (map seen_proc procs.now) net.now tree.now name.now).steps) }
     ensures first { IfOk result (λ c. c.first ≤ scan) }
 {
-    match cursor {
-        Some(cursor) if cursor.first <= scan => Ok(cursor),
-        _ => Cursor::new(alloc, procs, net, tree, name),
+    if let Some(cursor) = cursor {
+        if cursor.first <= scan {
+            return Ok(cursor);
+        }
+        drop(cursor);
     }
+    Cursor::new(alloc, procs, net, tree, name)
 }
 
 impl<'a> ReadPlaces<'a> {
