@@ -8,7 +8,7 @@ use Rattle.net_graph.specs.Chain.{IsRoute, chain, put_chain}
 use Rattle.net_graph.specs.Nets.{IsNet}
 use Rattle.net_graph.specs.Path.{AreListed}
 use Rattle.net_graph.specs.Resets.{reset_holds, start_holds}
-use Rattle.net_graph.specs.SeenSteps.{SeenGroup, SeenStep, Apply, Run, Reset}
+use Rattle.net_graph.specs.SeenSteps.{SeenGroup, SeenStep}
 use Rattle.net_graph.specs.Signals.{Holds}
 use Rattle.net_graph.specs.Writes.{write_all}
 use Rattle.net_graph.proofs.Placing.{not_contained}
@@ -20,11 +20,12 @@ use Rattle.path_planner.specs.Scannable.{IsScannable}
 use Rattle.path_planner.proofs.Plans.{planned}
 use Rattle.path_planner.proofs.Starting.{start_scannable, reset_scannable}
 use Rattle.svf_writer.specs.SeenCommands.{SeenCommand}
-use Rattle.headline.specs.Script.{script_commands, steps_of}
+use Rattle.headline.specs.Script.{script_commands}
 use Rattle.svf_audit.specs.Audit.{Reading, Yes, audit, path_of}
 use Rattle.group_scans.specs.Scans.{scan_of, scans_of, holds_after}
-use Rattle.group_scans.specs.Retargeting.{PlannedGroup, PlannedStep, Applies, Runs, Resets, seen_of, rounds_of, holds_after_rounds, script_of, IsPlannedGroup, GroupsArePlanned, StepsArePlanned, IsRetargetable}
+use Rattle.group_scans.specs.Retargeting.{PlannedGroup, PlannedStep, Applies, Runs, Resets, rounds_of, holds_after_rounds, script_of, IsPlannedGroup, GroupsArePlanned, StepsArePlanned, IsRetargetable}
 use Rattle.group_scans.proofs.Retargeting.{can_open, does, rounds_listed, plans_are_scripts}
+use Rattle.group_scans.proofs.Right.{steps_same}
 use Rattle.audit_law.specs.Listed.{behind_scan, behind_scans, ScansList, behind_rounds, RoundsList, ScriptLists}
 use Rattle.audit_law.specs.Own.{PlansList, PlansPass, PlanTextsPass}
 use Rattle.audit_law.proofs.Own.{planned_scripts_pass, planned_texts_pass}
@@ -89,19 +90,6 @@ module _ (net : Net) (form : Items) (c : IsRetargetable net form) where
   steps_list (Runs n ∷ xs) h s a = steps_list xs h s a.1
   steps_list (Resets ∷ xs) h s a =
       steps_list xs (reset_holds net h) (reset_scannable net form c.lawful h s) a
-
--- the script is for the bit steps
-groups_same : (net : Net) (h : Holds) (ps : List PlannedGroup) → map (λ r. r.group) (rounds_of net h ps) ≡ map (λ p. p.group) ps
-groups_same net h [] = refl
-groups_same net h (p ∷ ps) = ap (λ gs. p.group ∷ gs) (groups_same net (holds_after h p.plans) ps)
-
-steps_same : (net : Net) (h : Holds) (xs : List PlannedStep) → steps_of (script_of net h xs) ≡ map seen_of xs
-steps_same net h [] = refl
-steps_same net h (Applies rounds ∷ xs) =
-    ap (λ gs. Apply gs ∷ steps_of (script_of net (holds_after_rounds h rounds) xs)) (groups_same net h rounds)
-    ∙ ap (λ ss. Apply (map (λ p. p.group) rounds) ∷ ss) (steps_same net (holds_after_rounds h rounds) xs)
-steps_same net h (Runs n ∷ xs) = ap (λ ss. Run n ∷ ss) (steps_same net h xs)
-steps_same net h (Resets ∷ xs) = ap (λ ss. Reset ∷ ss) (steps_same net (reset_holds net h) xs)
 
 pub plans_list : PlansList
 plans_list net form xs c a =

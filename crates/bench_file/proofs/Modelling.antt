@@ -1,5 +1,5 @@
 -- Models one after another.
-use Rattle.std.proofs.Common.{◌≡◌, ◌<◌, ◌+◌, ℕ, suc, Bool, true, false, cond, List, [], ◌∷◌, ◌++◌, length, map, drop, get_or, Option, Some, None, refl, sym, ap, ◌∙◌, arith, append_assoc, drop-cons}
+use Rattle.std.proofs.Common.{◌≡◌, ◌<◌, ◌+◌, ℕ, suc, Bool, true, false, cond, List, [], ◌∷◌, ◌++◌, length, map, drop, get_or, Option, Some, None, refl, sym, ap, ◌∙◌, append_assoc, drop-cons}
 use Rattle.std.specs.Prelude.{Result, Ok, Err}
 use Rattle.net_graph.specs.declared.net.Net.{Net}
 use Rattle.net_graph.specs.declared.net.Inst.{Inst}
@@ -14,10 +14,6 @@ use Rattle.bench_file.specs.Fits.{has_ports, arranged, in_front, one_model, mode
 abbrev pub with_front : List SeenModel → Result (List SeenModel) FitsFault → Result (List SeenModel) FitsFault
 with_front ms (Ok rest) = Ok (ms ++ rest)
 with_front ms (Err fault) = Err fault
-
-nothing_in_front : (r : Result (List SeenModel) FitsFault) → with_front [] r ≡ r
-nothing_in_front (Ok rest) = refl
-nothing_in_front (Err fault) = refl
 
 front_push : (ms : List SeenModel) (m : SeenModel) (r : Result (List SeenModel) FitsFault) → with_front (ms ++ m ∷ []) r ≡ with_front ms (in_front m r)
 front_push ms m (Ok rest) = ap (λ l. Ok l) (append_assoc ms (m ∷ []) rest)

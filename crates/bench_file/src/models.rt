@@ -1,13 +1,13 @@
 // The models of a network's instruments.
-ghost use Rattle.std.specs.Prelude.{◌≡◌, ◌<◌, ◌≤◌, ℕ, map, length, option_map, slice_index_or, All, IfOk, IsErrOf, Ok, Err, None};
+ghost use Rattle.std.specs.Prelude.{◌≡◌, ◌<◌, ◌≤◌, ℕ, [], map, length, option_map, slice_index_or, All, IfOk, IsErrOf, Ok, Err, None};
 ghost use Rattle.ij_text.specs.declared.Place.{Place};
 ghost use Rattle.net_graph.specs.Nets.{IsNet, IsInst};
 ghost use Rattle.instruments.specs.Models.{IsModel};
-ghost use Rattle.instruments.specs.Seen.{seen_model};
+ghost use Rattle.instruments.specs.Seen.{seen_model, seen_memory, seen_out, seen_port, seen_row, seen_word};
 ghost use Rattle.table_file.specs.Answers.{seen_tables};
 ghost use Rattle.table_file.specs.Tables.{seen_table};
 ghost use Rattle.bench_file.specs.Answers.{GivesModels, seen_models};
-ghost use Rattle.bench_file.specs.Fits.{arranged, fitted, misfit, model_for, models_from, ModelsFit};
+ghost use Rattle.bench_file.specs.Fits.{arranged, fitted, in_ports, misfit, model_for, models_from, out_named, out_ports, row_moved, ModelsFit};
 ghost use Rattle.bench_file.specs.declared.fault.FitsFault.{FitsFault};
 
 use crate::copying::{memory_copy, outs_named, port_defs, words_copy};
@@ -15,7 +15,7 @@ use crate::fault::FitsFault;
 use crate::fitting::{has_ports, inst_path, misfit, table_named};
 use crate::moving::rows_moved;
 use ij_bits::{List, OutOfMemory};
-use instruments::Model;
+use instruments::{MemDef, Model, OutDef, PortDef, RowDef, WordDef};
 use net_graph::{Inst, Net};
 use std::alloc::Global;
 use table_file::Table;
@@ -55,6 +55,42 @@ impl Fitted {
     }
 }
 
+/// The words and the memory of a model.
+fn cells(alloc: Global, m: &Model) -> Result<(List<WordDef>, Option<MemDef>), OutOfMemory>
+    ensures words { IfOk result (λ cells. map seen_word cells.0.items ≡ map seen_word m.now.words.items) }
+    ensures memory { IfOk result (λ cells. option_map seen_memory cells.1 ≡ option_map seen_memory m.now.mem) }
+{
+    let words = words_copy(alloc, m.words.as_slice())?;
+    Ok((words, memory_copy(alloc, &m.mem)?))
+}
+
+/// The inputs of an instrument, and the outputs of a model in its order.
+fn ports(
+    alloc: Global,
+    inst: &Inst,
+    m: &Model,
+) -> Result<(List<PortDef>, List<OutDef>), OutOfMemory>
+    requires { All (λ port. length port.bits.items ≤ 64) inst.now.ins.items }
+    ensures ins { IfOk result (λ ports. map seen_port ports.0.items ≡ in_ports inst.now) }
+    ensures outs { IfOk result (λ ports. map seen_out ports.1.items ≡ map (λ port. out_named (map seen_out m.now.outs.items) port.name) (out_ports inst.now)) }
+{
+    let ins = port_defs(alloc, inst.ins.as_slice())?;
+    let outs = outs_named(alloc, m.outs.as_slice(), inst.outs.as_slice())?;
+    Ok((ins, outs))
+}
+
+/// The rows of a model, which name the inputs in the order of an instrument: those of a change and those of a run.
+fn rows(alloc: Global, inst: &Inst, m: &Model) -> Result<(List<RowDef>, List<RowDef>), OutOfMemory>
+    requires { length inst.now.ins.items ≤ 16 }
+    ensures change { IfOk result (λ rows. map seen_row rows.0.items ≡ map (row_moved (map seen_port m.now.ins.items) (in_ports inst.now)) (map seen_row m.now.change.items)) }
+    ensures run { IfOk result (λ rows. map seen_row rows.1.items ≡ map (row_moved (map seen_port m.now.ins.items) (in_ports inst.now)) (map seen_row m.now.run.items)) }
+{
+    let old = m.ins.as_slice();
+    let new = inst.ins.as_slice();
+    let change = rows_moved(alloc, m.change.as_slice(), old, new)?;
+    Ok((change, rows_moved(alloc, m.run.as_slice(), old, new)?))
+}
+
 /// A model with the ports in the order of an instrument.
 #[tactic(auto, unfolding(crate::specs::Fits::arranged))]
 fn arranged(alloc: Global, inst: &Inst, m: &Model) -> Result<Model, OutOfMemory>
@@ -62,15 +98,16 @@ fn arranged(alloc: Global, inst: &Inst, m: &Model) -> Result<Model, OutOfMemory>
     requires narrow { All (λ port. length port.bits.items ≤ 64) inst.now.ins.items }
     ensures { IfOk result (λ r. seen_model r ≡ arranged inst.now (seen_model m.now)) }
 {
-    let old = m.ins.as_slice();
-    let new = inst.ins.as_slice();
+    let (words, mem) = cells(alloc, m)?;
+    let (ins, outs) = ports(alloc, inst, m)?;
+    let (change, run) = rows(alloc, inst, m)?;
     Ok(Model {
-        words: words_copy(alloc, m.words.as_slice())?,
-        mem: memory_copy(alloc, &m.mem)?,
-        ins: port_defs(alloc, new)?,
-        outs: outs_named(alloc, m.outs.as_slice(), inst.outs.as_slice())?,
-        change: rows_moved(alloc, m.change.as_slice(), old, new)?,
-        run: rows_moved(alloc, m.run.as_slice(), old, new)?,
+        words,
+        mem,
+        ins,
+        outs,
+        change,
+        run,
     })
 }
 
@@ -92,16 +129,26 @@ fn model_for(alloc: Global, i: u32, inst: &Inst, table: Option<&Table>) -> Resul
     }
 }
 
+/// A list with room for n models.
+fn room_for(alloc: Global, n: usize) -> Result<List<Model>, OutOfMemory>
+    ensures items { IfOk result (λ models. models.items ≡ []) }
+    ensures room { IfOk result (λ models. n ≤ models.spare) }
+{
+    let mut models = List::new(alloc);
+    models.reserve(n)?;
+    Ok(models)
+}
+
 fn models_from(alloc: Global, net: &Net, tables: &[Table]) -> Result<List<Model>, FitsFault>
     requires few { length net.now.insts.items ≤ 256 }
     requires insts { All (IsInst net.now) net.now.insts.items }
     ensures { GivesModels seen_models result (models_from net.now (map seen_table tables.now) 0 net.now.insts.items) }
 {
-    let mut models = List::new(alloc);
+    let mut models = room_for(alloc, net.insts.len())?;
     for i in 0..net.insts.len() {
         let inst = net.insts.get(i);
         let table = table_named(tables, inst_path(net, inst));
-        models.push(model_for(alloc, i as u32, inst, table)?)?;
+        models.push_reserved(model_for(alloc, i as u32, inst, table)?);
     }
     Ok(models)
 }

@@ -1,4 +1,3 @@
-pub mod Same
 pub mod Setting
 pub mod Selecting
 pub mod Numbering

@@ -9,10 +9,10 @@ use Rattle.std.proofs.lemmas.List.Sums.{fails_before_first, position_or_len_is}
 use Rattle.net_graph.specs.declared.net.BitId.{BitId}
 use Rattle.net_graph.specs.declared.net.Net.{Net}
 use Rattle.net_graph.specs.Path.{same_place}
+use Rattle.net_graph.proofs.Places.{place_is}
 use Rattle.bit_marks.specs.Laws.{BitsStay, OthersStay, SetIsThere}
 use Rattle.bit_marks.specs.Marks.{HasMark, Marks, mark_at, set_mark}
 use Rattle.bit_marks.specs.Numbered.{AreNumbered, first_bit, first_bits}
-use Rattle.bit_marks.proofs.Same.{place_is}
 
 -- nothing stands at no position
 pub no_position : {A : Type 0} (p : A → Bool) (xs : List A) → None ≡ position p xs → length xs ≤ position_or_len p xs

@@ -8,10 +8,10 @@ use Rattle.net_graph.specs.declared.net.Mux.{Mux}
 use Rattle.net_graph.specs.declared.net.Net.{Net}
 use Rattle.net_graph.specs.Named.{IsBitOf}
 use Rattle.net_graph.specs.Path.{same_place}
+use Rattle.net_graph.proofs.Places.{place_is}
 use Rattle.bit_marks.specs.Laws.{EachBitHasOne, OthersStay, SetIsThere, ZerosAreZero}
 use Rattle.bit_marks.specs.Marks.{HasMark, Marks, mark_at, set_mark, zero_marks}
 use Rattle.bit_marks.specs.Selects.{is_marked}
-use Rattle.bit_marks.proofs.Same.{place_is}
 
 pub marked_one : SetIsThere → OthersStay → (marks now : Marks) (bit b : BitId) → HasMark marks bit → now ≡ set_mark marks bit 1 → is_marked now b ≡ (same_place b bit || is_marked marks b)
 marked_one there stay marks now bit b h n = ap (λ m. is_marked m b) n ∙ by_same (same_place b bit) refl

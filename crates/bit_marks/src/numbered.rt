@@ -9,14 +9,7 @@ ghost use Rattle.bit_marks.specs.Numbered.{AreNumbered, bits_compared, bits_writ
 
 use crate::laws::marks_law;
 use crate::marks::BitMarks;
-use net_graph::{BitId, Net, ReadBit, WriteBit};
-
-/// Whether two register bits are one.
-fn same_place(a: BitId, b: BitId) -> bool
-    ensures { result ≡ same_place a b }
-{
-    a.reg == b.reg && a.pos == b.pos
-}
+use net_graph::{BitId, Net, ReadBit, WriteBit, same_place};
 
 /// The place that the mark of a bit says, where it is among so many.
 fn place_of(marks: &BitMarks, bit: BitId, count: usize) -> Option<usize>

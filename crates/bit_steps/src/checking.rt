@@ -45,5 +45,8 @@ pub fn check(
     ensures refused { IfErr result (EndsIn (bit_steps (map seen_proc procs.now) net.now tree.now name.now).fault) }
 {
     let mut steps = BitSteps::new(alloc, procs, net, tree, name)?;
-    pass(&mut steps)
+    let passed = pass(&mut steps);
+    // What is let go of is let go of by a call: the prover goes through its parts once.
+    drop(steps);
+    passed
 }

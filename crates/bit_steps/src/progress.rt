@@ -90,9 +90,12 @@ fn feed<'a>(
     ensures stays { OnErr result (feeder.new ≡ feeder.old) }
 {
     match feeder.feed(&step) {
-        Ok(()) => Ok(()),
+        Ok(()) => {
+            drop(step);
+            Ok(())
+        }
         Err(fault) => {
-            *pending = Some(step);
+            drop(pending.replace(step));
             Err(fault)
         }
     }

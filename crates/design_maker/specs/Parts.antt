@@ -1,6 +1,6 @@
 -- Parts of a made design, which stand at no place of a text.
 use Rattle.std.specs.Prelude.{◌≡◌, ℕ, false, List, [], ◌∷◌, ◌++◌, Option, Some, None, codes}
-use Rattle.icl_printer.specs.Again.{nowhere}
+use Rattle.icl_printer.specs.Again.{no_place}
 use Rattle.icl_syntax.specs.declared.tree.PortKind.{PortKind}
 use Rattle.icl_syntax.specs.declared.tree.Sign.TheVariants.{Minus}
 use Rattle.icl_syntax.specs.Views.{seen_item, seen_list}
@@ -8,27 +8,27 @@ use Rattle.design_maker.specs.declared.items.Items.{Items}
 use Rattle.icl_syntax.specs.Values.{SeenExpr, ADecimal, ASized, AQuoted, AParam, AnOp, SeenRange, APath, SeenSig, ASource, SeenRow, SeenBind, ABoundPort, ABoundParameter, SeenWhat, APort, AChild, AParameter, AnInterface, AnAttribute, SeenItem, SeenModule}
 
 abbrev pub module_of : List ℕ → List SeenItem → SeenModule
-module_of name items = record { name = name; at = nowhere; items = items }
+module_of name items = record { name = name; at = no_place; items = items }
 
 abbrev pub item : List ℕ → SeenWhat → SeenItem
-item name what = record { at = nowhere; name = name; what = what }
+item name what = record { at = no_place; name = name; what = what }
 
 -- ---- expressions and signals
 
 -- the parameter `W`
 abbrev pub the_width : SeenExpr
-the_width = AParam nowhere (codes "W")
+the_width = AParam no_place (codes "W")
 
 -- `[$W-1:0]`
 abbrev pub whole_width : SeenRange
-whole_width = record { at = nowhere; left = AnOp nowhere Minus the_width (ADecimal 1); right = Some (ADecimal 0) }
+whole_width = record { at = no_place; left = AnOp no_place Minus the_width (ADecimal 1); right = Some (ADecimal 0) }
 
 -- `[0]`
 abbrev pub lowest : SeenRange
-lowest = record { at = nowhere; left = ADecimal 0; right = None }
+lowest = record { at = no_place; left = ADecimal 0; right = None }
 
 abbrev pub ranged : List (List ℕ) → Option SeenRange → SeenSig
-ranged path range = record { at = nowhere; inverted = false; what = APath path range }
+ranged path range = record { at = no_place; inverted = false; what = APath path range }
 
 -- names with dots between them
 abbrev pub signal : List (List ℕ) → SeenSig
@@ -63,10 +63,10 @@ instance name of' binds = item name (AChild of' binds)
 -- ---- what instances bind
 
 abbrev pub bound : List ℕ → List (List ℕ) → SeenBind
-bound name path = ABoundPort nowhere name None (signal path ∷ [])
+bound name path = ABoundPort no_place name None (signal path ∷ [])
 
 abbrev pub bound_width : SeenExpr → SeenBind
-bound_width width = ABoundParameter nowhere (codes "W") width
+bound_width width = ABoundParameter no_place (codes "W") width
 
 -- the items that a module in the making has
 abbrev pub seen_items : Items → List SeenItem

@@ -2,7 +2,7 @@
 ghost use Rattle.std.specs.Prelude.{◌≡◌, ◌≤◌, [], ◌∷◌, length, map, Some, None, OnOk, IfOk};
 ghost use Rattle.icl_syntax.specs.Values.{ASized, APort};
 ghost use Rattle.icl_syntax.specs.Views.{seen_bind, seen_expr, seen_few, seen_list, seen_module, seen_prop, seen_row, seen_sig, seen_what};
-ghost use Rattle.design_maker.specs.Parts.{HasAdded, attribute, bound, bound_width, instance, interface, item, module_of, mux_row, port, seen_items, sourced, wide_port, width_parameter};
+ghost use Rattle.design_maker.specs.Parts.{HasAdded, attribute, bound, bound_width, instance, interface, item, module_of, mux_row, port, seen_items, signal, sourced, wide_port, width_parameter};
 
 use crate::signals::{NOWHERE, names, one, signal, whole_width};
 use icl_syntax::{Bind, Expr, Few, Item, Module, MuxRow, PortKind, Prop, Sig, SmallText, What};
@@ -35,7 +35,10 @@ impl Items {
     pub fn add(&mut self, name: &[u8], what: What) -> Result<(), OutOfMemory>
         ensures { OnOk result (HasAdded self.old self.new (item name.now (seen_what what) ∷ [])) }
     {
-        let name = SmallText::of(self.alloc, name)?;
+        let Ok(name) = SmallText::of(self.alloc, name) else {
+            drop(what);
+            return Err(OutOfMemory);
+        };
         self.items.push(Item {
             at: NOWHERE,
             name,
@@ -153,16 +156,29 @@ impl Items {
     }
 }
 
+/// A list of one signal.
+fn one_signal(alloc: Global, path: &[&[u8]]) -> Result<List<Sig>, OutOfMemory>
+    requires { 1 ≤ length path.now }
+    ensures { IfOk result (λ sigs. seen_list seen_sig sigs ≡ signal (map (λ word. word.now) path.now) ∷ []) }
+{
+    one(alloc, signal(alloc, path)?)
+}
+
 /// An input port that is bound to a signal.
 pub(crate) fn bound(alloc: Global, name: &[u8], path: &[&[u8]]) -> Result<Bind, OutOfMemory>
     requires { 1 ≤ length path.now }
     ensures { IfOk result (λ bind. seen_bind bind ≡ bound name.now (map (λ word. word.now) path.now)) }
 {
+    let name = SmallText::of(alloc, name)?;
+    let Ok(sigs) = one_signal(alloc, path) else {
+        drop(name);
+        return Err(OutOfMemory);
+    };
     Ok(Bind::Port {
         at: NOWHERE,
-        name: SmallText::of(alloc, name)?,
+        name,
         range: None,
-        sigs: one(alloc, signal(alloc, path)?)?,
+        sigs,
     })
 }
 
@@ -170,9 +186,13 @@ pub(crate) fn bound(alloc: Global, name: &[u8], path: &[&[u8]]) -> Result<Bind, 
 pub(crate) fn bound_width(alloc: Global, value: Expr) -> Result<Bind, OutOfMemory>
     ensures { IfOk result (λ bind. seen_bind bind ≡ bound_width (seen_expr value)) }
 {
+    let Ok(name) = SmallText::of(alloc, b"W") else {
+        drop(value);
+        return Err(OutOfMemory);
+    };
     Ok(Bind::Parameter {
         at: NOWHERE,
-        name: SmallText::of(alloc, b"W")?,
+        name,
         value,
     })
 }
@@ -188,8 +208,13 @@ pub(crate) fn sized(alloc: Global, text: &[u8]) -> Result<Few<Expr>, OutOfMemory
 pub(crate) fn mux_row(alloc: Global, value: &[u8], source: &[u8]) -> Result<MuxRow, OutOfMemory>
     ensures { IfOk result (λ row. seen_row row ≡ mux_row value.now source.now) }
 {
+    let source = signal(alloc, &[source])?;
+    let Ok(value) = sized(alloc, value) else {
+        drop(source);
+        return Err(OutOfMemory);
+    };
     Ok(MuxRow {
-        values: Few::one(sized(alloc, value)?),
-        source: signal(alloc, &[source])?,
+        values: Few::one(value),
+        source,
     })
 }

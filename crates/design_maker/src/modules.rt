@@ -1,7 +1,9 @@
 // The modules that each made design has.
-ghost use Rattle.std.specs.Prelude.{◌≡◌, [], ◌∷◌, OnOk, IfOk};
+ghost use Rattle.std.specs.Prelude.{◌≡◌, [], ◌∷◌, codes, OnOk, IfOk};
+ghost use Rattle.icl_syntax.specs.Values.{ALink};
+ghost use Rattle.icl_syntax.specs.declared.tree.LinkKind.{LinkKind};
 ghost use Rattle.icl_syntax.specs.Views.{seen_instr, seen_module};
-ghost use Rattle.design_maker.specs.Parts.{HasAdded};
+ghost use Rattle.design_maker.specs.Parts.{HasAdded, item};
 ghost use Rattle.design_maker.specs.Modules.{chip_module, client_side, data_register, host_side, inner_instrument, ins_module, link_instruction, segment_mux, select_bit, sib_module, wrap_module, wrap_ports};
 
 use crate::items::{Items, bound, bound_width, mux_row, sized};
@@ -157,11 +159,41 @@ pub(crate) fn wrap_module(alloc: Global) -> Result<Module, OutOfMemory>
 fn link_instr(alloc: Global) -> Result<LinkInstr, OutOfMemory>
     ensures { IfOk result (λ instr. seen_instr instr ≡ link_instruction) }
 {
+    let name = SmallText::of(alloc, b"IJTAG")?;
+    let Ok(cell) = SmallText::of(alloc, b"net") else {
+        drop(name);
+        return Err(OutOfMemory);
+    };
+    let Ok(interface) = SmallText::of(alloc, b"client") else {
+        drop(name);
+        drop(cell);
+        return Err(OutOfMemory);
+    };
     Ok(LinkInstr {
-        name: SmallText::of(alloc, b"IJTAG")?,
-        cell: SmallText::of(alloc, b"net")?,
-        interface: SmallText::of(alloc, b"client")?,
+        name,
+        cell,
+        interface,
     })
+}
+
+/// The link, which selects the network by one instruction.
+#[tactic(auto, unfolding(crate::specs::Parts::HasAdded))]
+fn add_link(alloc: Global, items: &mut Items) -> Result<(), OutOfMemory>
+    ensures { OnOk result (HasAdded items.old items.new (item (codes "tap") (ALink LinkKind.Std2001 (codes "chip") (link_instruction ∷ [])) ∷ [])) }
+{
+    let instrs = one(alloc, link_instr(alloc)?)?;
+    let Ok(entity) = SmallText::of(alloc, b"chip") else {
+        drop(instrs);
+        return Err(OutOfMemory);
+    };
+    items.add(
+        b"tap",
+        What::Link {
+            kind: LinkKind::Std2001,
+            entity,
+            instrs,
+        },
+    )
 }
 
 /// The chip, whose link selects the network.
@@ -171,15 +203,6 @@ pub(crate) fn chip_module(alloc: Global) -> Result<Module, OutOfMemory>
 {
     let mut items = Items::new(alloc);
     items.instance(b"net", b"Net", List::new(alloc))?;
-    let entity = SmallText::of(alloc, b"chip")?;
-    let instrs = one(alloc, link_instr(alloc)?)?;
-    items.add(
-        b"tap",
-        What::Link {
-            kind: LinkKind::Std2001,
-            entity,
-            instrs,
-        },
-    )?;
+    add_link(alloc, &mut items)?;
     items.into_module(b"chip")
 }

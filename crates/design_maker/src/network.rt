@@ -1,15 +1,15 @@
 // The network of a made design.
 ghost use Rattle.std.specs.Prelude.{◌≡◌, ◌≤◌, ◌<◌, [], ◌∷◌, length, codes, OnOk, IfOk};
-ghost use Rattle.icl_syntax.specs.Views.{seen_bind, seen_design, seen_module};
+ghost use Rattle.icl_syntax.specs.Views.{seen_bind, seen_design, seen_module, seen_sig};
 ghost use Rattle.design_maker.specs.Numbered.{numbered};
-ghost use Rattle.design_maker.specs.Parts.{HasAdded, bound};
+ghost use Rattle.design_maker.specs.Parts.{HasAdded, bound, signal};
 ghost use Rattle.design_maker.specs.Network.{chain_items, inner_of, made_design, net_module, net_ports, outer_of, sib_item, sib_items, sib_name, wrap_item, wrap_name};
 
 use crate::instrument::Instrument;
 use crate::items::{Items, bound, bound_width};
 use crate::modules::{chip_module, ins_module, sib_module, wrap_module};
 use crate::signals::signal;
-use icl_syntax::{Bind, Design, Expr, Module, PortKind};
+use icl_syntax::{Bind, Design, Expr, Module, PortKind, Sig};
 use ij_bits::{List, OutOfMemory};
 use ij_io::{SureSink, Word, put_words};
 use std::alloc::Global;
@@ -153,14 +153,21 @@ fn add_chains(
     Ok(())
 }
 
+/// The output of the last SIB.
+fn last_output(alloc: Global, size: u32) -> Result<Sig, OutOfMemory>
+    ensures { IfOk result (λ sig. seen_sig sig ≡ signal (sib_name size 1 ∷ codes "SO" ∷ [])) }
+{
+    let last = sib_name(alloc, size, 1)?;
+    signal(alloc, &[last.bytes(), b"SO"])
+}
+
 /// The ports of the network.
 #[tactic(auto, unfolding(crate::specs::Parts::HasAdded))]
 fn add_net_ports(alloc: Global, size: u32, items: &mut Items) -> Result<(), OutOfMemory>
     ensures { OnOk result (HasAdded items.old items.new (net_ports size)) }
 {
-    let last = sib_name(alloc, size, 1)?;
     items.port(PortKind::ScanInPort, b"SI")?;
-    let source = signal(alloc, &[last.bytes(), b"SO"])?;
+    let source = last_output(alloc, size)?;
     items.sourced(PortKind::ScanOutPort, b"SO", source)?;
     items.interface(b"client", &[b"SI", b"SO"])
 }

@@ -1,5 +1,5 @@
 // Expressions, signals and properties of a made design, which stand at no place of a text.
-ghost use Rattle.std.specs.Prelude.{◌≡◌, ◌≤◌, [], ◌∷◌, length, map, option_map, IfOk};
+ghost use Rattle.std.specs.Prelude.{◌≡◌, ◌≤◌, ◌++◌, [], ◌∷◌, length, map, option_map, IfOk, OnOk};
 ghost use Rattle.icl_syntax.specs.Views.{bytes_of, seen_expr, seen_range, seen_sig};
 ghost use Rattle.design_maker.specs.Parts.{lowest, ranged, signal, the_width, whole_width};
 
@@ -57,15 +57,33 @@ pub(crate) fn lowest(alloc: Global) -> Result<Range, OutOfMemory>
     })
 }
 
+/// Adds a name of these bytes.
+fn push_name(alloc: Global, names: &mut List<SmallText>, word: &[u8]) -> Result<(), OutOfMemory>
+    ensures { OnOk result (map bytes_of names.new.items ≡ map bytes_of names.old.items ++ word.now ∷ []) }
+{
+    names.push(SmallText::of(alloc, word)?)
+}
+
 /// Names of these bytes.
 pub(crate) fn names(alloc: Global, words: &[&[u8]]) -> Result<List<SmallText>, OutOfMemory>
     ensures { IfOk result (λ names. map bytes_of names.items ≡ map (λ word. word.now) words.now) }
 {
     let mut names = List::new(alloc);
     for word in words {
-        names.push(SmallText::of(alloc, word)?)?;
+        push_name(alloc, &mut names, word)?;
     }
     Ok(names)
+}
+
+/// A path with one more name.
+fn longer(alloc: Global, path: Few<SmallText>, word: &[u8]) -> Result<Few<SmallText>, OutOfMemory>
+    ensures { IfOk result (λ more. map bytes_of more.items ≡ map bytes_of path.items ++ word.now ∷ []) }
+{
+    let Ok(word) = SmallText::of(alloc, word) else {
+        drop(path);
+        return Err(OutOfMemory);
+    };
+    path.with(alloc, word)
 }
 
 /// A path of these bytes.
@@ -75,7 +93,7 @@ fn path_of(alloc: Global, words: &[&[u8]]) -> Result<Few<SmallText>, OutOfMemory
 {
     let mut path = Few::one(SmallText::of(alloc, words[0])?);
     for word in &words[1..] {
-        path = path.with(alloc, SmallText::of(alloc, word)?)?;
+        path = longer(alloc, path, word)?;
     }
     Ok(path)
 }

@@ -6,8 +6,8 @@ use Rattle.ij_bits.specs.Different.{AreDifferent}
 use Rattle.net_graph.specs.declared.net.BitId.{BitId}
 use Rattle.net_graph.specs.declared.step.ReadBit.{ReadBit}
 use Rattle.net_graph.specs.Path.{same_place}
+use Rattle.net_graph.proofs.Places.{place_is}
 use Rattle.direct_report.specs.Marked.{marked}
-use Rattle.direct_report.proofs.Places.{place_is}
 
 first_in : {A : Type 0} (x : A) (xs : List A) → Contains (x ∷ xs) x
 first_in x xs = (0, omega arith, refl)

@@ -1,4 +1,3 @@
-pub mod Places
 pub mod Finding
 pub mod Setting
 pub mod Lining

@@ -13,9 +13,9 @@ use Rattle.net_graph.specs.declared.net.BitId.{BitId}
 use Rattle.net_graph.specs.declared.net.Net.{Net}
 use Rattle.net_graph.specs.declared.net.Reg.{Reg}
 use Rattle.net_graph.specs.declared.step.ReadBit.{ReadBit}
+use Rattle.net_graph.proofs.Places.{place_self}
 use Rattle.direct_report.specs.Laws.{OrderKeepsReads, ReadsAreFew}
 use Rattle.direct_report.specs.Report.{all_bits, bits_of_registers, in_order, reads_at, reads_on}
-use Rattle.direct_report.proofs.Places.{itself}
 use Rattle.direct_report.proofs.Finding.{at, once_at}
 use Rattle.direct_report.proofs.Lining.{told_at}
 
@@ -82,7 +82,7 @@ behind c r k (suc n) h =
 -- but once in its register
 at_its_place : (c : BitId) (r k n : ℕ) → r ≡ c.reg → k ≡ c.pos → times c (bits_from r k (suc n)) ≡ 1
 at_its_place c r k n e f =
-    let same : same_place (bit_at r k) c ≡ true = ap (λ (q : ℕ). same_place (bit_at q k) c) e ∙ ap (λ (p : ℕ). same_place (bit_at c.reg p) c) f ∙ itself c in
+    let same : same_place (bit_at r k) c ≡ true = ap (λ (q : ℕ). same_place (bit_at q k) c) e ∙ ap (λ (p : ℕ). same_place (bit_at c.reg p) c) f ∙ place_self c in
     count_next (λ b. same_place b c) (bit_at r k) (bits_from r (suc k) n) true same ∙ ap suc (behind c r (suc k) n (omega (arith, f)))
 
 before_its_place : (c : BitId) (r k n : ℕ) → k ≢ c.pos → times c (bits_from r (suc k) n) ≡ 1 → times c (bits_from r k (suc n)) ≡ 1
@@ -231,4 +231,4 @@ reads_are_few net g n is =
     let one : (b : BitId) → length (reads_at xs b) ≤ 1 = λ b. omega (arith, ap length (told_at (λ r. false) g.reads b), length-map (filter (at b) g.reads) quiet_read, once_at g.reads b is.read_once) in
     let few = fewer xs (all_bits net) one in
     let size = all_wide net 0 (length net.regs.items) (omega arith) in
-    omega (arith, same, count_all xs, count_all (in_order net xs), few, size, n.few_bits, length-map g.reads quiet_read)
+    omega (arith, same, count_all xs, count_all (in_order net xs), few, size, n.bits_within_limit, length-map g.reads quiet_read)

@@ -1,20 +1,14 @@
 -- Reads with a mark at each bit that is read: the place of its read, counted from 1.
 use Rattle.std.specs.Prelude.{◌≡◌, ◌≤◌, ℕ, zero, suc, List, [], filter, take, drop, length}
-use Rattle.bit_marks.specs.Marks.{Marks, HasMark, mark_at}
-use Rattle.net_graph.specs.Named.{IsBitOf}
+use Rattle.bit_marks.specs.Marks.{Marks, mark_at}
 use Rattle.net_graph.specs.Path.{same_place}
 use Rattle.net_graph.specs.declared.net.BitId.{BitId}
-use Rattle.net_graph.specs.declared.net.Net.{Net}
 use Rattle.net_graph.specs.declared.step.ReadBit.{ReadBit}
 
 -- the read of a mark, none at 0
 abbrev pub marked : List ReadBit → ℕ → List ReadBit
 marked reads zero = []
 marked reads (suc k) = take 1 (drop k reads)
-
--- each bit of the network has a mark
-abbrev pub HaveMarks : Net → Marks → Type 0
-HaveMarks net marks = (b : BitId) → IsBitOf net b → HasMark marks b
 
 -- a bit's mark leads to its reads
 pub record IsMarked (reads : List ReadBit) (b : BitId) (mark : ℕ) : Type 0 where

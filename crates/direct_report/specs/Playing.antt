@@ -6,7 +6,8 @@ use Rattle.net_graph.specs.Nets.{IsNet}
 use Rattle.net_graph.specs.declared.net.Net.{Net}
 use Rattle.pdl_runner.specs.States.{SeenState}
 use Rattle.runners.specs.Runners.{AreModels}
-use Rattle.direct_report.specs.Marked.{AreBlank, HaveMarks}
+use Rattle.bit_marks.specs.Numbered.{HaveMarks}
+use Rattle.direct_report.specs.Marked.{AreBlank}
 
 pub record IsPlay (net : Net) (models : List Model) (values : SeenState) (marks : Marks) (reads differs : ℕ) : Type 0 where
   pub well_formed : IsNet net

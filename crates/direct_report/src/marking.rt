@@ -1,7 +1,8 @@
 // Marks at the bits that a round reads.
 ghost use Rattle.std.specs.Prelude.{◌≤◌, length, map, All};
 ghost use Rattle.bit_marks.specs.Marks.{HasMark};
-ghost use Rattle.direct_report.specs.Marked.{AreBlank, AreMarked, HaveMarks};
+ghost use Rattle.bit_marks.specs.Numbered.{HaveMarks};
+ghost use Rattle.direct_report.specs.Marked.{AreBlank, AreMarked};
 ghost use Rattle.ij_bits.specs.Different.{AreDifferent};
 ghost use Rattle.net_graph.specs.declared.net.Net.{Net};
 

@@ -11,7 +11,7 @@ ghost use Rattle.net_graph.specs.Nets.{IsNet};
 
 use bit_marks::BitMarks;
 use ij_io::{Sink, StoreFault};
-use net_graph::{BitId, Net, ReadBit};
+use net_graph::{BitId, Net, ReadBit, register_count};
 use pdl_runner::DataState;
 use report::{Differ, put_differ};
 
@@ -98,15 +98,6 @@ fn width_of(net: &Net, reg: u32) -> u32
     net.regs.get(reg as usize).width
 }
 
-/// The number of registers.
-#[tactic(auto, using(net_graph::proofs::Tracing::reg_count))]
-fn count_of(net: &Net) -> u32
-    requires { IsNet net.now }
-    ensures { result ≡ length net.now.regs.items }
-{
-    net.regs.len() as u32
-}
-
 /// Writes the line of each read that differs, by register and position.
 pub(crate) fn put_reads<K: Sink>(
     net: &Net,
@@ -122,7 +113,7 @@ pub(crate) fn put_reads<K: Sink>(
     ensures part { OnErr result (AddsPart (K.taken k.old) (K.taken k.new) (lines (in_order net.now (found_all values.now reads.now)))) }
     ensures cause { HasCause (K.faults k.old) (K.faults k.new) result StoreFault.Failed }
 {
-    let count = count_of(net);
+    let count = register_count(net);
     for reg in 0..count {
         put_register_reads(values, reads, marks, reg, width_of(net, reg), k)?;
     }

@@ -1,7 +1,8 @@
 // The rounds of an iApply: what they print, and what they do.
 ghost use Rattle.std.specs.Prelude.{◌≡◌, ◌<◌, ◌≤◌, ◌+◌, ◌*◌, ◌^◌, length, filter, map, All, IfOk, OnOk, OnErr};
 ghost use Rattle.direct_report.specs.Going.{AreCounted, AreReads, IsAfterWrites, StandsFor};
-ghost use Rattle.direct_report.specs.Marked.{AreBlank, HaveMarks};
+ghost use Rattle.bit_marks.specs.Numbered.{HaveMarks};
+ghost use Rattle.direct_report.specs.Marked.{AreBlank};
 ghost use Rattle.direct_report.specs.Report.{differs, in_order, lines, rounds_lines};
 ghost use Rattle.direct_report.specs.Seen.{found_all};
 ghost use Rattle.ij_io.specs.Bytes.{Adds, AddsPart};

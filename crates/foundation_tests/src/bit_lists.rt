@@ -3,6 +3,7 @@ ghost use Rattle.std.specs.Prelude.{◌≡◌, length, IfOk};
 
 use ij_bits::{Bits, List, OutOfMemory, Ring};
 use std::alloc::Global;
+use std::process::Abort;
 use std::test::Fail;
 
 /// The two digits of a part of 5 to 8 bits, and dots where there is none.
@@ -35,13 +36,26 @@ fn two_numbers(alloc: Global) -> Result<Bits, OutOfMemory>
     Ok(bits)
 }
 
+/// Parts of some bits, each with its two digits.
+fn check_parts(
+    rt: &impl Abort,
+    alloc: Global,
+    bits: &Bits,
+    parts: &[(u32, u32, &[u8; 2])],
+) -> Result<(), OutOfMemory> {
+    for (from, to, wanted) in parts {
+        assert_eq!(rt; digits(alloc, bits, *from, *to)?, **wanted);
+    }
+    Ok(())
+}
+
 #[test]
 fn parts_keep_their_order_over_the_border_of_a_word(rt: HostRuntime) -> Result<(), Fail> {
     let alloc = rt.alloc();
     let bits = two_numbers(alloc)?;
     let mut twice = two_numbers(alloc)?;
     twice.append(&bits)?;
-    let rows: [(u32, u32, &[u8; 2]); 7] = [
+    let parts: [(u32, u32, &[u8; 2]); 7] = [
         (0, 8, b"EF"),
         (4, 12, b"DE"),
         (60, 68, b"A0"),
@@ -50,9 +64,7 @@ fn parts_keep_their_order_over_the_border_of_a_word(rt: HostRuntime) -> Result<(
         (68, 76, b"F5"),
         (132, 140, b"A0"),
     ];
-    for (from, to, wanted) in rows {
-        assert_eq!(rt; digits(alloc, &twice, from, to)?, *wanted);
-    }
+    check_parts(&rt, alloc, &twice, &parts)?;
     Ok(())
 }
 
@@ -62,19 +74,24 @@ fn bits_are_written_copied_and_shifted(rt: HostRuntime) -> Result<(), Fail> {
     let bits = two_numbers(alloc)?;
     let mut copy = Bits::zeros(alloc, 72)?;
     copy.fill(true);
-    assert_eq!(rt; digits(alloc, &copy, 64, 72)?, *b"FF");
+    check_parts(&rt, alloc, &copy, &[(64, 72, b"FF")])?;
     copy.copy_from(&bits);
     assert_eq!(rt; copy.shift(false), true);
     copy.set(0, false);
     copy.push(true)?;
-    assert_eq!(rt; digits(alloc, &copy, 0, 8)?, *b"F6");
-    assert_eq!(rt; digits(alloc, &copy, 65, 73)?, *b"96");
+    check_parts(&rt, alloc, &copy, &[(0, 8, b"F6"), (65, 73, b"96")])?;
+    Ok(())
+}
 
+#[test]
+fn a_part_is_copied_and_grows(rt: HostRuntime) -> Result<(), Fail> {
+    let alloc = rt.alloc();
+    let bits = two_numbers(alloc)?;
     let mut part = Bits::zeros(alloc, 8)?;
     part.copy_part(&bits, 60);
     part.reserve(1)?;
     part.push_reserved(true);
-    assert_eq!(rt; digits(alloc, &part, 1, 9)?, *b"D0");
+    check_parts(&rt, alloc, &part, &[(1, 9, b"D0")])?;
     assert_eq!(rt; bit(&part, 5), Some(true));
     Ok(())
 }
@@ -86,8 +103,7 @@ fn bits_made_with_room_take_the_bits_they_were_made_for(rt: HostRuntime) -> Resu
     let mut copy = Bits::with_room(alloc, 72)?;
     assert_eq!(rt; copy.len(), 0);
     copy.append_part_reserved(&bits, 0, 72);
-    assert_eq!(rt; digits(alloc, &copy, 62, 67)?, *b"08");
-    assert_eq!(rt; digits(alloc, &copy, 64, 72)?, *b"5A");
+    check_parts(&rt, alloc, &copy, &[(62, 67, b"08"), (64, 72, b"5A")])?;
     Ok(())
 }
 
@@ -108,10 +124,16 @@ fn a_ring_gives_its_bits_in_order_while_it_turns(rt: HostRuntime) -> Result<(), 
     );
     let mut part = Bits::zeros(alloc, 8)?;
     ring.part_into(60, &mut part);
-    assert_eq!(rt; digits(alloc, &part, 0, 8)?, *b"5A");
+    check_parts(&rt, alloc, &part, &[(0, 8, b"5A")])?;
     ring.part_into(64, &mut part);
-    assert_eq!(rt; digits(alloc, &part, 0, 8)?, *b"F5");
+    check_parts(&rt, alloc, &part, &[(0, 8, b"F5")])?;
+    Ok(())
+}
 
+#[test]
+fn a_ring_made_with_room_takes_the_bits_it_was_made_for(rt: HostRuntime) -> Result<(), Fail> {
+    let alloc = rt.alloc();
+    let bits = two_numbers(alloc)?;
     let mut filled = Ring::with_room(alloc, 73)?;
     filled.append_reserved(&bits);
     filled.push_reserved(true);

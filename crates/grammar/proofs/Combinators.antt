@@ -1,5 +1,5 @@
 -- A reader with one token of lookahead reads what a symbol derives, and stops at the first token after which the list isn't viable.
-use Rattle.std.proofs.Common.{◌≡◌, ◌⊎◌, ℕ, suc, ◌≤◌, Bool, true, false, cond, List, [], ◌∷◌, ◌++◌, length, Option, Some, None, Result, Ok, Err, refl, sym, ap, subst, ◌∙◌, append_assoc, length-append, arith, inl, inr, is_some}
+use Rattle.std.proofs.Common.{◌≡◌, ◌⊎◌, ℕ, suc, ◌≤◌, Bool, true, false, cond, List, [], ◌∷◌, ◌++◌, length, Option, Some, None, Result, Ok, Err, refl, sym, ap, subst, ◌∙◌, append_assoc, arith, inl, inr, is_some}
 use Rattle.std.specs.Prelude.{IsSome, ◌||◌, ◌&&◌}
 use Rattle.std.proofs.lemmas.List.{append-nil}
 use Rattle.grammar.specs.Reading.{Stop, Reader, left, one_value, read_one, read_barred, read_on, read_in_turn, read_either}
@@ -83,9 +83,6 @@ no_reason {A} {W} m n w h = let no = ap (λ (x : Stop W). x.1) (err_is {A = A} {
 pub cond_chosen : {A : Type 0} (b : Bool) (x y z : A) → cond b x y ≡ z → ((b ≡ true) × (x ≡ z)) ⊎ ((b ≡ false) × (y ≡ z))
 cond_chosen true x y z h = inl (refl, h)
 cond_chosen false x y z h = inr (refl, h)
-
-left_app : {T : Type 0} (a b : List T) → length b ≤ length (a ++ b)
-left_app a b = omega (arith, length-append a b)
 
 -- two cuts of a list: one lies in front of the other, or they are the same
 pub cuts : {T : Type 0} (ts us front back : List T) → ts ++ us ≡ front ++ back → ((w : List T) × (front ≡ ts ++ w)) ⊎ ((w : List T) × (ts ≡ front ++ w) × (back ≡ w ++ us))

@@ -23,7 +23,7 @@ use Rattle.net_graph.specs.Resets.{start_holds}
 use Rattle.net_graph.specs.Signals.{Holds, bits_at, hold_at}
 use Rattle.net_graph.specs.Steps.{IsDataBit, IsGroup}
 use Rattle.svf_writer.specs.Fits.{IsWrittenScan}
-use Rattle.headline.specs.Headline.{PlaysAs}
+use Rattle.headline.specs.Headline.{PlaysOn}
 use Rattle.headline.specs.Planned.{ExpectsReads, IsOpening, IsPlannedRound, IsPlanned}
 use Rattle.headline.proofs.MuxExamples.{dev, mux_by, row, shift_in, thing, rounds_net, first_round, second_round, rounds_script}
 use Rattle.headline.proofs.PlannedScripts.{planned_scripts_play}
@@ -46,15 +46,15 @@ two_bits r a b =
 
 first_reg : IsReg rounds_net (plain_register 0 2 (FromReg 2))
 first_reg =
-    record { some_bits = omega arith; source = omega arith; captures = refl; signals = two_bits 0 (omega arith) (omega arith); resets = refl; thing = omega arith }
+    record { at_least_one_bit = omega arith; source = omega arith; captures = refl; signals = two_bits 0 (omega arith) (omega arith); resets = refl; thing = omega arith }
 
 second_reg : IsReg rounds_net (plain_register 1 2 (FromReg 2))
 second_reg =
-    record { some_bits = omega arith; source = omega arith; captures = refl; signals = two_bits 1 (omega arith) (omega arith); resets = refl; thing = omega arith }
+    record { at_least_one_bit = omega arith; source = omega arith; captures = refl; signals = two_bits 1 (omega arith) (omega arith); resets = refl; thing = omega arith }
 
 select_reg : IsReg rounds_net (plain_register 2 1 Entry)
 select_reg =
-    record { some_bits = omega arith; source = tt; captures = refl; signals = All-cons (IsSignalOf rounds_net) (Bit (bit 2 0) false) [] (omega arith) (All-nil (IsSignalOf rounds_net)); resets = refl; thing = omega arith }
+    record { at_least_one_bit = omega arith; source = tt; captures = refl; signals = All-cons (IsSignalOf rounds_net) (Bit (bit 2 0) false) [] (omega arith) (All-nil (IsSignalOf rounds_net)); resets = refl; thing = omega arith }
 
 abbrev the_mux : Mux
 the_mux = mux_by (bit 2 0) (FromReg 0) (FromReg 1)
@@ -73,7 +73,7 @@ row_fits value r l =
 mux_fits : IsMux rounds_net the_mux
 mux_fits =
     record {
-      some_bits = omega arith;
+      at_least_one_bit = omega arith;
       select = All-cons (IsBitOf rounds_net) (bit 2 0) [] (omega arith) (All-nil (IsBitOf rounds_net));
       some_rows = omega arith;
       rows = All-cons (IsRow rounds_net 1) (row false (FromReg 0)) (row true (FromReg 1) ∷ []) (row_fits false 0 (omega arith)) (All-cons (IsRow rounds_net 1) (row true (FromReg 1)) [] (row_fits true 1 (omega arith)) (All-nil (IsRow rounds_net 1)));
@@ -88,11 +88,11 @@ Spots spots = All (IsSpotOf rounds_net) spots
 wide_thing : (r letter : ℕ) → IsTrue (is_name (letter ∷ [])) → IsBitOf rounds_net (bit r 0) → IsBitOf rounds_net (bit r 1) → IsThing rounds_net (thing r 2 letter)
 wide_thing r letter name a b =
     let spots : Spots (Held (bit r 0) ∷ Held (bit r 1) ∷ []) = All-cons (IsSpotOf rounds_net) (Held (bit r 0)) (Held (bit r 1) ∷ []) a (All-cons (IsSpotOf rounds_net) (Held (bit r 1)) [] b (All-nil (IsSpotOf rounds_net))) in
-    record { node = omega arith; named = name; wide = refl; few_bits = omega arith; spots = spots; words = All-nil _; word_names = tt }
+    record { node = omega arith; named = name; wide = refl; bits_within_limit = omega arith; spots = spots; words = All-nil _; word_names = tt }
 
 select_thing : IsThing rounds_net (thing 2 1 83)
 select_thing =
-    record { node = omega arith; named = refl; wide = refl; few_bits = omega arith; spots = All-cons (IsSpotOf rounds_net) (Held (bit 2 0)) [] (omega arith) (All-nil (IsSpotOf rounds_net)); words = All-nil _; word_names = tt }
+    record { node = omega arith; named = refl; wide = refl; bits_within_limit = omega arith; spots = All-cons (IsSpotOf rounds_net) (Held (bit 2 0)) [] (omega arith) (All-nil (IsSpotOf rounds_net)); words = All-nil _; word_names = tt }
 
 some_path : (x : List ℕ) → [] ≡ x ∷ [] → ⊥
 some_path x e =
@@ -149,7 +149,7 @@ rounds_net_is_net =
       inst_nodes = tt;
       thing_names = (no_second, (no_third, (no_item _, tt)));
       reg_things = reg_things;
-      few_bits = omega arith;
+      bits_within_limit = omega arith;
       few_muxes = omega arith;
       few_insts = omega arith;
       few_nodes = omega arith;
@@ -158,7 +158,7 @@ rounds_net_is_net =
 
 pub dev_is_device : IsDevice dev
 dev_is_device =
-    record { two_bits = omega arith; few_bits = omega arith; link = record { fits = omega arith; not_bypass = λ e. omega (arith, e) }; identity = tt }
+    record { two_bits = omega arith; bits_within_limit = omega arith; link = record { fits = omega arith; not_bypass = λ e. omega (arith, e) }; identity = tt }
 
 -- ---- the script
 
@@ -173,7 +173,7 @@ written_both = (true ∷ false ∷ []) ∷ (false ∷ true ∷ []) ∷ (true ∷
 
 scan_written : (tdi : ℕ) → IsWrittenScan (shift_in 3 tdi)
 scan_written tdi =
-    record { some_bits = omega arith; few_bits = omega arith; given = refl; tdi = refl; tdo = tt; mask = tt; together = refl; smask = refl }
+    record { at_least_one_bit = omega arith; bits_within_limit = omega arith; given = refl; tdi = refl; tdo = tt; mask = tt; together = refl; smask = refl }
 
 expects_none : (n i : ℕ) (e : Bool) → get_or (replicate {A = Option Bool} n None) i None ≡ Some e → ⊥
 expects_none zero i e g = true≢false (sym (ap is_some g))
@@ -246,6 +246,6 @@ rounds_planned =
     (omega arith, (written_both, (written_first, first_planned, (written_both, second_planned, refl)), tt))
 
 -- so the two rounds, played, do what the iApply means
-rounds_play : PlaysAs rounds_net dev [] rounds_script
+rounds_play : PlaysOn rounds_net dev [] rounds_script
 rounds_play =
     planned_scripts_play rounds_net dev [] rounds_script rounds_net_is_net (All-nil _) dev_is_device rounds_planned

@@ -1,12 +1,13 @@
 // Names that differ.
-ghost use Rattle.std.specs.Prelude.{List, map};
+ghost use Rattle.std.specs.Prelude.{ℕ, List, ◌||◌, ◌≡◌, OnOk, map};
+ghost use Rattle.std.specs.Str.{bytes_eq};
 ghost use Rattle.icl_syntax.specs.Values.{SeenItem};
 ghost use Rattle.icl_syntax.specs.Views.{seen_item, seen_what};
-ghost use Rattle.icl_values.specs.Faults.{Gives};
+ghost use Rattle.icl_values.specs.Faults.{DoubleName, Gives, refuse_if};
 ghost use Rattle.icl_values.specs.Expressions.{same};
 ghost use Rattle.icl_declarations.specs.Parts.{inner_names};
 ghost use Rattle.icl_declarations.specs.Naming.{distinct, new_names};
-ghost use Rattle.icl_declarations.specs.Taken.{AreTaken};
+ghost use Rattle.icl_declarations.specs.Taken.{AreTaken, has_entry};
 
 use crate::scope::Scope;
 use crate::taken::Taken;
@@ -15,17 +16,26 @@ use icl_values::ElabFault;
 use ij_text::{Place, name_of};
 use std::alloc::Global;
 
+/// Adds a name, which none of those before is.
+fn add_name(alloc: Global, at: Place, seen: &mut Scope, name: &[u8]) -> Result<(), ElabFault>
+    ensures answer { Gives same result (refuse_if (has_entry seen.old name.now) (DoubleName at name.now)) }
+    ensures seen { OnOk result ((n : List ℕ) → has_entry seen.new n ≡ (has_entry seen.old n || bytes_eq n name.now)) }
+{
+    if seen.has(name) {
+        let name = name_of(alloc, name)?;
+        return Err(ElabFault::DoubleName { at, name });
+    }
+    seen.note(alloc, name)?;
+    Ok(())
+}
+
 /// The words of an enumeration, which differ among themselves.
 fn distinct_words(alloc: Global, at: Place, words: &[EnumWord]) -> Result<(), ElabFault>
     ensures { Gives same result (distinct at (map (λ w. w.name.items) words.now)) }
 {
     let mut seen = Scope::new(alloc);
     for word in words {
-        if seen.has(word.name.as_slice()) {
-            let name = name_of(alloc, word.name.as_slice())?;
-            return Err(ElabFault::DoubleName { at, name });
-        }
-        seen.note(alloc, word.name.as_slice())?;
+        add_name(alloc, at, &mut seen, word.name.as_slice())?;
     }
     Ok(())
 }
@@ -36,11 +46,7 @@ fn distinct_instrs(alloc: Global, at: Place, instrs: &[LinkInstr]) -> Result<(),
 {
     let mut seen = Scope::new(alloc);
     for instr in instrs {
-        if seen.has(instr.name.as_slice()) {
-            let name = name_of(alloc, instr.name.as_slice())?;
-            return Err(ElabFault::DoubleName { at, name });
-        }
-        seen.note(alloc, instr.name.as_slice())?;
+        add_name(alloc, at, &mut seen, instr.name.as_slice())?;
     }
     Ok(())
 }

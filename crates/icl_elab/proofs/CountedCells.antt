@@ -228,7 +228,7 @@ few_of_frames frames cells h all p =
     let instruments : count_by is_instrument cells ≡ count_by is_instrument_frame frames = sum_same IsCellOfFrame (λ f. cond (is_instrument_frame f) 1 0) (λ c. cond (is_instrument c) 1 0) (λ f c i. ap (λ (b : Bool). cond b 1 0) (instrument_same f c i)) frames cells p in
     record {
       few_cells = subst (λ n. n ≤ 8192) (sym (long_same IsCellOfFrame frames cells p)) h.few_cells;
-      few_bits = subst (λ n. n ≤ 4096) (sym bits) h.few_bits;
+      bits_within_limit = subst (λ n. n ≤ 4096) (sym bits) h.bits_within_limit;
       few_muxes = subst (λ n. n ≤ 1024) (sym muxes) h.few_muxes;
       few_instruments = subst (λ n. n ≤ 256) (sym (length-filter is_instrument cells ∙ instruments)) h.few_instruments;
     }

@@ -167,7 +167,7 @@ parts_named f n (item ∷ items) (b ∷ bs) [] l inner worths w few h = absurd h
 parts_named f n (item ∷ items) (b ∷ bs) (p ∷ ps) l inner worths w few h =
     let i = h.0 in
     let own = w.0 in
-    let first : IsPartNamed p = record { name = subst (λ z. IsTrue (is_name z)) (sym i.name) own.name; few_bits = subst (λ k. k ≤ 65536) (sym i.wide) few.0; rows = i.rows worths own.what; words = i.words inner } in
+    let first : IsPartNamed p = record { name = subst (λ z. IsTrue (is_name z)) (sym i.name) own.name; bits_within_limit = subst (λ k. k ≤ 65536) (sym i.wide) few.0; rows = i.rows worths own.what; words = i.words inner } in
     (first, parts_named f (suc n) items bs ps (omega (arith, l)) inner worths w.1 few.1 h.1)
 
 -- ---- cells
@@ -213,7 +213,7 @@ hierarchies_are_well_formed blocks top cells w h =
       cells_are = cells_are a.frames cells (frames_are_declared blocks top a.frames a.entered) (frames_are_written blocks top a.frames w a.entered) (frames_worths blocks top a.frames a.entered) a.paired;
       few_cells = few.few_cells;
       few_levels = tree.few_levels;
-      few_bits = few.few_bits;
+      bits_within_limit = few.bits_within_limit;
       few_muxes = few.few_muxes;
       few_instruments = few.few_instruments;
     }

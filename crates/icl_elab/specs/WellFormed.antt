@@ -78,7 +78,7 @@ HasRows role = Unit {0}
 
 pub record IsPartNamed (p : PartOf) : Type 0 where
   pub name : IsTrue (is_name p.name)
-  pub few_bits : part_width p ≤ 65536
+  pub bits_within_limit : part_width p ≤ 65536
   pub rows : HasRows p.role
   pub words : AreDifferent (map (λ w. w.name) p.words)
 
@@ -117,7 +117,7 @@ pub record AreInTree (cells : List CellOf) : Type 0 where
 
 pub record AreCellsFew (cells : List CellOf) : Type 0 where
   pub few_cells : length cells ≤ 8192
-  pub few_bits : sum_by (width_that is_register) cells ≤ 4096
+  pub bits_within_limit : sum_by (width_that is_register) cells ≤ 4096
   pub few_muxes : sum_by (count_that is_mux) cells ≤ 1024
   pub few_instruments : length (filter is_instrument cells) ≤ 256
 
@@ -129,7 +129,7 @@ pub record IsHierarchy (cells : List CellOf) : Type 0 where
   pub cells_are : AllByRecursion IsCell cells
   pub few_cells : length cells ≤ 8192
   pub few_levels : AllByRecursion (λ (n : ℕ). n ≤ 64) (levels_from [] cells)
-  pub few_bits : sum_by (width_that is_register) cells ≤ 4096
+  pub bits_within_limit : sum_by (width_that is_register) cells ≤ 4096
   pub few_muxes : sum_by (count_that is_mux) cells ≤ 1024
   pub few_instruments : length (filter is_instrument cells) ≤ 256
 

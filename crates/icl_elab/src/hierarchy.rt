@@ -1,5 +1,5 @@
 // The hierarchy of a design.
-ghost use Rattle.std.specs.Prelude.{◌≡◌, ℕ, ◌+◌, ◌<◌, ◌==◌, ◌&&◌, [], map, length, reverse, cond, Some, None, IfOk, IfErr};
+ghost use Rattle.std.specs.Prelude.{◌≡◌, ℕ, ◌+◌, ◌<◌, ◌==◌, ◌&&◌, [], map, length, reverse, cond, Some, None, IfOk, IfErr, OnOk};
 ghost use Rattle.std.specs.List.{position_from};
 ghost use Rattle.std.specs.Option.{option_map};
 ghost use Rattle.icl_syntax.specs.Views.{seen_design};
@@ -195,6 +195,24 @@ fn first_ref(refs: Option<List<Ref>>) -> Option<Ref>
     }
 }
 
+/// Adds what the ports of a cell are, which are bound so.
+fn add_cell_ports(
+    alloc: Global,
+    bindings: &Bindings,
+    parts: &[Placed],
+    ports: &mut Vec<Option<Body>>,
+) -> Result<(), ElabFault>
+    requires { ports.old.items ≡ [] }
+    ensures ok { OnOk result (seen_ports ports.new.items ≡ map (port_of bindings.now) parts.now) }
+    ensures told { IfErr result (λ e. e ≡ ElabFault.OutOfMemory) }
+{
+    for p in parts {
+        let port = port_bound(alloc, bindings, p)?;
+        ports.push(port)?;
+    }
+    Ok(())
+}
+
 /// What the ports of a cell are, which are bound so.
 fn cell_ports(
     alloc: Global,
@@ -205,17 +223,46 @@ fn cell_ports(
     ensures told { IfErr result (λ e. e ≡ ElabFault.OutOfMemory) }
 {
     let mut ports = Vec::new(alloc);
-    for p in parts {
-        let port = port_bound(alloc, bindings, p)?;
-        ports.push(port)?;
+    match add_cell_ports(alloc, bindings, parts, &mut ports) {
+        Ok(()) => Ok(ports),
+        Err(e) => {
+            drop(ports);
+            Err(e)
+        }
     }
-    Ok(ports)
 }
 
 /// What the ports of a cell are, bound.
 #[derive(Drop)]
 struct CellPorts {
     ports: Vec<Option<Body>>,
+}
+
+/// Adds what the ports of the cells are, bound, where the homes are known.
+fn add_ports(
+    alloc: Global,
+    tables: &Tables,
+    cells: &[CellParts],
+    homes: &[Option<usize>],
+    nothing: &Bindings,
+    all: &mut Vec<CellPorts>,
+) -> Result<(), ElabFault>
+    requires tables { AreTables tables.now }
+    requires long { length cells.now ≡ length (frames_of tables.now) }
+    requires home_count { length homes.now ≡ length cells.now }
+    requires homes { (c : ℕ) → c < length cells.now → home_at homes.now c ≡ home_in cells.now c (parent_in (frames_of tables.now) c) }
+    requires nothing { nothing.now ≡ [] }
+    requires none { all.old.items ≡ [] }
+    ensures ok { OnOk result (map seen_cell_ports all.new.items ≡ ports_from (seen_pass cells.now) 0 (frames_of tables.now) cells.now) }
+    ensures told { IfErr result (λ e. e ≡ ElabFault.OutOfMemory) }
+{
+    for here in 0..tables.len() {
+        let i = here as usize;
+        let bindings = bound_in_parent(cells, nothing, tables.frame(here).parent, homes[i]);
+        let ports = cell_ports(alloc, bindings, &cells[i].parts)?;
+        all.push(CellPorts { ports })?;
+    }
+    Ok(())
 }
 
 /// What the ports of the cells are, bound.
@@ -232,13 +279,16 @@ fn all_ports(
     let homes = homes(alloc, tables, cells)?;
     let nothing = Bindings::new(alloc);
     let mut all = Vec::new(alloc);
-    for here in 0..tables.len() {
-        let i = here as usize;
-        let bindings = bound_in_parent(cells, &nothing, tables.frame(here).parent, homes[i]);
-        let ports = cell_ports(alloc, bindings, &cells[i].parts)?;
-        all.push(CellPorts { ports })?;
+    let added = add_ports(alloc, tables, cells, &homes, &nothing, &mut all);
+    drop(homes);
+    drop(nothing);
+    match added {
+        Ok(()) => Ok(all),
+        Err(e) => {
+            drop(all);
+            Err(e)
+        }
     }
-    Ok(all)
 }
 
 // ---- the cells
@@ -349,9 +399,16 @@ fn put_together(alloc: Global, tables: &Tables, cells: Vec<CellParts>) -> Result
     ensures ok { IfOk result (λ h. seen_hier h ≡ put_together (frames_of tables.now) (seen_pass cells.items)) }
     ensures told { IfErr result (λ e. e ≡ ElabFault.OutOfMemory) }
 {
-    let all = all_ports(alloc, tables, &cells)?;
-    let cells = all_cells(alloc, tables, cells, all)?;
-    Ok(Hier { cells })
+    match all_ports(alloc, tables, &cells) {
+        Ok(all) => {
+            let cells = all_cells(alloc, tables, cells, all)?;
+            Ok(Hier { cells })
+        }
+        Err(e) => {
+            drop(cells);
+            Err(e)
+        }
+    }
 }
 
 /// The hierarchy of these cells.
@@ -359,8 +416,17 @@ fn resolved<'a>(alloc: Global, frames: &'a [Frame<'a>]) -> Result<Hier, ElabFaul
     ensures { Gives seen_hier result (resolved (map seen_frame frames.now)) }
 {
     let tables = Tables::of(alloc, frames)?;
-    let cells = second_pass(alloc, &tables)?;
-    put_together(alloc, &tables, cells)
+    match second_pass(alloc, &tables) {
+        Ok(cells) => {
+            let hier = put_together(alloc, &tables, cells);
+            drop(tables);
+            hier
+        }
+        Err(e) => {
+            drop(tables);
+            Err(e)
+        }
+    }
 }
 
 /// The hierarchy of a design below its top module.
@@ -369,7 +435,9 @@ fn hierarchy_of(alloc: Global, design: &Design, top: &Name) -> Result<Hier, Elab
     ensures { Gives seen_hier result (hierarchy (seen_design design.now) top.now.items) }
 {
     let frames = first_pass(alloc, design.modules.as_slice(), top.as_slice())?;
-    resolved(alloc, &frames)
+    let hier = resolved(alloc, &frames);
+    drop(frames);
+    hier
 }
 
 /// The hierarchy of a design below its top module (IEEE 1687-2014, ICL: Module, Instance, Parameter): the instances that are reached, each

@@ -130,11 +130,6 @@ two_signs true m a b h = absurd cc
 two_signs false true a b h = absurd cc
 two_signs false false a b h = refl
 
-two_are : (p m : Bool) (a b : Signed) {P : Bool} → (p ≡ true → P ≡ true) → (m ≡ true → P ≡ true) → is_some (cond p (Some a) (cond m (Some b) None)) ≡ true → P ≡ true
-two_are true m a b f g h = f refl
-two_are false true a b f g h = g refl
-two_are false false a b f g h = absurd cc
-
 three_signs : (x d r : Bool) (a b c : Signed) → x || (d || (r || false)) ≡ false → is_some (cond x (Some a) (cond d (Some b) (cond r (Some c) None))) ≡ false
 three_signs true d r a b c h = absurd cc
 three_signs false true r a b c h = absurd cc

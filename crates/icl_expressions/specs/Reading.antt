@@ -1,4 +1,4 @@
--- What each function of the parser reads: the readers of the productions, put together as the productions are.
+-- What each function reads: the readers of the productions, put together as the productions are.
 use Rattle.std.specs.Prelude.{◌≡◌, ◌<◌, ℕ, zero, suc, ◌+◌, ◌-◌, Bool, true, false, not, List, [], ◌∷◌, length, Option, Some, None, Result, Ok, Err, is_some}
 use Rattle.grammar.specs.Reading.{Stop as Unfit, Reader, read_barred, read_one, read_in_turn, read_either, read_repeat}
 use Rattle.ij_text.specs.declared.Place.{Place}
@@ -64,7 +64,7 @@ read_ended c r = read_in_turn r (λ a. read_in_turn (read_mark c) (λ e. gives a
 abbrev pub read_maybe : {A : Type 0} → ℕ → Reading A → Reading (Option A)
 read_maybe c r = read_either (is_mark c) (read_in_turn r (λ a. gives (Some a))) (gives None)
 
--- parts behind some that are read already: each behind a mark, or up to a `}`
+-- parts behind some that are read already: each behind a mark, or up to a `}` or the end
 abbrev pub more_parted : {A : Type 0} → ℕ → Reading A → List A → Reading (List A)
 more_parted {A} c r xs ts = read_repeat (is_mark c) (λ (ys : List A). read_after c r) appended xs ts
 
@@ -75,7 +75,7 @@ more {A} r xs ts = read_repeat no_close (λ (ys : List A). r) appended xs ts
 abbrev pub read_parted : {A : Type 0} → ℕ → Reading A → Reading (List A)
 read_parted {A} c r = read_in_turn r (λ a. read_repeat (is_mark c) (λ (xs : List A). read_after c r) appended (a ∷ []))
 
--- parts up to a `}`
+-- parts up to a `}` or the end
 abbrev pub read_many : {A : Type 0} → Reading A → Reading (List A)
 read_many {A} r = read_repeat no_close (λ (xs : List A). r) appended []
 
@@ -87,7 +87,8 @@ read_braced r = read_in_turn (read_mark 123) (λ o. read_ended 125 r)
 abbrev pub read_leaf : Bool → ℕ → Reading Counted
 read_leaf alone used = read_one (leaf_at alone used)
 
--- the operator that a token is, with so many tokens left: none is left to use, or the last part is a sized number
+-- the operator that a token is, with so many tokens left: refused where the expression may have no further one, or where a sized
+-- number stands in front
 abbrev pub operator_of : ℕ → Bool → Option Signed → ℕ → List SeenToken → Result (Signed × List SeenToken) (Unfit Limit)
 operator_of spare lone None n ts = Err (n, None)
 operator_of zero lone (Some s) n ts = Err (n, Some OfExpression)

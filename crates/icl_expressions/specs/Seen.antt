@@ -1,4 +1,4 @@
--- What the functions of the parser take and give, without where it lies in memory.
+-- What the functions take and give, without where it lies in memory.
 use Rattle.std.specs.Prelude.{◌≡◌, List, Result, Ok, Err}
 use Rattle.grammar.specs.Reading.{Stop as Unfit}
 use Rattle.icl_syntax.specs.declared.words.Limit.{Limit}
@@ -7,12 +7,12 @@ use Rattle.icl_syntax.specs.Grammar.{Counted, Signed}
 use Rattle.icl_syntax.specs.Views.{seen_expr}
 use Rattle.icl_expressions.specs.declared.stop.Stop.{Stop}
 use Rattle.icl_expressions.specs.declared.stop.Stop.TheVariants.{Memory, At}
-use Rattle.icl_expressions.specs.declared.reading.Read.{Read}
+use Rattle.icl_expressions.specs.declared.reading.Parsed.{Parsed}
 use Rattle.icl_expressions.specs.declared.expressions.Counting.{Counting}
 use Rattle.icl_expressions.specs.declared.signs.SignAt.{SignAt}
 
 -- a value and the tokens behind it
-abbrev pub seen_read : {X Y : Type 0} → (X → Y) → Read X → Y × List SeenToken
+abbrev pub seen_read : {X Y : Type 0} → (X → Y) → Parsed X → Y × List SeenToken
 seen_read view r = (view r.value, r.rest)
 
 abbrev pub same : {X : Type 0} → X → X
@@ -28,6 +28,11 @@ seen_sign s = record { sign = s.sign; at = s.at }
 abbrev pub Fails : {Y : Type 0} → Stop → Result Y (Unfit Limit) → Type 0
 Fails Memory read = Unit {0}
 Fails (At n why) read = read ≡ Err (n, why)
+
+-- reading stopped at a token, and not for want of memory
+abbrev pub IsAtToken : Stop → Type 0
+IsAtToken Memory = ⊥
+IsAtToken (At n why) = Unit {0}
 
 -- what a function returned, seen by a view, is what reading gives, unless memory ran out
 abbrev pub Gives : {X Y : Type 0} → (X → Y) → Result X Stop → Result Y (Unfit Limit) → Type 0

@@ -9,7 +9,7 @@ ghost use Rattle.icl_expressions.specs.Reading.{read_put, read_operand, read_fac
 
 use crate::leaves::read_leaf;
 use crate::parts::Part;
-use crate::reading::{Read, begins_mark, read_mark};
+use crate::reading::{Parsed, begins_mark, beside, read_mark};
 use crate::signs::{
     SignAt, begins_product_sign, begins_sum_sign, read_product_sign, read_sum_sign,
 };
@@ -28,7 +28,7 @@ pub(crate) struct Counting {
 }
 
 /// No further level of parentheses.
-fn too_deep<'a>(tokens: Cursor<'a>) -> Result<Read<'a, Counting>, Stop>
+fn too_deep<'a>(tokens: Cursor<'a>) -> Result<Parsed<'a, Counting>, Stop>
     ensures bounded { IfOk result (λ r. r.value.used ≤ 256) }
     ensures shorter { IfOk result (λ r. length r.rest < length tokens.entry) }
     ensures gives { Gives (seen_read seen_counting) result (read_barred too_deep tokens.entry) }
@@ -49,7 +49,7 @@ fn factor<'a>(
     depth: u32,
     alone: bool,
     used: u32,
-) -> Result<Read<'a, Counting>, Stop>
+) -> Result<Parsed<'a, Counting>, Stop>
     requires { used ≤ 256 }
     ensures bounded { IfOk result (λ r. r.value.used ≤ 256) }
     ensures shorter { IfOk result (λ r. length r.rest < length tokens.entry) }
@@ -71,7 +71,7 @@ fn in_parentheses<'a>(
     tokens: Cursor<'a>,
     depth: u32,
     used: u32,
-) -> Result<Read<'a, Counting>, Stop>
+) -> Result<Parsed<'a, Counting>, Stop>
     requires { used ≤ 256 }
     ensures bounded { IfOk result (λ r. r.value.used ≤ 256) }
     ensures shorter { IfOk result (λ r. length r.rest < length tokens.entry) }
@@ -79,11 +79,11 @@ fn in_parentheses<'a>(
 {
     let open = read_mark(tokens, b'(')?;
     let inner = sum(alloc, open.rest, depth, used)?;
-    let close = read_mark(inner.rest, b')')?;
-    Ok(Read {
+    let (inner, close) = beside(inner.value, read_mark(inner.rest, b')'))?;
+    Ok(Parsed {
         value: Counting {
-            expr: inner.value.expr,
-            used: inner.value.used,
+            expr: inner.expr,
+            used: inner.used,
             lone: false,
         },
         rest: close.rest,
@@ -98,7 +98,7 @@ fn product<'a>(
     depth: u32,
     alone: bool,
     used: u32,
-) -> Result<Read<'a, Counting>, Stop>
+) -> Result<Parsed<'a, Counting>, Stop>
     requires { used ≤ 256 }
     ensures bounded { IfOk result (λ r. r.value.used ≤ 256) }
     ensures shorter { IfOk result (λ r. length r.rest < length tokens.entry) }
@@ -116,17 +116,19 @@ fn product<'a>(
 #[tactic(auto, unfolding(crate::specs::Reading::read_operand))]
 fn with_factor<'a>(
     alloc: Global,
-    left: Read<'a, Counting>,
+    left: Parsed<'a, Counting>,
     depth: u32,
-) -> Result<Read<'a, Counting>, Stop>
+) -> Result<Parsed<'a, Counting>, Stop>
     requires { left.value.used ≤ 256 }
     ensures bounded { IfOk result (λ r. r.value.used ≤ 256) }
     ensures shorter { IfOk result (λ r. length r.rest < length left.entry.rest) }
     ensures gives { Gives (seen_read seen_counting) result (read_put (read_operand (read_factor depth false) product_sign (seen_counting left.entry.value)) with_operand (seen_counting left.entry.value) left.entry.rest) }
 {
-    let sign = read_product_sign(left.rest, left.value.used, left.value.lone)?;
-    let right = factor(alloc, sign.rest, depth, false, left.value.used + 1)?;
-    joined(alloc, left.value, sign.value, right)
+    let sign = read_product_sign(left.rest, left.value.used, left.value.lone);
+    let (left, sign) = beside(left.value, sign)?;
+    let right = factor(alloc, sign.rest, depth, false, left.used + 1);
+    let (left, right) = beside(left, right)?;
+    joined(alloc, left, sign.value, right)
 }
 
 /// Products with `+` and `-` between them.
@@ -136,7 +138,7 @@ fn sum<'a>(
     tokens: Cursor<'a>,
     depth: u32,
     used: u32,
-) -> Result<Read<'a, Counting>, Stop>
+) -> Result<Parsed<'a, Counting>, Stop>
     requires { used ≤ 256 }
     ensures bounded { IfOk result (λ r. r.value.used ≤ 256) }
     ensures shorter { IfOk result (λ r. length r.rest < length tokens.entry) }
@@ -154,17 +156,19 @@ fn sum<'a>(
 #[tactic(auto, unfolding(crate::specs::Reading::read_operand))]
 fn with_product<'a>(
     alloc: Global,
-    left: Read<'a, Counting>,
+    left: Parsed<'a, Counting>,
     depth: u32,
-) -> Result<Read<'a, Counting>, Stop>
+) -> Result<Parsed<'a, Counting>, Stop>
     requires { left.value.used ≤ 256 }
     ensures bounded { IfOk result (λ r. r.value.used ≤ 256) }
     ensures shorter { IfOk result (λ r. length r.rest < length left.entry.rest) }
     ensures gives { Gives (seen_read seen_counting) result (read_put (read_operand (read_term depth false) sum_sign (seen_counting left.entry.value)) with_operand (seen_counting left.entry.value) left.entry.rest) }
 {
-    let sign = read_sum_sign(left.rest, left.value.used, left.value.lone)?;
-    let right = product(alloc, sign.rest, depth, false, left.value.used + 1)?;
-    joined(alloc, left.value, sign.value, right)
+    let sign = read_sum_sign(left.rest, left.value.used, left.value.lone);
+    let (left, sign) = beside(left.value, sign)?;
+    let right = product(alloc, sign.rest, depth, false, left.used + 1);
+    let (left, right) = beside(left, right)?;
+    joined(alloc, left, sign.value, right)
 }
 
 /// An operator with its two operands.
@@ -172,8 +176,8 @@ fn joined<'a>(
     alloc: Global,
     left: Counting,
     sign: SignAt,
-    right: Read<'a, Counting>,
-) -> Result<Read<'a, Counting>, Stop>
+    right: Parsed<'a, Counting>,
+) -> Result<Parsed<'a, Counting>, Stop>
     ensures counted { IfOk result (λ r. r.value.used ≡ right.entry.value.used) }
     ensures rest { IfOk result (λ r. length r.rest ≡ length right.entry.rest) }
     ensures gives { Gives (seen_read seen_counting) result (joined (seen_counting left) (seen_sign sign) (seen_counting right.entry.value) right.entry.rest) }
@@ -182,7 +186,7 @@ fn joined<'a>(
     let right = right.value;
     let a = Box::new(alloc, left.expr)?;
     let b = Box::new(alloc, right.expr)?;
-    Ok(Read {
+    Ok(Parsed {
         value: Counting {
             expr: Expr::Op(sign.at, sign.sign, a, b),
             used: right.used,
@@ -201,9 +205,9 @@ impl Part for Expr {
 
     ghost reader = { read_expr };
 
-    fn read<'a>(alloc: Global, tokens: Cursor<'a>) -> Result<Read<'a, Expr>, Stop> {
+    fn read<'a>(alloc: Global, tokens: Cursor<'a>) -> Result<Parsed<'a, Expr>, Stop> {
         let read = sum(alloc, tokens, 64, 0)?;
-        Ok(Read {
+        Ok(Parsed {
             value: read.value.expr,
             rest: read.rest,
         })

@@ -1,16 +1,16 @@
 // The tokens that are expressions by themselves.
-ghost use Rattle.std.specs.Prelude.{◌≡◌, ◌-◌, ◌<◌, ◌≤◌, ◌+◌, ◌*◌, ◌==◌, cond, length, drop, slice_range, IfOk, Option, true, Some, None};
+ghost use Rattle.std.specs.Prelude.{◌≡◌, ◌-◌, ◌<◌, ◌≤◌, ◌+◌, ◌*◌, ◌==◌, cond, length, drop, slice_range, IfErr, IfOk, Option, true, Some, None};
 ghost use Rattle.std.specs.Option.{option_map};
 ghost use Rattle.icl_lexer.specs.Lexemes.{tok};
 ghost use Rattle.icl_syntax.specs.Tokens.{decimal_of, decimal_at};
 ghost use Rattle.icl_syntax.specs.Values.{ASized};
 ghost use Rattle.icl_syntax.specs.Grammar.{number_of, leaf_at, with_count};
 ghost use Rattle.icl_syntax.specs.Views.{seen_expr};
-ghost use Rattle.icl_expressions.specs.Seen.{seen_read, seen_counting, same, Gives};
+ghost use Rattle.icl_expressions.specs.Seen.{seen_read, seen_counting, same, Gives, IsAtToken};
 ghost use Rattle.icl_expressions.specs.Reading.{read_leaf, read_decimal};
 
 use crate::expressions::Counting;
-use crate::reading::Read;
+use crate::reading::Parsed;
 use crate::stop::Stop;
 use icl_lexer::{Cursor, Lexeme, TokenKind};
 use icl_syntax::{Expr, SmallText};
@@ -142,7 +142,7 @@ pub(crate) fn read_leaf<'a>(
     tokens: Cursor<'a>,
     alone: bool,
     used: u32,
-) -> Result<Read<'a, Counting>, Stop>
+) -> Result<Parsed<'a, Counting>, Stop>
     ensures counted { IfOk result (λ r. r.value.used ≡ used) }
     ensures shorter { IfOk result (λ r. length r.rest < length tokens.entry) }
     ensures gives { Gives (seen_read seen_counting) result (read_leaf alone used tokens.entry) }
@@ -150,22 +150,23 @@ pub(crate) fn read_leaf<'a>(
     let left = tokens.len();
     match tokens.next() {
         Some((t, rest)) => match leaf_value(alloc, &t, alone, used)? {
-            Some(value) => Ok(Read { value, rest }),
+            Some(value) => Ok(Parsed { value, rest }),
             None => Err(Stop::At(left, None)),
         },
         None => Err(Stop::At(0, None)),
     }
 }
 
-/// A decimal.
-pub fn read_decimal<'a>(tokens: Cursor<'a>) -> Result<Read<'a, u32>, Stop>
+/// A decimal. Takes no memory, and says so.
+pub fn read_decimal<'a>(tokens: Cursor<'a>) -> Result<Parsed<'a, u32>, Stop>
     ensures shorter { IfOk result (λ r. length r.rest < length tokens.entry) }
     ensures gives { Gives (seen_read same) result (read_decimal tokens.entry) }
+    ensures sure { IfErr result IsAtToken }
 {
     let left = tokens.len();
     match tokens.next() {
         Some((t, rest)) => match decimal_value(&t) {
-            Some(value) => Ok(Read { value, rest }),
+            Some(value) => Ok(Parsed { value, rest }),
             None => Err(Stop::At(left, None)),
         },
         None => Err(Stop::At(0, None)),

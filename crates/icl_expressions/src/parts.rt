@@ -6,7 +6,7 @@ ghost use Rattle.icl_syntax.specs.Views.{bytes_of, seen_expr, seen_few, seen_sig
 ghost use Rattle.icl_expressions.specs.Seen.{seen_read, Gives};
 ghost use Rattle.icl_expressions.specs.Reading.{Reading, Shrinks, read_put, read_after, more_parted, read_parted, read_name, read_value, read_sig};
 
-use crate::reading::{Read, begins_mark, read_mark, read_name};
+use crate::reading::{Parsed, begins_mark, read_mark, read_name};
 use crate::signals::{read_sig, read_value};
 use crate::stop::Stop;
 use icl_lexer::Cursor;
@@ -24,7 +24,7 @@ pub trait Part: Sized {
     ghost reader: { Reading Plain };
 
     /// Reads it.
-    fn read<'a>(alloc: Global, tokens: Cursor<'a>) -> Result<Read<'a, Self>, Stop>
+    fn read<'a>(alloc: Global, tokens: Cursor<'a>) -> Result<Parsed<'a, Self>, Stop>
         ensures shorter { IfOk result (λ r. length r.rest < length tokens.entry) }
         ensures gives { Gives (seen_read view) result (reader tokens.entry) };
 }
@@ -32,15 +32,15 @@ pub trait Part: Sized {
 /// Parts with the next one, behind a mark.
 fn with_next<'a, T: Part + Drop>(
     alloc: Global,
-    parts: Read<'a, Few<T>>,
+    parts: Parsed<'a, Few<T>>,
     mark: u8,
-) -> Result<Read<'a, Few<T>>, Stop>
+) -> Result<Parsed<'a, Few<T>>, Stop>
     ensures shorter { IfOk result (λ r. length r.rest < length parts.entry.rest) }
     ensures gives { Gives (seen_read (seen_few T.view)) result (read_put (read_after mark T.reader) appended (seen_few T.view parts.entry.value) parts.entry.rest) }
 {
     let at = read_mark(parts.rest, mark)?;
     let next = T::read(alloc, at.rest)?;
-    Ok(Read {
+    Ok(Parsed {
         value: parts.value.with(alloc, next.value)?,
         rest: next.rest,
     })
@@ -49,14 +49,14 @@ fn with_next<'a, T: Part + Drop>(
 /// A part with those that follow, each behind a mark.
 pub(crate) fn read_behind<'a, T: Part + Drop>(
     alloc: Global,
-    first: Read<'a, T>,
+    first: Parsed<'a, T>,
     mark: u8,
-) -> Result<Read<'a, Few<T>>, Stop>
+) -> Result<Parsed<'a, Few<T>>, Stop>
     requires { Shrinks T.reader }
     ensures shorter { IfOk result (λ r. length r.rest ≤ length first.entry.rest) }
     ensures gives { Gives (seen_read (seen_few T.view)) result (more_parted mark T.reader (T.view first.entry.value ∷ []) first.entry.rest) }
 {
-    let mut parts = Read {
+    let mut parts = Parsed {
         value: Few::one(first.value),
         rest: first.rest,
     };
@@ -71,7 +71,7 @@ pub fn read_parted<'a, T: Part + Drop>(
     alloc: Global,
     tokens: Cursor<'a>,
     mark: u8,
-) -> Result<Read<'a, Few<T>>, Stop>
+) -> Result<Parsed<'a, Few<T>>, Stop>
     requires { Shrinks T.reader }
     ensures shorter { IfOk result (λ r. length r.rest < length tokens.entry) }
     ensures gives { Gives (seen_read (seen_few T.view)) result (read_parted mark T.reader tokens.entry) }
@@ -90,7 +90,7 @@ impl Part for SmallText {
 
     ghost reader = { read_name };
 
-    fn read<'a>(alloc: Global, tokens: Cursor<'a>) -> Result<Read<'a, SmallText>, Stop> {
+    fn read<'a>(alloc: Global, tokens: Cursor<'a>) -> Result<Parsed<'a, SmallText>, Stop> {
         read_name(alloc, tokens)
     }
 }
@@ -103,7 +103,7 @@ impl Part for Few<Expr> {
 
     ghost reader = { read_value };
 
-    fn read<'a>(alloc: Global, tokens: Cursor<'a>) -> Result<Read<'a, Few<Expr>>, Stop> {
+    fn read<'a>(alloc: Global, tokens: Cursor<'a>) -> Result<Parsed<'a, Few<Expr>>, Stop> {
         read_value(alloc, tokens)
     }
 }
@@ -116,7 +116,7 @@ impl Part for Sig {
 
     ghost reader = { read_sig };
 
-    fn read<'a>(alloc: Global, tokens: Cursor<'a>) -> Result<Read<'a, Sig>, Stop> {
+    fn read<'a>(alloc: Global, tokens: Cursor<'a>) -> Result<Parsed<'a, Sig>, Stop> {
         read_sig(alloc, tokens)
     }
 }

@@ -1,8 +1,8 @@
 // Reading a token.
-ghost use Rattle.std.specs.Prelude.{◌≡◌, ◌<◌, true, false, length, IfOk, ◌++◌, ◌∷◌, []};
+ghost use Rattle.std.specs.Prelude.{◌≡◌, ◌<◌, true, false, length, IfErr, IfOk, Err, Ok, ◌++◌, ◌∷◌, []};
 ghost use Rattle.icl_lexer.specs.Seen.{is_mark, if_word};
 ghost use Rattle.icl_syntax.specs.Views.{bytes_of};
-ghost use Rattle.icl_expressions.specs.Seen.{seen_read, same, Gives};
+ghost use Rattle.icl_expressions.specs.Seen.{seen_read, same, Gives, IsAtToken};
 ghost use Rattle.icl_expressions.specs.Reading.{begins, no_close, read_mark, read_word, read_name};
 
 use crate::stop::Stop;
@@ -14,7 +14,7 @@ use std::alloc::Global;
 
 /// A value, and the tokens behind it.
 #[derive(Drop)]
-pub struct Read<'a, X> {
+pub struct Parsed<'a, X> {
     /// What was read.
     pub value: X,
     /// The tokens behind it.
@@ -24,8 +24,8 @@ pub struct Read<'a, X> {
 /// A list with one more value at its end, and the tokens behind the value. The first value makes room for itself alone.
 pub fn pushed<'a, X: Drop>(
     list: List<X>,
-    read: Read<'a, X>,
-) -> Result<Read<'a, List<X>>, OutOfMemory>
+    read: Parsed<'a, X>,
+) -> Result<Parsed<'a, List<X>>, OutOfMemory>
     ensures items { IfOk result (λ r. r.value.items ≡ list.items ++ read.entry.value ∷ []) }
     ensures rest { IfOk result (λ r. r.rest ≡ read.entry.rest) }
 {
@@ -34,10 +34,22 @@ pub fn pushed<'a, X: Drop>(
         values.reserve_exact(1)?;
     }
     values.push(read.value)?;
-    Ok(Read {
+    Ok(Parsed {
         value: List::from(values),
         rest: read.rest,
     })
+}
+
+/// What was read already, beside what is read next. It is let go of where that stops.
+pub fn beside<X: Drop, Y>(read: X, next: Result<Y, Stop>) -> Result<(X, Y), Stop>
+    ensures read { IfOk result (λ p. p.0 ≡ read) }
+    ensures next { IfOk result (λ p. next ≡ Ok p.1) }
+    ensures stops { IfErr result (λ e. next ≡ Err e) }
+{
+    match next {
+        Ok(next) => Ok((read, next)),
+        Err(e) => Err(e),
+    }
 }
 
 /// Whether a mark is the next token.
@@ -70,38 +82,40 @@ pub fn before_close(tokens: &Cursor) -> bool
     }
 }
 
-/// A mark, and its place.
-pub fn read_mark<'a>(tokens: Cursor<'a>, mark: u8) -> Result<Read<'a, Place>, Stop>
+/// A mark, and its place. Takes no memory, and says so.
+pub fn read_mark<'a>(tokens: Cursor<'a>, mark: u8) -> Result<Parsed<'a, Place>, Stop>
     ensures shorter { IfOk result (λ r. length r.rest < length tokens.entry) }
     ensures gives { Gives (seen_read same) result (read_mark mark tokens.entry) }
+    ensures sure { IfErr result IsAtToken }
 {
     let left = tokens.len();
     match tokens.next() {
-        Some((t, rest)) if t.is_mark(mark) => Ok(Read { value: t.at, rest }),
+        Some((t, rest)) if t.is_mark(mark) => Ok(Parsed { value: t.at, rest }),
         _ => Err(Stop::At(left, None)),
     }
 }
 
-/// A word that is this one, and its place.
-pub fn read_word<'a>(tokens: Cursor<'a>, word: &[u8]) -> Result<Read<'a, Place>, Stop>
+/// A word that is this one, and its place. Takes no memory, and says so.
+pub fn read_word<'a>(tokens: Cursor<'a>, word: &[u8]) -> Result<Parsed<'a, Place>, Stop>
     ensures shorter { IfOk result (λ r. length r.rest < length tokens.entry) }
     ensures gives { Gives (seen_read same) result (read_word word.now tokens.entry) }
+    ensures sure { IfErr result IsAtToken }
 {
     let left = tokens.len();
     match tokens.next() {
-        Some((t, rest)) if t.is_word(word) => Ok(Read { value: t.at, rest }),
+        Some((t, rest)) if t.is_word(word) => Ok(Parsed { value: t.at, rest }),
         _ => Err(Stop::At(left, None)),
     }
 }
 
 /// Any word, a keyword included.
-pub fn read_name<'a>(alloc: Global, tokens: Cursor<'a>) -> Result<Read<'a, SmallText>, Stop>
+pub fn read_name<'a>(alloc: Global, tokens: Cursor<'a>) -> Result<Parsed<'a, SmallText>, Stop>
     ensures shorter { IfOk result (λ r. length r.rest < length tokens.entry) }
     ensures gives { Gives (seen_read bytes_of) result (read_name tokens.entry) }
 {
     let left = tokens.len();
     match tokens.next() {
-        Some((t, rest)) if t.is_name() => Ok(Read {
+        Some((t, rest)) if t.is_name() => Ok(Parsed {
             value: SmallText::of(alloc, t.text)?,
             rest,
         }),

@@ -8,7 +8,7 @@ ghost use Rattle.icl_expressions.specs.Reading.{read_value, read_expr_behind, re
 
 use crate::leaves::number_value;
 use crate::parts::{Part, read_behind, read_parted};
-use crate::reading::{Read, begins_mark, begins_name, read_mark};
+use crate::reading::{Parsed, begins_mark, begins_name, beside, read_mark};
 use crate::stop::Stop;
 use icl_lexer::{Cursor, Lexeme};
 use icl_syntax::{Ends, Expr, Few, Range, Sig, SigWhat, SmallText};
@@ -20,7 +20,7 @@ use std::alloc::Global;
 
 /// Expressions with `,` between them.
 #[tactic(auto, using(crate::proofs::SignalLaws::expr_shrinks), unfolding(crate::specs::Reading::read_value))]
-pub fn read_value<'a>(alloc: Global, tokens: Cursor<'a>) -> Result<Read<'a, Few<Expr>>, Stop>
+pub fn read_value<'a>(alloc: Global, tokens: Cursor<'a>) -> Result<Parsed<'a, Few<Expr>>, Stop>
     ensures shorter { IfOk result (λ r. length r.rest < length tokens.entry) }
     ensures gives { Gives (seen_read (seen_few seen_expr)) result (read_value tokens.entry) }
 {
@@ -35,7 +35,7 @@ pub fn read_expr_behind<'a>(
     alloc: Global,
     tokens: Cursor<'a>,
     mark: u8,
-) -> Result<Read<'a, Expr>, Stop>
+) -> Result<Parsed<'a, Expr>, Stop>
     ensures shorter { IfOk result (λ r. length r.rest < length tokens.entry) }
     ensures gives { Gives (seen_read seen_expr) result (read_expr_behind mark tokens.entry) }
 {
@@ -48,18 +48,18 @@ pub fn maybe_expr_behind<'a>(
     alloc: Global,
     tokens: Cursor<'a>,
     mark: u8,
-) -> Result<Read<'a, Option<Expr>>, Stop>
+) -> Result<Parsed<'a, Option<Expr>>, Stop>
     ensures shorter { IfOk result (λ r. length r.rest ≤ length tokens.entry) }
     ensures gives { Gives (seen_read (option_map seen_expr)) result (read_maybe mark (read_expr_behind mark) tokens.entry) }
 {
     if !begins_mark(&tokens, mark) {
-        return Ok(Read {
+        return Ok(Parsed {
             value: None,
             rest: tokens,
         });
     }
     let expr = read_expr_behind(alloc, tokens, mark)?;
-    Ok(Read {
+    Ok(Parsed {
         value: Some(expr.value),
         rest: expr.rest,
     })
@@ -67,19 +67,19 @@ pub fn maybe_expr_behind<'a>(
 
 /// `[left]` or `[left:right]`.
 #[tactic(auto, unfolding(crate::specs::Reading::read_range))]
-fn read_range<'a>(alloc: Global, tokens: Cursor<'a>) -> Result<Read<'a, Range>, Stop>
+fn read_range<'a>(alloc: Global, tokens: Cursor<'a>) -> Result<Parsed<'a, Range>, Stop>
     ensures shorter { IfOk result (λ r. length r.rest < length tokens.entry) }
     ensures gives { Gives (seen_read seen_range) result (read_range tokens.entry) }
 {
     let open = read_mark(tokens, b'[')?;
     let left = Expr::read(alloc, open.rest)?;
-    let right = maybe_expr_behind(alloc, left.rest, b':')?;
-    let close = read_mark(right.rest, b']')?;
+    let (left, right) = beside(left.value, maybe_expr_behind(alloc, left.rest, b':'))?;
     let ends = Ends {
-        left: left.value,
+        left,
         right: right.value,
     };
-    Ok(Read {
+    let (ends, close) = beside(ends, read_mark(right.rest, b']'))?;
+    Ok(Parsed {
         value: Range {
             at: open.value,
             ends: Box::new(alloc, ends)?,
@@ -89,18 +89,18 @@ fn read_range<'a>(alloc: Global, tokens: Cursor<'a>) -> Result<Read<'a, Range>, 
 }
 
 /// A range, if a `[` is the next token.
-pub fn maybe_range<'a>(alloc: Global, tokens: Cursor<'a>) -> Result<Read<'a, Option<Range>>, Stop>
+pub fn maybe_range<'a>(alloc: Global, tokens: Cursor<'a>) -> Result<Parsed<'a, Option<Range>>, Stop>
     ensures shorter { IfOk result (λ r. length r.rest ≤ length tokens.entry) }
     ensures gives { Gives (seen_read (option_map seen_range)) result (read_maybe 91 read_range tokens.entry) }
 {
     if !begins_mark(&tokens, b'[') {
-        return Ok(Read {
+        return Ok(Parsed {
             value: None,
             rest: tokens,
         });
     }
     let range = read_range(alloc, tokens)?;
-    Ok(Read {
+    Ok(Parsed {
         value: Some(range.value),
         rest: range.rest,
     })
@@ -116,14 +116,14 @@ pub(crate) struct Located {
 }
 
 /// A number.
-fn read_number<'a>(alloc: Global, tokens: Cursor<'a>) -> Result<Read<'a, Located>, Stop>
+fn read_number<'a>(alloc: Global, tokens: Cursor<'a>) -> Result<Parsed<'a, Located>, Stop>
     ensures shorter { IfOk result (λ r. length r.rest < length tokens.entry) }
     ensures gives { Gives (seen_read seen_located) result (read_number tokens.entry) }
 {
     let left = tokens.len();
     match tokens.next() {
         Some((t, rest)) => match number_value(alloc, &t)? {
-            Some(expr) => Ok(Read {
+            Some(expr) => Ok(Parsed {
                 value: Located {
                     at: t.at,
                     what: SigWhat::Value(expr),
@@ -142,11 +142,11 @@ fn read_path<'a>(
     alloc: Global,
     first: SmallText,
     tokens: Cursor<'a>,
-) -> Result<Read<'a, Few<SmallText>>, Stop>
+) -> Result<Parsed<'a, Few<SmallText>>, Stop>
     ensures shorter { IfOk result (λ r. length r.rest ≤ length tokens.entry) }
     ensures gives { Gives (seen_read (seen_few bytes_of)) result (read_path_behind first.items tokens.entry) }
 {
-    let first = Read {
+    let first = Parsed {
         value: first,
         rest: tokens,
     };
@@ -159,13 +159,13 @@ fn named_behind<'a>(
     alloc: Global,
     first: &Lexeme<'a>,
     tokens: Cursor<'a>,
-) -> Result<Read<'a, Located>, Stop>
+) -> Result<Parsed<'a, Located>, Stop>
     ensures shorter { IfOk result (λ r. length r.rest ≤ length tokens.entry) }
     ensures gives { Gives (seen_read seen_located) result (read_named_behind (record { at = first.now.at; name = first.now.text.now }) tokens.entry) }
 {
     let path = read_path(alloc, SmallText::of(alloc, first.text)?, tokens)?;
     let range = maybe_range(alloc, path.rest)?;
-    Ok(Read {
+    Ok(Parsed {
         value: Located {
             at: first.at,
             what: SigWhat::Named {
@@ -179,7 +179,7 @@ fn named_behind<'a>(
 
 /// Names with `.` between them, and maybe a range.
 #[tactic(auto, unfolding(crate::specs::Reading::read_named_sig))]
-fn read_named_sig<'a>(alloc: Global, tokens: Cursor<'a>) -> Result<Read<'a, Located>, Stop>
+fn read_named_sig<'a>(alloc: Global, tokens: Cursor<'a>) -> Result<Parsed<'a, Located>, Stop>
     ensures shorter { IfOk result (λ r. length r.rest < length tokens.entry) }
     ensures gives { Gives (seen_read seen_located) result (read_named_sig tokens.entry) }
 {
@@ -191,7 +191,7 @@ fn read_named_sig<'a>(alloc: Global, tokens: Cursor<'a>) -> Result<Read<'a, Loca
 }
 
 /// A signal without `~`.
-fn read_plain_sig<'a>(alloc: Global, tokens: Cursor<'a>) -> Result<Read<'a, Located>, Stop>
+fn read_plain_sig<'a>(alloc: Global, tokens: Cursor<'a>) -> Result<Parsed<'a, Located>, Stop>
     ensures shorter { IfOk result (λ r. length r.rest < length tokens.entry) }
     ensures gives { Gives (seen_read seen_located) result (read_plain_sig tokens.entry) }
 {
@@ -204,13 +204,13 @@ fn read_plain_sig<'a>(alloc: Global, tokens: Cursor<'a>) -> Result<Read<'a, Loca
 
 /// A signal behind a `~`.
 #[tactic(auto, unfolding(crate::specs::Reading::read_inverted))]
-fn read_inverted<'a>(alloc: Global, tokens: Cursor<'a>) -> Result<Read<'a, Sig>, Stop>
+fn read_inverted<'a>(alloc: Global, tokens: Cursor<'a>) -> Result<Parsed<'a, Sig>, Stop>
     ensures shorter { IfOk result (λ r. length r.rest < length tokens.entry) }
     ensures gives { Gives (seen_read seen_sig) result (read_inverted tokens.entry) }
 {
     let tilde = read_mark(tokens, b'~')?;
     let sig = read_plain_sig(alloc, tilde.rest)?;
-    Ok(Read {
+    Ok(Parsed {
         value: Sig {
             at: tilde.value,
             inverted: true,
@@ -222,7 +222,7 @@ fn read_inverted<'a>(alloc: Global, tokens: Cursor<'a>) -> Result<Read<'a, Sig>,
 
 /// A signal.
 #[tactic(auto, unfolding(crate::specs::Reading::read_sig, crate::specs::Reading::read_straight))]
-pub fn read_sig<'a>(alloc: Global, tokens: Cursor<'a>) -> Result<Read<'a, Sig>, Stop>
+pub fn read_sig<'a>(alloc: Global, tokens: Cursor<'a>) -> Result<Parsed<'a, Sig>, Stop>
     ensures shorter { IfOk result (λ r. length r.rest < length tokens.entry) }
     ensures gives { Gives (seen_read seen_sig) result (read_sig tokens.entry) }
 {
@@ -230,7 +230,7 @@ pub fn read_sig<'a>(alloc: Global, tokens: Cursor<'a>) -> Result<Read<'a, Sig>, 
         return read_inverted(alloc, tokens);
     }
     let sig = read_plain_sig(alloc, tokens)?;
-    Ok(Read {
+    Ok(Parsed {
         value: Sig {
             at: sig.value.at,
             inverted: false,
@@ -242,12 +242,12 @@ pub fn read_sig<'a>(alloc: Global, tokens: Cursor<'a>) -> Result<Read<'a, Sig>, 
 
 /// Signals with `,` between them.
 #[tactic(auto, using(crate::proofs::SignalLaws::sig_shrinks), unfolding(crate::specs::Reading::read_sigs))]
-pub fn read_sigs<'a>(alloc: Global, tokens: Cursor<'a>) -> Result<Read<'a, List<Sig>>, Stop>
+pub fn read_sigs<'a>(alloc: Global, tokens: Cursor<'a>) -> Result<Parsed<'a, List<Sig>>, Stop>
     ensures shorter { IfOk result (λ r. length r.rest < length tokens.entry) }
     ensures gives { Gives (seen_read (seen_list seen_sig)) result (read_sigs tokens.entry) }
 {
     let sigs = read_parted(alloc, tokens, b',')?;
-    Ok(Read {
+    Ok(Parsed {
         value: sigs.value.into_list(alloc)?,
         rest: sigs.rest,
     })

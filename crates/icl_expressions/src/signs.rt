@@ -6,7 +6,7 @@ ghost use Rattle.icl_syntax.specs.Grammar.{sum_sign, product_sign};
 ghost use Rattle.icl_expressions.specs.Seen.{seen_read, seen_sign, Gives};
 ghost use Rattle.icl_expressions.specs.Reading.{begins, is_sign, operator_of, read_operator};
 
-use crate::reading::Read;
+use crate::reading::Parsed;
 use crate::stop::Stop;
 use icl_lexer::{Cursor, Lexeme};
 use icl_syntax::{Limit, Sign};
@@ -90,7 +90,7 @@ fn operator<'a>(
     rest: Cursor<'a>,
     used: u32,
     lone: bool,
-) -> Result<Read<'a, SignAt>, Stop>
+) -> Result<Parsed<'a, SignAt>, Stop>
     ensures shorter { IfOk result (λ r. length r.rest ≡ length rest.entry) }
     ensures bounded { IfOk result (λ r. used < 256) }
     ensures gives { Gives (seen_read seen_sign) result (operator_of (256 - used) lone (option_map seen_sign sign) left rest.entry) }
@@ -99,7 +99,7 @@ fn operator<'a>(
         None => Err(Stop::At(left, None)),
         Some(_) if used >= 256 => Err(Stop::At(left, Some(Limit::OfExpression))),
         Some(_) if lone => Err(Stop::At(left, None)),
-        Some(value) => Ok(Read { value, rest }),
+        Some(value) => Ok(Parsed { value, rest }),
     }
 }
 
@@ -109,7 +109,7 @@ pub(crate) fn read_sum_sign<'a>(
     tokens: Cursor<'a>,
     used: u32,
     lone: bool,
-) -> Result<Read<'a, SignAt>, Stop>
+) -> Result<Parsed<'a, SignAt>, Stop>
     ensures shorter { IfOk result (λ r. length r.rest < length tokens.entry) }
     ensures bounded { IfOk result (λ r. used < 256) }
     ensures gives { Gives (seen_read seen_sign) result (read_operator (256 - used) lone sum_sign tokens.entry) }
@@ -127,7 +127,7 @@ pub(crate) fn read_product_sign<'a>(
     tokens: Cursor<'a>,
     used: u32,
     lone: bool,
-) -> Result<Read<'a, SignAt>, Stop>
+) -> Result<Parsed<'a, SignAt>, Stop>
     ensures shorter { IfOk result (λ r. length r.rest < length tokens.entry) }
     ensures bounded { IfOk result (λ r. used < 256) }
     ensures gives { Gives (seen_read seen_sign) result (read_operator (256 - used) lone product_sign tokens.entry) }

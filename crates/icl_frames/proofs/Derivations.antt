@@ -9,13 +9,13 @@ use Rattle.grammar.specs.Symbol.{Parts, IsOne, ◌>>=◌}
 use Rattle.icl_lexer.specs.Token.{Token}
 use Rattle.icl_lexer.specs.declared.token.TokenKind.{TokenKind}
 use Rattle.icl_lexer.specs.declared.token.TokenKind.TheVariants.{Word, Decimal, Sized, Quoted, Param, Mark}
-use Rattle.icl_lexer.specs.declared.token.Kind.{Kind}
-use Rattle.icl_lexer.specs.declared.token.Kind.TheVariants.{Gap, Is}
+use Rattle.icl_lexer.specs.declared.token.PieceKind.{PieceKind}
+use Rattle.icl_lexer.specs.declared.token.PieceKind.TheVariants.{Gap, Is}
 use Rattle.icl_lexer.specs.Pieces.{kind_of, ends, run, in_digits, is_digit_x, digits, is_base, base, size, in_decimal, decimal, parameter, dollar, quoted, block, slash, in_line, is_mark}
 use Rattle.icl_lexer.specs.Laws.{AreInText}
 use Rattle.icl_lexer.proofs.Total.{tokens_in_text}
-use Rattle.icl_syntax.specs.declared.words.ItemWord.{ItemWord}
-use Rattle.icl_syntax.specs.declared.words.ItemWord.TheVariants.{OfPort, OfRegister, OfMux, OfChild, OfAlias, OfEnum, OfParameter, OfAttribute, OfInterface, OfLink}
+use Rattle.icl_syntax.specs.declared.words.ItemKeyword.{ItemKeyword}
+use Rattle.icl_syntax.specs.declared.words.ItemKeyword.TheVariants.{OfPort, OfRegister, OfMux, OfChild, OfAlias, OfEnum, OfParameter, OfAttribute, OfInterface, OfLink}
 use Rattle.icl_lexer.specs.Seen.{SeenToken, if_word, name_at, mark_at, seen_tokens}
 use Rattle.icl_syntax.specs.Values.{SeenRow, SeenEnumWord, SeenWhat, SeenItem, SeenModule}
 use Rattle.icl_syntax.specs.Grammar.{Of, name, mark, value, sig, sigs, parted, appended}
@@ -25,22 +25,22 @@ use Rattle.icl_frames.proofs.Answering.{all_both}
 
 -- ---- the words of a text are names
 
-some_is : (k l : Kind) → ◌≡◌ {A = Option Kind} (Some k) (Some l) → k ≡ l
+some_is : (k l : PieceKind) → ◌≡◌ {A = Option PieceKind} (Some k) (Some l) → k ≡ l
 some_is k l h = ap value_of h
   where
-    value_of : Option Kind → Kind
+    value_of : Option PieceKind → PieceKind
     value_of None = k
     value_of (Some z) = z
 
 -- other pieces are no words
-abbrev pub IsNoWord : Option Kind → Type 0
+abbrev pub IsNoWord : Option PieceKind → Type 0
 IsNoWord o = o ≡ Some (Is Word) → ⊥
 
-ends_so : (k : Kind) → IsNoWord (Some k) → (bs : List ℕ) → IsNoWord (ends k bs)
+ends_so : (k : PieceKind) → IsNoWord (Some k) → (bs : List ℕ) → IsNoWord (ends k bs)
 ends_so k other [] h = other h
 ends_so k other (b ∷ bs) h = absurd cc
 
-by_test : (t : Bool) (a b : Option Kind) → IsNoWord a → IsNoWord b → IsNoWord (cond t a b)
+by_test : (t : Bool) (a b : Option PieceKind) → IsNoWord a → IsNoWord b → IsNoWord (cond t a b)
 by_test true a b p q = p
 by_test false a b p q = q
 
@@ -65,7 +65,7 @@ no_decimal h = let e = some_is (Is Decimal) (Is Word) h in absurd cc
 no_param : IsNoWord (Some (Is Param))
 no_param h = let e = some_is (Is Param) (Is Word) h in absurd cc
 
-run_so : (class : ℕ → Bool) (k : Kind) → IsNoWord (Some k) → (bs : List ℕ) → IsNoWord (run class k bs)
+run_so : (class : ℕ → Bool) (k : PieceKind) → IsNoWord (Some k) → (bs : List ℕ) → IsNoWord (run class k bs)
 run_so class k other [] = other
 run_so class k other (b ∷ bs) = by_test (class b) (run class k bs) None (run_so class k other bs) no_kind
 
@@ -100,7 +100,7 @@ slash_so [] = no_mark
 slash_so (b ∷ bs) =
     by_test (b == 47) (run in_line Gap bs) (cond (b == 42) (block false bs) None) (run_so in_line Gap no_gap bs) (by_test (b == 42) (block false bs) None (block_so false bs) no_kind)
 
-run_all : (class : ℕ → Bool) (k : Kind) (bs : List ℕ) → run class k bs ≡ Some k → list_all class bs ≡ true
+run_all : (class : ℕ → Bool) (k : PieceKind) (bs : List ℕ) → run class k bs ≡ Some k → list_all class bs ≡ true
 run_all class k [] h = refl
 run_all class k (b ∷ bs) h = by_class (class b) h (λ g. run_all class k bs g)
   where
@@ -109,7 +109,7 @@ run_all class k (b ∷ bs) h = by_class (class b) h (λ g. run_all class k bs g)
     by_class false g again = absurd cc
 
 -- what begins neither as a gap nor as a word
-abbrev other_kind : ℕ → List ℕ → Option Kind
+abbrev other_kind : ℕ → List ℕ → Option PieceKind
 other_kind b bs =
     cond (is_ascii_digit b) (decimal bs)
     (cond (b == 36) (dollar bs) (cond (b == 39) (base bs) (cond (b == 34) (quoted false bs) (cond (b == 47) (slash bs) (cond (is_mark b) (ends (Is Mark) bs) None)))))
@@ -278,7 +278,7 @@ word_written : (ts : List SeenToken) (w : SeenEnumWord) → Fit ts → enum_word
 unfolding enum_word
 word_written ts w f h = let g = halves h.0 h.1 ts h.3 f in subst (λ (x : SeenEnumWord). IsTrue (is_name x.name)) (sym h.5.5.5.5.1) (named h.0 h.2 g.first h.4)
 
-meaning_written : (w : ItemWord) (ts : List SeenToken) (m : SeenWhat) → Fit ts → (meaning_behind w).derives ts m → IsWrittenWhat m
+meaning_written : (w : ItemKeyword) (ts : List SeenToken) (m : SeenWhat) → Fit ts → (meaning_behind w).derives ts m → IsWrittenWhat m
 unfolding port register alias a_parameter attribute child words interface link
 meaning_written (OfPort kind) ts m f h = subst IsWrittenWhat (sym h.5.5.1) tt
 meaning_written OfRegister ts m f h = subst IsWrittenWhat (sym h.5.5.1) tt

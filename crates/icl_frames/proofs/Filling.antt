@@ -186,7 +186,7 @@ pub record IsCounted (c d : Counts) (what : SeenWhat) (b : Bounds) : Type 0 wher
   pub bits : d.bits ≡ c.bits + cond (is_part what) (cond (is_register what) (width b) 0) 0
   pub muxes : d.muxes ≡ c.muxes + cond (is_mux what) 1 0
   pub instruments : d.instruments ≡ c.instruments
-  pub few_bits : c.bits ≤ 4096 → d.bits ≤ 4096
+  pub bits_within_limit : c.bits ≤ 4096 → d.bits ≤ 4096
   pub few_muxes : c.muxes ≤ 1024 → d.muxes ≤ 1024
 
 none_counted : (c d : Counts) (what : SeenWhat) (b : Bounds) → is_register what ≡ false → is_mux what ≡ false → ◌≡◌ {A = Answer Counts} (Ok c) (Ok d) → IsCounted c d what b
@@ -194,7 +194,7 @@ none_counted c d what b r m h = subst (λ (x : Counts). IsCounted c x what b) (o
   bits = rw r (by_part (is_part what));
   muxes = rw m (omega arith);
   instruments = refl;
-  few_bits = λ k. k;
+  bits_within_limit = λ k. k;
   few_muxes = λ k. k;
 })
   where
@@ -207,12 +207,12 @@ counted c d b (ARegister range props) h =
     let a = both (refuse_if (nat_lt 4096 (c.bits + width b)) (Limit ScanBits 4096)) _ d h in
     let few = ltb-false 4096 (c.bits + width b) (not_refused (nat_lt 4096 (c.bits + width b)) (Limit ScanBits 4096) a.first a.is) in
     subst (λ (x : Counts). IsCounted c x (ARegister range props) b) (ok_is (record c { bits = c.bits + width b }) d a.then')
-    (record { bits = refl; muxes = omega arith; instruments = refl; few_bits = λ k. few; few_muxes = λ k. k })
+    (record { bits = refl; muxes = omega arith; instruments = refl; bits_within_limit = λ k. few; few_muxes = λ k. k })
 counted c d b (AMux select rows) h =
     let a = both (refuse_if (nat_le 1024 c.muxes) (Limit Muxes 1024)) _ d h in
     let few = leb-false 1024 c.muxes (not_refused (nat_le 1024 c.muxes) (Limit Muxes 1024) a.first a.is) in
     subst (λ (x : Counts). IsCounted c x (AMux select rows) b) (ok_is (record c { muxes = c.muxes + 1 }) d a.then')
-    (record { bits = omega arith; muxes = refl; instruments = refl; few_bits = λ k. k; few_muxes = λ k. omega (arith, few) })
+    (record { bits = omega arith; muxes = refl; instruments = refl; bits_within_limit = λ k. k; few_muxes = λ k. omega (arith, few) })
 counted c d b (APort kind range props) h = none_counted c d (APort kind range props) b refl refl h
 counted c d b (AChild module' binds) h = none_counted c d (AChild module' binds) b refl refl h
 counted c d b (AnAlias range sigs props) h = none_counted c d (AnAlias range sigs props) b refl refl h
@@ -233,7 +233,7 @@ pub record AreFilled (ps : Params) (c : Counts) (s : Passed) (items : List SeenI
   pub bits : s.counts.bits ≡ c.bits + bits_among (parts_among items) s.bounds
   pub muxes : s.counts.muxes ≡ c.muxes + count_by (λ item. is_mux item.what) items
   pub instruments : s.counts.instruments ≡ c.instruments
-  pub few_bits : c.bits ≤ 4096 → s.counts.bits ≤ 4096
+  pub bits_within_limit : c.bits ≤ 4096 → s.counts.bits ≤ 4096
   pub few_muxes : c.muxes ≤ 1024 → s.counts.muxes ≤ 1024
 
 -- what one item adds
@@ -280,7 +280,7 @@ module _ (blocks : List SeenModule) (above : List (List ℕ)) (ps : Params) wher
             rw parts (omega (arith, more, sum, old));
         muxes = let more = sum_by_push (λ (i : SeenItem). cond (is_mux i.what) 1 0) items item in let sum = l.counted.muxes in let old = p.muxes in omega (arith, more, sum, old);
         instruments = l.counted.instruments ∙ p.instruments;
-        few_bits = λ k. l.counted.few_bits (p.few_bits k);
+        bits_within_limit = λ k. l.counted.bits_within_limit (p.bits_within_limit k);
         few_muxes = λ k. l.counted.few_muxes (p.few_muxes k);
       })
 
@@ -300,7 +300,7 @@ module _ (blocks : List SeenModule) (above : List (List ℕ)) (ps : Params) wher
         bits = omega arith;
         muxes = omega arith;
         instruments = refl;
-        few_bits = λ k. k;
+        bits_within_limit = λ k. k;
         few_muxes = λ k. k;
       })
       h

@@ -68,7 +68,7 @@ pub record IsOneCell (c : Counts) (e : Entered) : Type 0 where
   pub bits : e.counts.bits ≡ c.bits + bits_in e.frame
   pub muxes : e.counts.muxes ≡ c.muxes + muxes_in e.frame
   pub instruments : e.counts.instruments ≡ c.instruments + cond (is_instrument_frame e.frame) 1 0
-  pub few_bits : c.bits ≤ 4096 → e.counts.bits ≤ 4096
+  pub bits_within_limit : c.bits ≤ 4096 → e.counts.bits ≤ 4096
   pub few_muxes : c.muxes ≤ 1024 → e.counts.muxes ≤ 1024
   pub few_instruments : c.instruments ≤ 256 → e.counts.instruments ≤ 256
 
@@ -92,7 +92,7 @@ one_cell blocks above parent c r e h =
       bits = g.bits ∙ f.bits;
       muxes = g.muxes ∙ f.muxes;
       instruments = g.instruments ∙ ap (λ n. n + cond (is_some parent && is_instrument r.block) 1 0) f.instruments;
-      few_bits = λ k. subst (λ n. n ≤ 4096) (sym g.bits) (f.few_bits k);
+      bits_within_limit = λ k. subst (λ n. n ≤ 4096) (sym g.bits) (f.bits_within_limit k);
       few_muxes = λ k. subst (λ n. n ≤ 1024) (sym g.muxes) (f.few_muxes k);
       few_instruments = λ k. g.few (subst (λ n. n ≤ 256) (sym f.instruments) k);
     })
@@ -105,7 +105,7 @@ pub record AreHeld (s : Progress) : Type 0 where
   pub bits : sum_by bits_in s.frames ≡ s.counts.bits
   pub muxes : sum_by muxes_in s.frames ≡ s.counts.muxes
   pub instruments : count_by is_instrument_frame s.frames ≡ s.counts.instruments
-  pub few_bits : s.counts.bits ≤ 4096
+  pub bits_within_limit : s.counts.bits ≤ 4096
   pub few_muxes : s.counts.muxes ≤ 1024
   pub few_instruments : s.counts.instruments ≤ 256
 
@@ -116,7 +116,7 @@ one_more s e p room o = record {
   bits = sum_by_push bits_in s.frames e.frame ∙ ap (λ n. n + bits_in e.frame) p.bits ∙ sym o.bits;
   muxes = sum_by_push muxes_in s.frames e.frame ∙ ap (λ n. n + muxes_in e.frame) p.muxes ∙ sym o.muxes;
   instruments = sum_by_push (λ f. cond (is_instrument_frame f) 1 0) s.frames e.frame ∙ ap (λ n. n + cond (is_instrument_frame e.frame) 1 0) p.instruments ∙ sym o.instruments;
-  few_bits = o.few_bits p.few_bits;
+  bits_within_limit = o.bits_within_limit p.bits_within_limit;
   few_muxes = o.few_muxes p.few_muxes;
   few_instruments = o.few_instruments p.few_instruments;
 }
@@ -144,7 +144,7 @@ all_held blocks top frames h =
       bits = refl;
       muxes = refl;
       instruments = refl;
-      few_bits = omega arith;
+      bits_within_limit = omega arith;
       few_muxes = omega arith;
       few_instruments = omega arith;
     } in
@@ -153,7 +153,7 @@ all_held blocks top frames h =
       p.frames_are,
       record {
         few_cells = p.few;
-        few_bits = subst (λ n. n ≤ 4096) (sym p.bits) p.few_bits;
+        bits_within_limit = subst (λ n. n ≤ 4096) (sym p.bits) p.bits_within_limit;
         few_muxes = subst (λ n. n ≤ 1024) (sym p.muxes) p.few_muxes;
         few_instruments = subst (λ n. n ≤ 256) (sym p.instruments) p.few_instruments;
       },

@@ -4,17 +4,8 @@ use Rattle.std.specs.Prelude.{nat_le}
 use Rattle.ij_text.specs.declared.Which.TheVariants.{Hierarchy, Cells}
 use Rattle.icl_syntax.specs.Values.{SeenModule}
 use Rattle.icl_values.specs.Faults.{Answer, Fault, Fails, ◌>>=◌, refuse_if, over, Limit}
-use Rattle.icl_values.specs.Values.{Params}
-use Rattle.icl_declarations.specs.declared.counts.Counts.{Counts}
-use Rattle.icl_frames.specs.FirstPass.{Request, Passed, Progress, Entered, parameters, pass_items, finish, enter_one, enter}
+use Rattle.icl_frames.specs.FirstPass.{Request, Progress, Entered, enter_one, enter}
 use Rattle.icl_frames.specs.SeenFrames.{Stepped, with_cell}
-
--- a cell whose items are fine, but not their counts
-pub no_counts : (blocks : List SeenModule) (above : List (List ℕ)) (parent : Option ℕ) (c : Counts) (r : Request) (ps : Params) (s : Passed) (e : Option Fault)
-    → parameters r.given r.block ≡ Ok ps → pass_items blocks above ps c r.block ≡ Ok s → Fails e (finish parent r.block s) → Fails e (enter_one blocks above parent c r)
-unfolding enter_one
-no_counts blocks above parent c r ps s None h k g = tt
-no_counts blocks above parent c r ps s (Some e) h k g = rw h (rw k (rw g refl))
 
 pub no_level : (levels : ℕ) (blocks : List SeenModule) (above : List (List ℕ)) (parent : Option ℕ) (s : Progress) (r : Request) → levels ≡ 0 → enter levels blocks above parent s r ≡ Err (Limit Hierarchy 64)
 unfolding enter

@@ -88,7 +88,7 @@ muxes_in f = count_by (λ item. is_mux item.what) f.block.items
 
 pub record AreFew (frames : List Frame) : Type 0 where
   pub few_cells : length frames ≤ 8192
-  pub few_bits : sum_by bits_in frames ≤ 4096
+  pub bits_within_limit : sum_by bits_in frames ≤ 4096
   pub few_muxes : sum_by muxes_in frames ≤ 1024
   pub few_instruments : count_by is_instrument_frame frames ≤ 256
 

@@ -4,6 +4,7 @@ use Rattle.std.specs.Borrow.{Bor}
 use Rattle.icl_syntax.specs.declared.tree.Module.{Module}
 use Rattle.icl_syntax.specs.Values.{SeenItem, SeenModule}
 use Rattle.icl_syntax.specs.Views.{seen_module}
+use Rattle.icl_values.specs.Values.{Params}
 use Rattle.icl_values.specs.Tables.{seen_table}
 use Rattle.icl_values.specs.Faults.{Answer, ◌>>=◌, refuse_if, Limit}
 use Rattle.ij_text.specs.declared.Which.TheVariants.{Cells}
@@ -14,7 +15,7 @@ use Rattle.icl_frames.specs.declared.cells.Frame.{Frame as FrameAt}
 use Rattle.icl_frames.specs.declared.cells.Entered.{Entered as EnteredAt}
 use Rattle.icl_frames.specs.declared.cells.Progress.{Progress as ProgressAt}
 use Rattle.icl_frames.specs.declared.cells.Stepped.{Stepped as SteppedAt}
-use Rattle.icl_frames.specs.FirstPass.{Request, Passed, Added, Frame, Entered, Progress, enter_one}
+use Rattle.icl_frames.specs.FirstPass.{Request, Passed, Added, Frame, Entered, Progress, finish, enter_one}
 
 abbrev pub seen_request : RequestAt → Request
 seen_request r = record { name = r.name.now; block = seen_module r.block.now; given = seen_table r.given }
@@ -45,6 +46,15 @@ abbrev pub seen_progress : ProgressAt → Progress
 seen_progress s = record { frames = map seen_frame s.frames.items; counts = s.counts }
 
 -- ---- one cell more
+
+-- what `enter_one` does behind the items of a cell
+abbrev pub finished : Option ℕ → Request → Params → Passed → Answer Entered
+finished parent r ps s =
+    finish parent r.block s >>= λ counts. Ok (record { frame = record { name = r.name; parent = parent; block = r.block; params = ps; bounds = s.bounds }; requests = s.requests; counts = counts })
+
+-- the next cell, if there is room for one
+abbrev pub entered_next : List SeenModule → List (List ℕ) → Option ℕ → Progress → Request → Answer Entered
+entered_next blocks above parent s r = refuse_if (nat_le 8192 (length s.frames)) (Limit Cells 8192) >>= λ room. enter_one blocks above parent s.counts r
 
 -- the cells with one more, and the instances that it wants
 pub record Stepped : Type 0 where

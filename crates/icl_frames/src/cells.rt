@@ -1,12 +1,13 @@
 // The cells of a design in preorder: each instance before those in it.
-ghost use Rattle.std.specs.Prelude.{◌≡◌, ◌≤◌, ◌∷◌, ◌++◌, [], map, length, nat_le, IfOk, IfErr};
+ghost use Rattle.std.specs.Prelude.{◌≡◌, ◌≤◌, ◌∷◌, ◌++◌, ℕ, List, [], None, map, length, nat_le, IfOk, IfErr, OnOk};
 ghost use Rattle.icl_syntax.specs.Views.{seen_item, seen_module};
 ghost use Rattle.icl_values.specs.Expressions.{same};
 ghost use Rattle.icl_values.specs.Faults.{Gives, refuse_if, over, Limit};
+ghost use Rattle.icl_declarations.specs.Scopes.{entry_of};
 ghost use Rattle.ij_text.specs.declared.Which.TheVariants.{Cells};
 ghost use Rattle.icl_values.specs.Tables.{seen_table};
 ghost use Rattle.icl_frames.specs.FirstPass.{with_block, parameters, pass_items, finish, enter_one, enter, first_pass};
-ghost use Rattle.icl_frames.specs.SeenFrames.{names_of, seen_passed, seen_request, seen_frame, seen_entered, seen_progress, seen_stepped, with_cell};
+ghost use Rattle.icl_frames.specs.SeenFrames.{names_of, seen_passed, seen_request, seen_frame, seen_entered, seen_progress, seen_stepped, finished, entered_next, with_cell};
 
 use crate::ElabFault;
 use crate::frames::{Passed, Request, pass_items};
@@ -100,6 +101,39 @@ fn own_items<'a>(
     )
 }
 
+/// The cell of an instance whose items were passed, with what is counted up to there.
+fn finished<'a>(
+    parent: Option<u32>,
+    request: &Request<'a>,
+    params: ParamTable,
+    passed: Passed<'a>,
+) -> Result<Entered<'a>, ElabFault>
+    ensures few { IfOk result (λ e. e.counts.bits ≡ passed.entry.counts.bits) }
+    ensures gives { Gives seen_entered result (finished parent (seen_request request.now) (seen_table params) (seen_passed (map seen_item request.now.block.now.items.items) passed.entry)) }
+{
+    match finish(parent, request.block, &passed) {
+        Ok(counts) => {
+            drop(passed.taken);
+            Ok(Entered {
+                frame: Frame {
+                    name: request.name,
+                    parent,
+                    block: request.block,
+                    params,
+                    bounds: passed.bounds,
+                },
+                requests: passed.requests,
+                counts,
+            })
+        }
+        Err(e) => {
+            drop(passed);
+            drop(params);
+            Err(e)
+        }
+    }
+}
+
 /// The cell of an instance, which stands in these modules, its own among them.
 #[tactic(auto, unfolding(crate::specs::FirstPass::enter_one))]
 fn enter_one<'a>(
@@ -116,19 +150,13 @@ fn enter_one<'a>(
 {
     let block = request.block;
     let params = own_parameters(alloc, &request.given, block)?;
-    let passed = own_items(alloc, modules, above, &params, counts, block)?;
-    let counts = finish(parent, block, &passed)?;
-    Ok(Entered {
-        frame: Frame {
-            name: request.name,
-            parent,
-            block,
-            params,
-            bounds: passed.bounds,
-        },
-        requests: passed.requests,
-        counts,
-    })
+    match own_items(alloc, modules, above, &params, counts, block) {
+        Ok(passed) => finished(parent, request, params, passed),
+        Err(e) => {
+            drop(params);
+            Err(e)
+        }
+    }
 }
 
 /// The number of the next cell, if there is room for one.
@@ -145,18 +173,13 @@ fn next_cell(frames: &[Frame]) -> Result<u32, ElabFault>
     Ok(frames.len() as u32)
 }
 
-/// The cells with one more.
-fn with_frame<'a>(
-    state: Progress<'a>,
-    frame: Frame<'a>,
-    counts: Counts,
-) -> Result<Progress<'a>, ElabFault>
-    ensures ok { IfOk result (λ s. seen_progress s ≡ record { frames = (seen_progress state.entry).frames ++ seen_frame frame.entry ∷ []; counts = counts }) }
+/// Adds a cell to those before it.
+fn add_frame<'a>(frames: &mut Vec<Frame<'a>>, frame: Frame<'a>) -> Result<(), ElabFault>
+    ensures ok { OnOk result (map seen_frame frames.new.items ≡ map seen_frame frames.old.items ++ seen_frame frame.entry ∷ []) }
     ensures told { IfErr result (λ e. e ≡ ElabFault.OutOfMemory) }
 {
-    let mut frames = state.frames;
     frames.push(frame)?;
-    Ok(Progress { frames, counts })
+    Ok(())
 }
 
 /// The cells with one more, and the instances that it wants.
@@ -168,6 +191,54 @@ pub struct Stepped<'a> {
     pub requests: Vec<Request<'a>>,
     /// The number of the last one.
     pub cell: u32,
+}
+
+/// The cells with one more, which is entered already.
+fn with_entered<'a>(
+    state: Progress<'a>,
+    cell: u32,
+    entered: Entered<'a>,
+) -> Result<Stepped<'a>, ElabFault>
+    ensures ok { IfOk result (λ w. seen_stepped w ≡ record { progress = record { frames = (seen_progress state.entry).frames ++ seen_frame entered.entry.frame ∷ []; counts = entered.entry.counts }; requests = map seen_request entered.entry.requests.items }) }
+    ensures counts { IfOk result (λ w. w.progress.counts ≡ entered.entry.counts) }
+    ensures number { IfOk result (λ w. w.cell ≡ cell) }
+    ensures told { IfErr result (λ e. e ≡ ElabFault.OutOfMemory) }
+{
+    let mut frames = state.frames;
+    match add_frame(&mut frames, entered.frame) {
+        Ok(()) => Ok(Stepped {
+            progress: Progress {
+                frames,
+                counts: entered.counts,
+            },
+            requests: entered.requests,
+            cell,
+        }),
+        Err(e) => {
+            drop(frames);
+            drop(entered.requests);
+            Err(e)
+        }
+    }
+}
+
+/// The number of the next cell, and the cell, which stands in these modules, its own among them.
+fn entered_next<'a>(
+    alloc: Global,
+    modules: &'a [Module],
+    above: &[&'a Module],
+    parent: Option<u32>,
+    state: &Progress<'a>,
+    request: &Request<'a>,
+) -> Result<(u32, Entered<'a>), ElabFault>
+    requires { state.now.counts.bits ≤ 4096 }
+    ensures few { IfOk result (λ p. p.1.counts.bits ≤ 4096) }
+    ensures number { IfOk result (λ p. p.0 ≡ length (map seen_frame state.now.frames.items)) }
+    ensures gives { Gives (λ p. seen_entered p.1) result (entered_next (map seen_module modules.now) (names_of above.now) parent (seen_progress state.now) (seen_request request.now)) }
+{
+    let cell = next_cell(state.frames.as_slice())?;
+    let entered = enter_one(alloc, modules, above, parent, state.counts, request)?;
+    Ok((cell, entered))
 }
 
 /// The cells with that of an instance, which stands in these modules, its own among them.
@@ -185,14 +256,30 @@ fn with_cell<'a>(
     ensures number { IfOk result (λ w. w.cell ≡ length (map seen_frame state.entry.frames.items)) }
     ensures gives { Gives seen_stepped result (with_cell (map seen_module modules.now) (names_of above.now) parent (seen_progress state.entry) (seen_request request.now)) }
 {
-    let cell = next_cell(state.frames.as_slice())?;
-    let entered = enter_one(alloc, modules, above, parent, state.counts, request)?;
-    let progress = with_frame(state, entered.frame, entered.counts)?;
-    Ok(Stepped {
-        progress,
-        requests: entered.requests,
-        cell,
-    })
+    match entered_next(alloc, modules, above, parent, &state, request) {
+        Ok((cell, entered)) => with_entered(state, cell, entered),
+        Err(e) => {
+            drop(state);
+            Err(e)
+        }
+    }
+}
+
+/// Adds a module and those above it.
+fn add_modules<'a>(
+    all: &mut Vec<&'a Module>,
+    block: &'a Module,
+    above: &[&'a Module],
+) -> Result<(), ElabFault>
+    requires { all.old.items ≡ [] }
+    ensures ok { OnOk result (names_of all.new.items ≡ block.now.name.items ∷ names_of above.now) }
+    ensures told { IfErr result (λ e. e ≡ ElabFault.OutOfMemory) }
+{
+    all.push(block)?;
+    for outer in above {
+        all.push(*outer)?;
+    }
+    Ok(())
 }
 
 /// The modules that the cells inside a cell of a module stand in: that module and those above it.
@@ -205,11 +292,13 @@ fn with_module<'a>(
     ensures told { IfErr result (λ e. e ≡ ElabFault.OutOfMemory) }
 {
     let mut all = Vec::new(alloc);
-    all.push(block)?;
-    for outer in above {
-        all.push(*outer)?;
+    match add_modules(&mut all, block, above) {
+        Ok(()) => Ok(all),
+        Err(e) => {
+            drop(all);
+            Err(e)
+        }
     }
-    Ok(all)
 }
 
 /// The cells with that of an instance and all below it, in so many levels.
@@ -227,6 +316,7 @@ fn enter<'a>(
     ensures gives { Gives seen_progress result (enter levels (map seen_module modules.now) (names_of above.now) parent (seen_progress state.entry) (seen_request request.now)) }
 {
     if levels == 0 {
+        drop(state);
         return Err(ElabFault::Limit {
             which: Which::Hierarchy,
             number: 64,
@@ -251,11 +341,11 @@ fn enter<'a>(
     Ok(cells)
 }
 
-/// Whether the names of the modules differ.
-fn distinct_modules(alloc: Global, modules: &[Module]) -> Result<(), ElabFault>
+/// Adds the names of modules to those before them, from which they differ.
+fn note_modules(alloc: Global, seen: &mut Scope, modules: &[Module]) -> Result<(), ElabFault>
+    requires { (name : List ℕ) → entry_of seen.old name ≡ None }
     ensures { Gives (λ u. map seen_module modules.now) result (over with_block [] (map seen_module modules.now)) }
 {
-    let mut seen = Scope::new(alloc);
     for block in modules {
         if seen.has(block.name.as_slice()) {
             let name = name_of(alloc, block.name.as_slice())?;
@@ -264,6 +354,16 @@ fn distinct_modules(alloc: Global, modules: &[Module]) -> Result<(), ElabFault>
         seen.note(alloc, block.name.as_slice())?;
     }
     Ok(())
+}
+
+/// Whether the names of the modules differ.
+fn distinct_modules(alloc: Global, modules: &[Module]) -> Result<(), ElabFault>
+    ensures { Gives (λ u. map seen_module modules.now) result (over with_block [] (map seen_module modules.now)) }
+{
+    let mut seen = Scope::new(alloc);
+    let noted = note_modules(alloc, &mut seen, modules);
+    drop(seen);
+    noted
 }
 
 /// The cells of a design with this top module, in preorder (IEEE 1687-2014, ICL: Module, Instance, Parameter): the top, which has
@@ -299,6 +399,7 @@ pub fn first_pass<'a>(
             instruments: 0,
         },
     };
-    let end = enter(alloc, modules, &[], 65, None, nothing, &request)?;
-    Ok(end.frames)
+    let end = enter(alloc, modules, &[], 65, None, nothing, &request);
+    drop(request);
+    Ok(end?.frames)
 }

@@ -1,5 +1,5 @@
 // The items of a cell, one after another.
-ghost use Rattle.std.specs.Prelude.{◌≡◌, ◌≤◌, ◌++◌, ◌∷◌, List, [], map, IfOk, IfErr};
+ghost use Rattle.std.specs.Prelude.{◌≡◌, ◌≤◌, ◌++◌, ◌∷◌, List, [], map, IfOk, IfErr, OnOk};
 ghost use Rattle.std.specs.List.{list_any};
 ghost use Rattle.std.specs.Str.{bytes_eq};
 ghost use Rattle.icl_syntax.specs.Values.{SeenItem, AChild};
@@ -110,31 +110,29 @@ fn declared_by(alloc: Global, params: &ParamTable, what: &What) -> Result<Bounds
     }
 }
 
-/// The bounds with those of one item more, where it is a part.
-fn with_bounds(what: &What, b: Bounds, bounds: Vec<Bounds>) -> Result<Vec<Bounds>, ElabFault>
-    ensures ok { IfOk result (λ more. more.items ≡ bounds.items ++ bounds_of (seen_what what.now) b) }
+/// Adds the bounds of an item to those before it, where it is a part.
+fn add_bounds(what: &What, b: Bounds, bounds: &mut Vec<Bounds>) -> Result<(), ElabFault>
+    ensures ok { OnOk result (bounds.new.items ≡ bounds.old.items ++ bounds_of (seen_what what.now) b) }
     ensures told { IfErr result (λ e. e ≡ ElabFault.OutOfMemory) }
 {
-    let mut bounds = bounds;
     if is_part(what) {
         bounds.push(b)?;
     }
-    Ok(bounds)
+    Ok(())
 }
 
-/// The requests with one more, where one is wanted.
-fn with_request<'a>(
+/// Adds a request to those before it, where one is wanted.
+fn add_request<'a>(
     wanted: Option<Request<'a>>,
-    requests: Vec<Request<'a>>,
-) -> Result<Vec<Request<'a>>, ElabFault>
-    ensures ok { IfOk result (λ more. map seen_request more.items ≡ map seen_request requests.entry.items ++ seen_wanted wanted.entry) }
+    requests: &mut Vec<Request<'a>>,
+) -> Result<(), ElabFault>
+    ensures ok { OnOk result (map seen_request requests.new.items ≡ map seen_request requests.old.items ++ seen_wanted wanted.entry) }
     ensures told { IfErr result (λ e. e ≡ ElabFault.OutOfMemory) }
 {
-    let mut requests = requests;
     if let Some(r) = wanted {
         requests.push(r)?;
     }
-    Ok(requests)
+    Ok(())
 }
 
 /// What an item adds.
@@ -174,32 +172,53 @@ fn look_at<'a>(
     })
 }
 
-/// What is known with what one item more adds.
-fn with_added<'a>(
+/// Adds what one item more adds to what is known.
+fn add<'a>(
     alloc: Global,
-    state: Passed<'a>,
+    state: &mut Passed<'a>,
     item: &'a Item,
     added: Added<'a>,
-) -> Result<Passed<'a>, ElabFault>
+) -> Result<(), ElabFault>
     ensures told { IfErr result (λ e. e ≡ ElabFault.OutOfMemory) }
-    ensures counts { IfOk result (λ s. s.counts ≡ added.entry.counts) }
-    ensures taken { IfOk result (λ s. (items : List SeenItem) → AreTaken state.entry.taken items → AreTaken s.taken (items ++ seen_item item.now ∷ [])) }
-    ensures added { IfOk result (λ s. (items : List SeenItem) → seen_passed (items ++ seen_item item.now ∷ []) s ≡ with_added (seen_passed items state.entry) (seen_item item.now) (seen_added added.entry)) }
+    ensures counts { OnOk result (state.new.counts ≡ added.entry.counts) }
+    ensures taken { OnOk result ((items : List SeenItem) → AreTaken state.old.taken items → AreTaken state.new.taken (items ++ seen_item item.now ∷ [])) }
+    ensures added { OnOk result ((items : List SeenItem) → seen_passed (items ++ seen_item item.now ∷ []) state.new ≡ with_added (seen_passed items state.old) (seen_item item.now) (seen_added added.entry)) }
 {
-    let mut taken = state.taken;
-    taken.pass(alloc, item)?;
-    let bounds = with_bounds(&item.what, added.bounds, state.bounds)?;
-    let requests = with_request(added.wanted, state.requests)?;
-    Ok(Passed {
-        taken,
-        bounds,
-        requests,
-        counts: added.counts,
-    })
+    add_request(added.wanted, &mut state.requests)?;
+    state.taken.pass(alloc, item)?;
+    add_bounds(&item.what, added.bounds, &mut state.bounds)?;
+    state.counts = added.counts;
+    Ok(())
+}
+
+/// Adds one item more to what is known.
+#[tactic(auto, unfolding(crate::specs::FirstPass::pass_item))]
+fn add_item<'a>(
+    alloc: Global,
+    modules: &'a [Module],
+    above: &[&Module],
+    params: &ParamTable,
+    state: &mut Passed<'a>,
+    item: &'a Item,
+) -> Result<(), ElabFault>
+    requires { state.old.counts.bits ≤ 4096 }
+    ensures few { OnOk result (state.new.counts.bits ≤ 4096) }
+    ensures taken { OnOk result ((items : List SeenItem) → AreTaken state.old.taken items → AreTaken state.new.taken (items ++ seen_item item.now ∷ [])) }
+    ensures gives { (items : List SeenItem) → AreTaken state.old.taken items → Gives (λ u. seen_passed (items ++ seen_item item.now ∷ []) state.new) result (pass_item (map seen_module modules.now) (names_of above.now) (seen_table params.now) (seen_passed items state.old) (seen_item item.now)) }
+{
+    let added = look_at(
+        alloc,
+        modules,
+        above,
+        params,
+        &state.taken,
+        state.counts,
+        item,
+    )?;
+    add(alloc, state, item, added)
 }
 
 /// One item more.
-#[tactic(auto, unfolding(crate::specs::FirstPass::pass_item))]
 fn pass_item<'a>(
     alloc: Global,
     modules: &'a [Module],
@@ -213,16 +232,15 @@ fn pass_item<'a>(
     ensures taken { IfOk result (λ s. (items : List SeenItem) → AreTaken state.entry.taken items → AreTaken s.taken (items ++ seen_item item.now ∷ [])) }
     ensures gives { (items : List SeenItem) → AreTaken state.entry.taken items → Gives (seen_passed (items ++ seen_item item.now ∷ [])) result (pass_item (map seen_module modules.now) (names_of above.now) (seen_table params.now) (seen_passed items state.entry) (seen_item item.now)) }
 {
-    let added = look_at(
-        alloc,
-        modules,
-        above,
-        params,
-        &state.taken,
-        state.counts,
-        item,
-    )?;
-    with_added(alloc, state, item, added)
+    let mut state = state;
+    match add_item(alloc, modules, above, params, &mut state, item) {
+        Ok(()) => Ok(state),
+        Err(e) => {
+            // Let go of by a call, which is quick to prove.
+            drop(state);
+            Err(e)
+        }
+    }
 }
 
 /// The items of a module.

@@ -73,6 +73,31 @@ pub fn is_open(block: &Module, name: &[u8]) -> bool
     has_parameter(block, false, name) && !has_parameter(block, true, name)
 }
 
+/// Adds a parameter to those that an instance binds.
+fn bind(
+    alloc: Global,
+    params: &ParamTable,
+    block: &Module,
+    given: &mut ParamTable,
+    at: Place,
+    name: &SmallText,
+    e: &Expr,
+) -> Result<(), ElabFault>
+    ensures { Gives (λ u. seen_table given.new) result (with_binding (seen_table params.now) (seen_module block.now) (seen_table given.old) (ABoundParameter at name.now.items (seen_expr e.now))) }
+{
+    if !is_open(block, name.as_slice()) {
+        let name = name_of(alloc, name.as_slice())?;
+        return Err(ElabFault::NoName { at, name });
+    }
+    if given.find(name.as_slice()).is_some() {
+        let name = name_of(alloc, name.as_slice())?;
+        return Err(ElabFault::DoubleName { at, name });
+    }
+    let value = evaluate(alloc, params, e, at)?;
+    given.insert(alloc, name.as_slice(), value)?;
+    Ok(())
+}
+
 /// The parameters that an instance binds, with one more.
 fn with_bound(
     alloc: Global,
@@ -85,18 +110,14 @@ fn with_bound(
 ) -> Result<ParamTable, ElabFault>
     ensures { Gives seen_table result (with_binding (seen_table params.now) (seen_module block.now) (seen_table given) (ABoundParameter at name.now.items (seen_expr e.now))) }
 {
-    if !is_open(block, name.as_slice()) {
-        let name = name_of(alloc, name.as_slice())?;
-        return Err(ElabFault::NoName { at, name });
-    }
-    if given.find(name.as_slice()).is_some() {
-        let name = name_of(alloc, name.as_slice())?;
-        return Err(ElabFault::DoubleName { at, name });
-    }
-    let value = evaluate(alloc, params, e, at)?;
     let mut given = given;
-    given.insert(alloc, name.as_slice(), value)?;
-    Ok(given)
+    match bind(alloc, params, block, &mut given, at, name, e) {
+        Ok(()) => Ok(given),
+        Err(e) => {
+            drop(given);
+            Err(e)
+        }
+    }
 }
 
 /// The parameters that an instance binds, with one more where the binding is one. They are evaluated in the parent.

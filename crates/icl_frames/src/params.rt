@@ -1,6 +1,7 @@
 // The parameters of a cell.
 ghost use Rattle.std.specs.Prelude.{◌≡◌, [], map};
 ghost use Rattle.std.specs.Option.{option_map};
+ghost use Rattle.icl_syntax.specs.Values.{AParameter};
 ghost use Rattle.icl_syntax.specs.Views.{seen_expr, seen_what, seen_item};
 ghost use Rattle.icl_values.specs.Faults.{Gives, over};
 ghost use Rattle.icl_values.specs.Values.{seen_value};
@@ -45,6 +46,22 @@ fn value_of(
     }
 }
 
+/// Adds a parameter to those of a cell.
+fn add_parameter(
+    alloc: Global,
+    given: &ParamTable,
+    params: &mut ParamTable,
+    item: &Item,
+    local: bool,
+    e: &Expr,
+) -> Result<(), ElabFault>
+    ensures { Gives (λ u. seen_table params.new) result (with_parameter (seen_table given.now) (seen_table params.old) (seen_item item.now) (AParameter local (seen_expr e.now))) }
+{
+    let value = value_of(alloc, given, params, item.at, &item.name, local, e)?;
+    params.insert(alloc, item.name.as_slice(), value)?;
+    Ok(())
+}
+
 /// The parameters with one more, where the item is one.
 fn with_parameter(
     alloc: Global,
@@ -56,10 +73,14 @@ fn with_parameter(
 {
     match &item.what {
         What::Parameter { local, value } => {
-            let value = value_of(alloc, given, &params, item.at, &item.name, *local, value)?;
             let mut params = params;
-            params.insert(alloc, item.name.as_slice(), value)?;
-            Ok(params)
+            match add_parameter(alloc, given, &mut params, item, *local, value) {
+                Ok(()) => Ok(params),
+                Err(e) => {
+                    drop(params);
+                    Err(e)
+                }
+            }
         }
         _ => Ok(params),
     }

@@ -3,7 +3,7 @@ use Rattle.std.proofs.Common.{◌≡◌, ℕ, ◌+◌, ◌-◌, List, ◌++◌, 
 use Rattle.std.proofs.lemmas.List.{take-append-drop}
 use Rattle.ij_text.specs.declared.Place.{Place}
 use Rattle.ij_text.specs.Places.{place_behind}
-use Rattle.icl_lexer.specs.declared.token.Kind.{Kind}
+use Rattle.icl_lexer.specs.declared.token.PieceKind.{PieceKind}
 use Rattle.icl_lexer.specs.Cutting.{IsPiece}
 use Rattle.icl_lexer.specs.Seen.{seen_piece, tokens_in}
 use Rattle.icl_lexer.proofs.Cuts.{rest_is}
@@ -13,7 +13,7 @@ use Rattle.icl_lexer.proofs.Fronts.{tokens_step}
 abbrev pub cut_off : List ℕ → ℕ → List ℕ
 cut_off rest len = take (length rest - len) (drop len rest)
 
-pub piece_step : (rest : List ℕ) (at : Place) (found kind : Kind) (len : ℕ) → IsPiece rest found len → found ≡ kind
+pub piece_step : (rest : List ℕ) (at : Place) (found kind : PieceKind) (len : ℕ) → IsPiece rest found len → found ≡ kind
     → seen_piece kind at (take len rest) ++ tokens_in (cut_off rest len) (place_behind at (take len rest)) ≡ tokens_in rest at
 piece_step rest at found kind len p is =
     ap (λ (l : List ℕ). seen_piece kind at (take len rest) ++ tokens_in l (place_behind at (take len rest))) (rest_is rest len)

@@ -6,7 +6,7 @@ use Rattle.std.proofs.Math.Seq.{take-append_seam}
 use Rattle.ij_text.specs.Places.{first_place, place_at, place_behind}
 use Rattle.ij_text.proofs.Behind.{place_behind-append}
 use Rattle.icl_lexer.specs.Token.{Token}
-use Rattle.icl_lexer.specs.declared.token.Kind.{Kind}
+use Rattle.icl_lexer.specs.declared.token.PieceKind.{PieceKind}
 use Rattle.icl_lexer.specs.Cutting.{IsPiece, Piece, joined, AreLongest, IsCutUpTo, tokens_from, token_of}
 
 -- the text is cut up to a byte and place, and these are the tokens so far
@@ -49,7 +49,7 @@ take_front : (text : List ℕ) (n len : ℕ) → len ≤ length (drop n text) �
 take_front text n len h = let e = length-take len (drop n text) in omega (arith, e, h)
 
 -- a piece at the end
-pub cut_more : (text : List ℕ) (tokens : List Token) (start : ℕ) (at : Place) (kind : Kind) (len : ℕ) → CutSoFar text tokens start at → IsPiece (drop start text) kind len
+pub cut_more : (text : List ℕ) (tokens : List Token) (start : ℕ) (at : Place) (kind : PieceKind) (len : ℕ) → CutSoFar text tokens start at → IsPiece (drop start text) kind len
     → CutSoFar text (tokens ++ token_of kind at start (start + len)) (start + len) (place_behind at (take len (drop start text)))
 cut_more text tokens start at kind len so_far piece =
     let rest = drop start text in

@@ -6,8 +6,8 @@ use Rattle.std.proofs.Math.Seq.{take-append_seam, drop-append_seam}
 use Rattle.ij_text.specs.declared.Place.{Place}
 use Rattle.ij_text.specs.Places.{first_place, place_behind}
 use Rattle.icl_lexer.specs.Token.{Token}
-use Rattle.icl_lexer.specs.declared.token.Kind.{Kind}
-use Rattle.icl_lexer.specs.declared.token.Kind.TheVariants.{Gap, Is}
+use Rattle.icl_lexer.specs.declared.token.PieceKind.{PieceKind}
+use Rattle.icl_lexer.specs.declared.token.PieceKind.TheVariants.{Gap, Is}
 use Rattle.icl_lexer.specs.declared.pieces.Match.{Match}
 use Rattle.icl_lexer.specs.Matches.{longest_match}
 use Rattle.icl_lexer.specs.Cutting.{IsPiece, NoPiece, Piece, joined, AreLongest, AreTokens, tokens_from, token_of, opens_comment}
@@ -39,7 +39,7 @@ front_begins text = by_match (longest_match text (length text)) refl
     by_match None e = no_piece text e
     by_match (Some found) e = by_mark found e (opens_comment text) refl (found.len == 1) refl
 
-pub front_is : (text : List ℕ) (kind : Kind) (len : ℕ) → IsPiece text kind len → front text ≡ Some (record { kind = kind; len = len })
+pub front_is : (text : List ℕ) (kind : PieceKind) (len : ℕ) → IsPiece text kind len → front text ≡ Some (record { kind = kind; len = len })
 front_is text kind len p = by (front text) (front_begins text)
   where
     by : (f : Option Match) → Begins text f → f ≡ Some (record { kind = kind; len = len })
@@ -55,7 +55,7 @@ front_none text none = by (front text) (front_begins text)
 
 -- ---- tokens by their pieces
 
-shorter : (text : List ℕ) (kind : Kind) (len n : ℕ) → IsPiece text kind len → length text ≤ suc n → length (drop len text) ≤ n
+shorter : (text : List ℕ) (kind : PieceKind) (len n : ℕ) → IsPiece text kind len → length text ≤ suc n → length (drop len text) ≤ n
 shorter text kind len n p h = let some = piece_some text kind len p in let within = p.within in omega (arith, h, some, within, length-drop len text)
 
 -- no token in no bytes
@@ -82,7 +82,7 @@ enough (suc n) (suc m) text at h k = by (front text) (front_begins text) (λ res
         (again (drop found.len text) (place_behind at (take found.len text)) (shorter text found.kind found.len n p h) (shorter text found.kind found.len m p k))
 
 -- a piece, and the tokens behind it
-pub tokens_step : (text : List ℕ) (at : Place) (kind : Kind) (len : ℕ) → IsPiece text kind len
+pub tokens_step : (text : List ℕ) (at : Place) (kind : PieceKind) (len : ℕ) → IsPiece text kind len
     → tokens_in text at ≡ seen_piece kind at (take len text) ++ tokens_in (drop len text) (place_behind at (take len text))
 unfolding tokens_in tokens_within
 tokens_step text at kind len p =
@@ -109,7 +109,7 @@ seen_count : (text : List ℕ) (ts : List Token) → length (seen_tokens text ts
 seen_count text [] = refl
 seen_count text (t ∷ ts) = ap suc (seen_count text ts)
 
-seen_one : (text : List ℕ) (kind : Kind) (at : Place) (start end : ℕ) (bytes : List ℕ) → slice_range text start end ≡ bytes → seen_tokens text (token_of kind at start end) ≡ seen_piece kind at bytes
+seen_one : (text : List ℕ) (kind : PieceKind) (at : Place) (start end : ℕ) (bytes : List ℕ) → slice_range text start end ≡ bytes → seen_tokens text (token_of kind at start end) ≡ seen_piece kind at bytes
 seen_one text Gap at start end bytes e = refl
 seen_one text (Is kind) at start end bytes e = ap (λ (l : List ℕ). record { kind = kind; at = at; text = l } ∷ []) e
 
@@ -142,11 +142,11 @@ seen_is text tokens (ps, c, e) =
 
 -- ---- how many there are
 
-pub count_few : (kind : Kind) → count_of kind ≤ 1
+pub count_few : (kind : PieceKind) → count_of kind ≤ 1
 count_few Gap = omega arith
 count_few (Is kind) = omega arith
 
-pub counted : (kind : Kind) (at : Place) (start end : ℕ) → length (token_of kind at start end) ≡ count_of kind
+pub counted : (kind : PieceKind) (at : Place) (start end : ℕ) → length (token_of kind at start end) ≡ count_of kind
 counted Gap at start end = refl
 counted (Is kind) at start end = refl
 

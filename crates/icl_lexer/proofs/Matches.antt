@@ -1,6 +1,6 @@
 -- The longest match, found by the states.
 use Rattle.std.proofs.Common.{◌≡◌, ◌++◌, ◌+◌, ◌<◌, ◌≤◌, ℕ, zero, suc, [], ◌∷◌, List, length, take, drop, get_or, Option, Some, None, refl, sym, ap, subst, ◌∙◌, arith, inl, inr, ◌⊎◌, true, false}
-use Rattle.icl_lexer.specs.declared.token.Kind.{Kind}
+use Rattle.icl_lexer.specs.declared.token.PieceKind.{PieceKind}
 use Rattle.icl_lexer.specs.declared.pieces.Match.{Match}
 use Rattle.icl_lexer.specs.Pieces.{kind_of}
 use Rattle.icl_lexer.specs.Matches.{longer, longest_match}
@@ -60,7 +60,7 @@ pub told : (text : List ℕ) (n : ℕ) → Told text n (longest_match text n)
 told text zero = nothing text
 told text (suc n) = step (longest_match text n) (told text n) (kind_of (take (suc n) text)) refl
   where
-    step : (found : Option Match) → Told text n found → (k : Option Kind) → kind_of (take (suc n) text) ≡ k → Told text (suc n) (longer found k (suc n))
+    step : (found : Option Match) → Told text n found → (k : Option PieceKind) → kind_of (take (suc n) text) ≡ k → Told text (suc n) (longer found k (suc n))
     step found h (Some kind) e = (omega arith, omega arith, e, λ m lt le. absurd (omega (arith, lt, le)))
     step None h None e = λ m le. up_to text m n le (h m) e
     step (Some found) h None e = (h.0, omega (arith, h.1), h.2, λ m lt le. up_to text m n le (h.3 m lt) e)
@@ -77,7 +77,7 @@ is_piece text found e h =
     above_one : (n : ℕ) → 0 < n → (n ≡ 1 → ⊥) → 1 < n
     above_one n some ne = omega (arith, some, ne)
 
-abbrev some_kind : Kind → Option Kind
+abbrev some_kind : PieceKind → Option PieceKind
 some_kind k = Some k
 
 -- without a match there is no piece

@@ -4,8 +4,8 @@ use Rattle.std.proofs.lemmas.Bool.{eqb-true}
 use Rattle.ij_text.specs.Bytes.{is_blank}
 use Rattle.ij_text.specs.Words.{begins_name, in_name}
 use Rattle.icl_lexer.specs.declared.token.TokenKind.TheVariants.{Word}
-use Rattle.icl_lexer.specs.declared.token.Kind.{Kind}
-use Rattle.icl_lexer.specs.declared.token.Kind.TheVariants.{Gap, Is}
+use Rattle.icl_lexer.specs.declared.token.PieceKind.{PieceKind}
+use Rattle.icl_lexer.specs.declared.token.PieceKind.TheVariants.{Gap, Is}
 use Rattle.icl_lexer.specs.Pieces.{kind_of, ends, run}
 use Rattle.icl_lexer.specs.Matches.{run_len}
 use Rattle.icl_lexer.specs.Cutting.{IsPiece, opens_comment}
@@ -18,11 +18,11 @@ cond_false : {A : Type 0} (c : Bool) (x y : A) → c ≡ false → cond c x y �
 cond_false true x y h = absurd cc
 cond_false false x y h = refl
 
-abbrev gap : Option Kind
+abbrev gap : Option PieceKind
 gap = Some Gap
 
 -- no byte may follow a `/` that is a whole piece; but it begins a comment
-no_slash : (kind : Kind) → ((bs : List ℕ) → ends kind bs ≡ kind_of (47 ∷ bs)) → ⊥
+no_slash : (kind : PieceKind) → ((bs : List ℕ) → ends kind bs ≡ kind_of (47 ∷ bs)) → ⊥
 no_slash kind h = absurd (let no : None ≡ gap = h (47 ∷ []) in cc)
 
 begins_slash : (b : ℕ) (rest : List ℕ) → opens_comment (b ∷ rest) ≡ true → b ≡ 47
@@ -34,7 +34,7 @@ begins_slash b (c ∷ rest) h = eqb-true b 47 (first (b == 47) _ h)
     first false y h = absurd cc
 
 -- a byte that no byte may follow is a piece
-pub whole_piece : (b : ℕ) (rest : List ℕ) (kind : Kind) → ((bs : List ℕ) → ends kind bs ≡ kind_of (b ∷ bs)) → IsPiece (b ∷ rest) kind 1
+pub whole_piece : (b : ℕ) (rest : List ℕ) (kind : PieceKind) → ((bs : List ℕ) → ends kind bs ≡ kind_of (b ∷ bs)) → IsPiece (b ∷ rest) kind 1
 whole_piece b rest kind h = record {
   within = omega arith;
   one = sym (h []);
@@ -48,7 +48,7 @@ whole_piece b rest kind h = record {
     longest [] (suc (suc n)) lt le = absurd (omega (arith, le))
     longest (c ∷ rest) (suc (suc n)) lt le = sym (h (c ∷ take n rest))
 
-module _ (class : ℕ → Bool) (k : Kind) where
+module _ (class : ℕ → Bool) (k : PieceKind) where
   run_took : (bs : List ℕ) → run class k (take (run_len class bs) bs) ≡ Some k
   run_took [] = refl
   run_took (b ∷ bs) = at (class b) refl (run_took bs)
@@ -91,9 +91,6 @@ run_out class [] (suc n) h = refl
 run_out class (b ∷ bs) zero h = absurd (omega (arith, h))
 run_out class (b ∷ bs) (suc n) h = run_out class bs n (omega (arith, h))
 
-abbrev word : Option Kind
-word = Some (Is Word)
-
 no_slash_word : ((bs : List ℕ) → run in_name (Is Word) bs ≡ kind_of (47 ∷ bs)) → ⊥
 no_slash_word h = absurd (let no : None ≡ gap = h (47 ∷ []) in cc)
 
@@ -111,7 +108,7 @@ word_piece b rest h = record {
     longest (suc n) lt le = sym (h (take n rest)) ∙ run_stops in_name (Is Word) rest n (omega (arith, lt)) (omega (arith, le))
 
 -- the same for a text with a byte
-pub whole_at : (text : List ℕ) (kind : Kind) → 1 ≤ length text → ((bs : List ℕ) → ends kind bs ≡ kind_of (get_or text 0 0 ∷ bs)) → IsPiece text kind 1
+pub whole_at : (text : List ℕ) (kind : PieceKind) → 1 ≤ length text → ((bs : List ℕ) → ends kind bs ≡ kind_of (get_or text 0 0 ∷ bs)) → IsPiece text kind 1
 whole_at [] kind some h = absurd (omega (arith, some))
 whole_at (b ∷ rest) kind some h = whole_piece b rest kind h
 

@@ -7,8 +7,8 @@ use Rattle.ij_text.specs.declared.Place.{Place}
 use Rattle.ij_text.specs.Places.{first_place, place_behind}
 use Rattle.ij_text.proofs.Behind.{place_behind-append}
 use Rattle.icl_lexer.specs.Token.{Token}
-use Rattle.icl_lexer.specs.declared.token.Kind.{Kind}
-use Rattle.icl_lexer.specs.declared.token.Kind.TheVariants.{Gap, Is}
+use Rattle.icl_lexer.specs.declared.token.PieceKind.{PieceKind}
+use Rattle.icl_lexer.specs.declared.token.PieceKind.TheVariants.{Gap, Is}
 use Rattle.icl_lexer.specs.declared.fault.LexFault.{LexFault}
 use Rattle.icl_lexer.specs.declared.pieces.Match.{Match}
 use Rattle.icl_lexer.specs.Pieces.{kind_of}
@@ -32,7 +32,7 @@ cut_from : (n : ℕ) (text : List ℕ) (tokens : List Token) (start : ℕ) (at :
 cut_from zero text tokens start at c le = whole text tokens start at c (nil_from_length (drop start text) (omega (arith, le)))
 cut_from (suc n) text tokens start at c le = by_rest (drop start text) refl (λ kind len piece shorter. cut_from n text (tokens ++ token_of kind at start (start + len)) (start + len) (place_behind at (take len (drop start text))) (cut_more text tokens start at kind len c piece) shorter)
   where
-    by_rest : (rest : List ℕ) → drop start text ≡ rest → ((kind : Kind) (len : ℕ) → IsPiece (drop start text) kind len → length (drop (start + len) text) ≤ n → Outcome text) → Outcome text
+    by_rest : (rest : List ℕ) → drop start text ≡ rest → ((kind : PieceKind) (len : ℕ) → IsPiece (drop start text) kind len → length (drop (start + len) text) ≤ n → Outcome text) → Outcome text
     by_rest [] e again = whole text tokens start at c e
     by_rest (b ∷ bs) e again = by_piece (front (drop start text)) (front_begins (drop start text))
       where
@@ -60,12 +60,12 @@ cut_or_fault text = cut_from (length text) text [] 0 first_place (nothing_cut te
 
 -- ---- tokens stand in their text
 
-abbrev some_kind : Kind → Option Kind
+abbrev some_kind : PieceKind → Option PieceKind
 some_kind k = Some k
 
 -- the token that a piece is, in front of those behind it
 with_token : (p : Piece) (ps : List Piece) (text front : List ℕ) (from : ℕ) → front ++ joined (p ∷ ps) [] ≡ text → AreLongest (p ∷ ps) [] → from ≤ length front
-    → (kind : Kind) → p.kind ≡ kind
+    → (kind : PieceKind) → p.kind ≡ kind
     → ((next : ℕ) → next ≤ length front + length p.bytes → AreInText text next (tokens_from (length front + length p.bytes) (place_behind (place_behind first_place front) p.bytes) ps))
     → AreInText text from (token_of kind (place_behind first_place front) (length front) (length front + length p.bytes) ++ tokens_from (length front + length p.bytes) (place_behind (place_behind first_place front) p.bytes) ps)
 with_token p ps text front from e h le Gap is others = others from (omega (arith, le))

@@ -3,15 +3,15 @@ use Rattle.std.proofs.Common.{◌≡◌, ℕ, zero, suc, ◌<◌, List, [], ◌�
 use Rattle.std.proofs.Math.Seq.{take-append_seam, drop-append_seam}
 use Rattle.ij_text.specs.Places.{first_place, place_behind}
 use Rattle.icl_lexer.specs.Token.{Token}
-use Rattle.icl_lexer.specs.declared.token.Kind.{Kind}
+use Rattle.icl_lexer.specs.declared.token.PieceKind.{PieceKind}
 use Rattle.icl_lexer.specs.declared.fault.LexFault.{LexFault}
 use Rattle.icl_lexer.specs.Pieces.{kind_of}
 use Rattle.icl_lexer.specs.Cutting.{IsPiece, NoPiece, Piece, joined, AreLongest, IsCutUpTo, AreTokens, HasFault, tokens_from, fault_of}
 
-abbrev some_kind : Kind → Option Kind
+abbrev some_kind : PieceKind → Option PieceKind
 some_kind k = Some k
 
-some_is : (k l : Kind) → some_kind k ≡ some_kind l → k ≡ l
+some_is : (k l : PieceKind) → some_kind k ≡ some_kind l → k ≡ l
 some_is k l h = cc
 
 -- no piece is empty
@@ -23,15 +23,15 @@ nothing_there : NoPiece []
 nothing_there kind zero p = absurd (let no : None ≡ some_kind kind = p.one in cc)
 nothing_there kind (suc len) p = absurd (let h = p.within in omega (arith, h))
 
-pub piece_some : (text : List ℕ) (kind : Kind) (len : ℕ) → IsPiece text kind len → 0 < len
+pub piece_some : (text : List ℕ) (kind : PieceKind) (len : ℕ) → IsPiece text kind len → 0 < len
 piece_some text kind zero p = absurd (let no : None ≡ some_kind kind = sym (nothing text) ∙ p.one in cc)
 piece_some text kind (suc len) p = omega arith
 
-too_short : (text : List ℕ) (k l : Kind) (a b : ℕ) → IsPiece text k a → IsPiece text l b → a < b → ⊥
+too_short : (text : List ℕ) (k l : PieceKind) (a b : ℕ) → IsPiece text k a → IsPiece text l b → a < b → ⊥
 too_short text k l a b p q lt = let no : None ≡ some_kind l = sym (p.longest b lt q.within) ∙ q.one in absurd cc
 
 -- two longest pieces at one place are one
-pub piece_unique : (text : List ℕ) (k l : Kind) (m n : ℕ) → IsPiece text k m → IsPiece text l n → (m ≡ n) × (k ≡ l)
+pub piece_unique : (text : List ℕ) (k l : PieceKind) (m n : ℕ) → IsPiece text k m → IsPiece text l n → (m ≡ n) × (k ≡ l)
 piece_unique text k l m n p q =
     let same : m ≡ n = between m n (too_short text k l m n p q) (too_short text l k n m q p) in
     (same, some_is k l (sym p.one ∙ ap (λ i. kind_of (take i text)) same ∙ q.one))
@@ -70,5 +70,5 @@ fault_unique text f g h k =
     let one = cuts_unique text h.pieces k.pieces h.rest k.rest h.cut k.cut h.stuck k.stuck in
     h.is ∙ ap (λ (r : List ℕ). fault_of r (place_behind first_place (joined h.pieces []))) one.1 ∙ ap (λ (ps : List Piece). fault_of k.rest (place_behind first_place (joined ps []))) one.0 ∙ sym k.is
 
-pub cuttings_are_one : (text : List ℕ) (ps qs : List Piece) → IsCutUpTo text ps [] → IsCutUpTo text qs [] → ps ≡ qs
-cuttings_are_one text ps qs c d = (cuts_unique text ps qs [] [] c d nothing_there nothing_there).0
+pub tokenization_is_unique : (text : List ℕ) (ps qs : List Piece) → IsCutUpTo text ps [] → IsCutUpTo text qs [] → ps ≡ qs
+tokenization_is_unique text ps qs c d = (cuts_unique text ps qs [] [] c d nothing_there nothing_there).0

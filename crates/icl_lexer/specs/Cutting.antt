@@ -3,8 +3,8 @@ use Rattle.std.specs.Prelude.{◌≡◌, ◌≢◌, ℕ, ◌+◌, ◌<◌, ◌�
 use Rattle.ij_text.specs.declared.Place.{Place}
 use Rattle.ij_text.specs.Places.{first_place, place_behind}
 use Rattle.icl_lexer.specs.Token.{Token}
-use Rattle.icl_lexer.specs.declared.token.Kind.{Kind}
-use Rattle.icl_lexer.specs.declared.token.Kind.TheVariants.{Gap, Is}
+use Rattle.icl_lexer.specs.declared.token.PieceKind.{PieceKind}
+use Rattle.icl_lexer.specs.declared.token.PieceKind.TheVariants.{Gap, Is}
 use Rattle.icl_lexer.specs.declared.fault.LexFault.{LexFault}
 use Rattle.icl_lexer.specs.declared.fault.LexFault.TheVariants.{BadByte, OpenComment, OpenText}
 use Rattle.icl_lexer.specs.Pieces.{kind_of}
@@ -25,7 +25,7 @@ opens_comment (a ∷ b ∷ bs) = a == 47 && (b == 47 || b == 42)
 
 -- the first `len` bytes of the text are a piece of this kind, and no more of its bytes are one; a `/` that begins a
 -- comment is no mark
-pub record IsPiece (text : List ℕ) (kind : Kind) (len : ℕ) : Type 0 where
+pub record IsPiece (text : List ℕ) (kind : PieceKind) (len : ℕ) : Type 0 where
   pub within : len ≤ length text
   pub one : kind_of (take len text) ≡ Some kind
   pub longest : (n : ℕ) → len < n → n ≤ length text → kind_of (take n text) ≡ None
@@ -33,12 +33,12 @@ pub record IsPiece (text : List ℕ) (kind : Kind) (len : ℕ) : Type 0 where
 
 -- the text begins with no piece
 abbrev pub NoPiece : List ℕ → Type 0
-NoPiece text = (kind : Kind) (len : ℕ) → IsPiece text kind len → ⊥
+NoPiece text = (kind : PieceKind) (len : ℕ) → IsPiece text kind len → ⊥
 
 -- ---- a cutting
 
 pub record Piece : Type 0 where
-  pub kind : Kind
+  pub kind : PieceKind
   pub bytes : List ℕ
 
 -- the bytes of some pieces, in front of a rest
@@ -57,7 +57,7 @@ pub record IsCutUpTo (text : List ℕ) (pieces : List Piece) (rest : List ℕ) :
   pub longest : AreLongest pieces rest
 
 -- the token at a place, if the piece is one
-abbrev pub token_of : Kind → Place → ℕ → ℕ → List Token
+abbrev pub token_of : PieceKind → Place → ℕ → ℕ → List Token
 token_of Gap at start end = []
 token_of (Is kind) at start end = record { kind = kind; at = at; start = start; end = end } ∷ []
 

@@ -2,14 +2,14 @@
 use Rattle.std.specs.Prelude.{◌≡◌, ℕ, ◌<◌, ◌≤◌, ◌⊎◌, List, [], ◌∷◌, length, take, slice_range, Some}
 use Rattle.ij_text.specs.Places.{first_place, place_behind}
 use Rattle.icl_lexer.specs.Token.{Token}
-use Rattle.icl_lexer.specs.declared.token.Kind.TheVariants.{Is}
+use Rattle.icl_lexer.specs.declared.token.PieceKind.TheVariants.{Is}
 use Rattle.icl_lexer.specs.declared.fault.LexFault.{LexFault}
 use Rattle.icl_lexer.specs.Pieces.{kind_of}
 use Rattle.icl_lexer.specs.Cutting.{Piece, IsCutUpTo, AreTokens, HasFault}
 
 -- a text is cut into pieces in one way at most
-abbrev pub CuttingsAreOne : Type 0
-CuttingsAreOne = (text : List ℕ) (pieces others : List Piece) → IsCutUpTo text pieces [] → IsCutUpTo text others [] → pieces ≡ others
+abbrev pub TokenizationIsUnique : Type 0
+TokenizationIsUnique = (text : List ℕ) (pieces others : List Piece) → IsCutUpTo text pieces [] → IsCutUpTo text others [] → pieces ≡ others
 
 -- a text that isn't cut into pieces has a fault
 abbrev pub TextsAreCutOrAtFault : Type 0

@@ -1,11 +1,11 @@
 -- The longest piece with which a text begins.
 use Rattle.std.specs.Prelude.{ℕ, zero, suc, Bool, cond, List, [], ◌∷◌, Option, Some, None, take}
-use Rattle.icl_lexer.specs.declared.token.Kind.{Kind}
+use Rattle.icl_lexer.specs.declared.token.PieceKind.{PieceKind}
 use Rattle.icl_lexer.specs.declared.pieces.Match.{Match}
 use Rattle.icl_lexer.specs.Pieces.{kind_of}
 
 -- a longer match takes the place of one before
-abbrev pub longer : Option Match → Option Kind → ℕ → Option Match
+abbrev pub longer : Option Match → Option PieceKind → ℕ → Option Match
 longer found (Some kind) len = Some (record { kind = kind; len = len })
 longer found None len = found
 

@@ -5,8 +5,8 @@ use Rattle.ij_text.specs.Bytes.{is_blank}
 use Rattle.ij_text.specs.Words.{begins_name, in_name}
 use Rattle.icl_lexer.specs.declared.token.TokenKind.{TokenKind}
 use Rattle.icl_lexer.specs.declared.token.TokenKind.TheVariants.{Word, Decimal, Sized, Quoted, Param, Mark}
-use Rattle.icl_lexer.specs.declared.token.Kind.{Kind}
-use Rattle.icl_lexer.specs.declared.token.Kind.TheVariants.{Gap, Is}
+use Rattle.icl_lexer.specs.declared.token.PieceKind.{PieceKind}
+use Rattle.icl_lexer.specs.declared.token.PieceKind.TheVariants.{Gap, Is}
 
 -- ---- bytes
 
@@ -38,60 +38,60 @@ is_mark b = is_one_of (codes "{}()[];:,.=~|+-*/%") b
 -- ---- what a piece is whose first bytes are known, told by the bytes behind them: those up to the piece's end
 
 -- nothing may follow
-abbrev pub ends : Kind → List ℕ → Option Kind
+abbrev pub ends : PieceKind → List ℕ → Option PieceKind
 ends kind [] = Some kind
 ends kind (b ∷ bs) = None
 
 -- bytes of a class may follow
-abbrev pub run : (ℕ → Bool) → Kind → List ℕ → Option Kind
+abbrev pub run : (ℕ → Bool) → PieceKind → List ℕ → Option PieceKind
 run class kind [] = Some kind
 run class kind (b ∷ bs) = cond (class b) (run class kind bs) None
 
 -- behind the base of a sized number: digits, the first of them no `_`
-abbrev pub digits : List ℕ → Option Kind
+abbrev pub digits : List ℕ → Option PieceKind
 digits [] = None
 digits (b ∷ bs) = cond (is_digit_x b) (run in_digits (Is Sized) bs) None
 
 -- behind the `'` of a sized number
-abbrev pub base : List ℕ → Option Kind
+abbrev pub base : List ℕ → Option PieceKind
 base [] = None
 base (b ∷ bs) = cond (is_base b) (digits bs) None
 
 -- a decimal or a parameter may be the size of a sized number, whose `'` (39) follows
-abbrev pub size : (ℕ → Bool) → TokenKind → List ℕ → Option Kind
+abbrev pub size : (ℕ → Bool) → TokenKind → List ℕ → Option PieceKind
 size class kind [] = Some (Is kind)
 size class kind (b ∷ bs) = cond (class b) (size class kind bs) (cond (b == 39) (base bs) None)
 
-abbrev pub decimal : List ℕ → Option Kind
+abbrev pub decimal : List ℕ → Option PieceKind
 decimal bs = size in_decimal Decimal bs
 
-abbrev pub parameter : List ℕ → Option Kind
+abbrev pub parameter : List ℕ → Option PieceKind
 parameter bs = size in_name Param bs
 
 -- behind the `$` of a parameter
-abbrev pub dollar : List ℕ → Option Kind
+abbrev pub dollar : List ℕ → Option PieceKind
 dollar [] = None
 dollar (b ∷ bs) = cond (begins_name b) (parameter bs) None
 
 -- in quoted text, up to the `"` (34) that ends it: behind a backslash (92) any byte is a part of the text
-abbrev pub quoted : Bool → List ℕ → Option Kind
+abbrev pub quoted : Bool → List ℕ → Option PieceKind
 quoted escaped [] = None
 quoted true (b ∷ bs) = quoted false bs
 quoted false (b ∷ bs) = cond (b == 34) (ends (Is Quoted) bs) (quoted (b == 92) bs)
 
 -- in a comment, up to the first `*/` (42, 47); it is told whether the byte before was a `*` of the comment
-abbrev pub block : Bool → List ℕ → Option Kind
+abbrev pub block : Bool → List ℕ → Option PieceKind
 block star [] = None
 block true (b ∷ bs) = cond (b == 47) (ends Gap bs) (block (b == 42) bs)
 block false (b ∷ bs) = block (b == 42) bs
 
 -- behind a `/`: a mark, or a comment
-abbrev pub slash : List ℕ → Option Kind
+abbrev pub slash : List ℕ → Option PieceKind
 slash [] = Some (Is Mark)
 slash (b ∷ bs) = cond (b == 47) (run in_line Gap bs) (cond (b == 42) (block false bs) None)
 
 -- what the whole list is as a piece, if it is one
-abbrev pub kind_of : List ℕ → Option Kind
+abbrev pub kind_of : List ℕ → Option PieceKind
 kind_of [] = None
 kind_of (b ∷ bs) =
     cond (is_blank b) (ends Gap bs)

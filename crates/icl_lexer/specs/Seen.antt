@@ -6,8 +6,8 @@ use Rattle.ij_text.specs.Places.{place_behind}
 use Rattle.icl_lexer.specs.Token.{Token}
 use Rattle.icl_lexer.specs.declared.token.TokenKind.{TokenKind}
 use Rattle.icl_lexer.specs.declared.token.TokenKind.TheVariants.{Word, Decimal, Sized, Quoted, Param, Mark}
-use Rattle.icl_lexer.specs.declared.token.Kind.{Kind}
-use Rattle.icl_lexer.specs.declared.token.Kind.TheVariants.{Gap, Is}
+use Rattle.icl_lexer.specs.declared.token.PieceKind.{PieceKind}
+use Rattle.icl_lexer.specs.declared.token.PieceKind.TheVariants.{Gap, Is}
 use Rattle.icl_lexer.specs.declared.pieces.Match.{Match}
 use Rattle.icl_lexer.specs.Cutting.{AreTokens, opens_comment}
 use Rattle.icl_lexer.specs.Matches.{longest_match}
@@ -75,7 +75,7 @@ unfoldable pub front : List ℕ → Option Match
 front text = unless_mark (opens_comment text) (longest_match text (length text))
 
 -- a piece as a token, if it is one
-abbrev pub seen_piece : Kind → Place → List ℕ → List SeenToken
+abbrev pub seen_piece : PieceKind → Place → List ℕ → List SeenToken
 seen_piece Gap at bytes = []
 seen_piece (Is kind) at bytes = record { kind = kind; at = at; text = bytes } ∷ []
 

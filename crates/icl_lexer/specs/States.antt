@@ -2,14 +2,14 @@
 use Rattle.std.specs.Prelude.{ℕ, ◌==◌, true, false, cond, List, Option, None}
 use Rattle.ij_text.specs.Words.{in_name}
 use Rattle.icl_lexer.specs.declared.token.TokenKind.TheVariants.{Word as OfWord, Sized, Mark}
-use Rattle.icl_lexer.specs.declared.token.Kind.{Kind}
-use Rattle.icl_lexer.specs.declared.token.Kind.TheVariants.{Gap, Is}
+use Rattle.icl_lexer.specs.declared.token.PieceKind.{PieceKind}
+use Rattle.icl_lexer.specs.declared.token.PieceKind.TheVariants.{Gap, Is}
 use Rattle.icl_lexer.specs.declared.state.State.{State}
 use Rattle.icl_lexer.specs.declared.state.State.TheVariants.{Start, Whole, Word, Decimal, Dollar, Parameter, Apostrophe, Base, Digits, Quoted, Backslash, Slash, Line, Block, Star, Dead}
 use Rattle.icl_lexer.specs.Pieces.{kind_of, ends, run, in_digits, in_line, decimal, dollar, parameter, base, digits, quoted, slash, block, is_mark}
 
 -- what a byte and those behind it are as a piece, where it begins no gap, word or decimal
-abbrev pub kind_of_other : ℕ → List ℕ → Option Kind
+abbrev pub kind_of_other : ℕ → List ℕ → Option PieceKind
 kind_of_other b bs =
     cond (b == 36) (dollar bs)
     (cond (b == 39) (base bs)
@@ -18,7 +18,7 @@ kind_of_other b bs =
     (cond (is_mark b) (ends (Is Mark) bs) None))))
 
 -- what the whole list is as a piece, from a state on
-abbrev pub kind_from : State → List ℕ → Option Kind
+abbrev pub kind_from : State → List ℕ → Option PieceKind
 kind_from Start bs = kind_of bs
 kind_from (Whole kind) bs = ends kind bs
 kind_from Word bs = run in_name (Is OfWord) bs

@@ -6,7 +6,7 @@ ghost use Rattle.icl_lexer.specs.Lexemes.{HasPlaces, seen_next, tok};
 
 use crate::lexeme::Lexeme;
 use crate::pieces::first_piece;
-use crate::token::{Kind, TokenKind};
+use crate::token::{PieceKind, TokenKind};
 use ij_text::{Place, place_behind};
 use std::marker::Model;
 
@@ -50,7 +50,7 @@ pub(crate) fn cursor_at<'a>(text: &'a [u8], at: Place, left: usize) -> Cursor<'a
     while let Some(found) = first_piece(rest) {
         let text = &rest[..found.len];
         let behind = &rest[found.len..];
-        if let Kind::Is(kind) = found.kind {
+        if let PieceKind::Is(kind) = found.kind {
             return Cursor {
                 kind: Some(kind),
                 at,

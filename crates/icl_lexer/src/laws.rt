@@ -1,10 +1,10 @@
 // What follows from the definition of a cutting.
-ghost use Rattle.icl_lexer.specs.Laws.{CutTextsHaveNoFault, CuttingsAreOne, FaultsAreOne, TextsAreCutOrAtFault, TokensAreInText};
+ghost use Rattle.icl_lexer.specs.Laws.{CutTextsHaveNoFault, FaultsAreOne, TextsAreCutOrAtFault, TokenizationIsUnique, TokensAreInText};
 
 /// A text is cut into pieces in one way at most, so it has at most one list of tokens. The pieces together are the text,
 /// and each is the longest that begins at its place.
-pub fn cuttings_are_one()
-    ensures { CuttingsAreOne }
+pub fn tokenization_is_unique()
+    ensures { TokenizationIsUnique }
 {}
 
 /// A text has either tokens or a fault, and no more than one fault.

@@ -7,7 +7,7 @@ ghost use Rattle.icl_lexer.specs.Answers.{Gives, count_of};
 use crate::cursor::{Cursor, cursor_at};
 use crate::fault::LexFault;
 use crate::pieces::{first_piece, opens_block};
-use crate::token::Kind;
+use crate::token::PieceKind;
 use ij_text::{Place, place_at};
 
 /// The fault of a text that begins with no piece.
@@ -24,12 +24,12 @@ fn fault_at(text: &[u8], at: Place) -> LexFault
 }
 
 /// How many tokens a piece is: one, or none.
-fn count_of(kind: Kind) -> usize
+fn count_of(kind: PieceKind) -> usize
     ensures { result ≡ count_of kind }
 {
     match kind {
-        Kind::Is(_) => 1,
-        Kind::Gap => 0,
+        PieceKind::Is(_) => 1,
+        PieceKind::Gap => 0,
     }
 }
 

@@ -13,7 +13,7 @@ mod token;
 
 pub use cursor::Cursor;
 pub use fault::LexFault;
-pub use laws::{cuttings_are_one, texts_are_cut_or_at_fault, tokens_are_in_the_text};
+pub use laws::{texts_are_cut_or_at_fault, tokenization_is_unique, tokens_are_in_the_text};
 pub use lexeme::Lexeme;
 pub use lexing::lex;
-pub use token::{Kind, TokenKind};
+pub use token::{PieceKind, TokenKind};

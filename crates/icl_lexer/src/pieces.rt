@@ -5,13 +5,13 @@ ghost use Rattle.icl_lexer.specs.Cutting.{IsPiece, NoPiece, opens_block, opens_c
 ghost use Rattle.icl_lexer.specs.Matches.{longest_match, longer, run_len};
 
 use crate::state::{State, begin};
-use crate::token::{Kind, TokenKind};
+use crate::token::{PieceKind, TokenKind};
 use ij_text::{begins_name, in_name, is_blank};
 
 /// So many bytes at the front of a text are a piece.
 #[derive(Clone, Copy)]
 pub(crate) struct Match {
-    pub kind: Kind,
+    pub kind: PieceKind,
     pub len: usize,
 }
 
@@ -30,7 +30,7 @@ fn opens_comment(text: &[u8]) -> bool
 }
 
 /// The longer match, where there is one.
-fn longer(found: Option<Match>, kind: Option<Kind>, len: usize) -> Option<Match>
+fn longer(found: Option<Match>, kind: Option<PieceKind>, len: usize) -> Option<Match>
     ensures { result ≡ longer found kind len }
 {
     match kind {
@@ -77,13 +77,13 @@ fn short_piece(text: &[u8]) -> Option<Match>
     };
     if is_blank(*b) {
         return Some(Match {
-            kind: Kind::Gap,
+            kind: PieceKind::Gap,
             len: 1,
         });
     }
     if begins_name(*b) {
         return Some(Match {
-            kind: Kind::Is(TokenKind::Word),
+            kind: PieceKind::Is(TokenKind::Word),
             len: 1 + name_len(rest),
         });
     }

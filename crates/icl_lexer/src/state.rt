@@ -4,7 +4,7 @@ ghost use Rattle.icl_lexer.specs.Pieces.{base, block, kind_of, quoted, slash};
 ghost use Rattle.icl_lexer.specs.States.{kind_of_other, kind_from};
 
 use crate::bytes::{in_decimal, in_digits, is_base, is_digit_x, is_mark};
-use crate::token::{Kind, TokenKind};
+use crate::token::{PieceKind, TokenKind};
 use ij_text::{begins_name, in_name, is_blank};
 
 /// What was read of a piece.
@@ -13,7 +13,7 @@ pub(crate) enum State {
     /// Nothing.
     Start,
     /// A whole piece, which no byte continues.
-    Whole(Kind),
+    Whole(PieceKind),
     Word,
     Decimal,
     /// The `$` of a parameter.
@@ -54,7 +54,7 @@ pub(crate) fn begin(b: u8) -> State
     ensures { (bs : List ℕ) → kind_from result bs ≡ kind_of (b ∷ bs) }
 {
     if is_blank(b) {
-        State::Whole(Kind::Gap)
+        State::Whole(PieceKind::Gap)
     } else if begins_name(b) {
         State::Word
     } else if b.is_ascii_digit() {
@@ -73,7 +73,7 @@ fn begin_other(b: u8) -> State
         b'\'' => State::Apostrophe,
         b'"' => State::Quoted,
         b'/' => State::Slash,
-        _ => only_if(is_mark(b), State::Whole(Kind::Is(TokenKind::Mark))),
+        _ => only_if(is_mark(b), State::Whole(PieceKind::Is(TokenKind::Mark))),
     }
 }
 
@@ -93,7 +93,7 @@ fn go_on_text(b: u8) -> State
     ensures { (bs : List ℕ) → kind_from result bs ≡ quoted false (b ∷ bs) }
 {
     match b {
-        b'"' => State::Whole(Kind::Is(TokenKind::Quoted)),
+        b'"' => State::Whole(PieceKind::Is(TokenKind::Quoted)),
         b'\\' => State::Backslash,
         _ => State::Quoted,
     }
@@ -122,7 +122,7 @@ fn go_on_star(b: u8) -> State
     ensures { (bs : List ℕ) → kind_from result bs ≡ block true (b ∷ bs) }
 {
     if b == b'/' {
-        State::Whole(Kind::Gap)
+        State::Whole(PieceKind::Gap)
     } else {
         go_on_block(b)
     }
@@ -154,17 +154,17 @@ impl State {
     }
 
     /// What was read, if it is a piece.
-    pub fn kind(self) -> Option<Kind>
+    pub fn kind(self) -> Option<PieceKind>
         ensures { result ≡ kind_from self [] }
     {
         match self {
             State::Whole(kind) => Some(kind),
-            State::Word => Some(Kind::Is(TokenKind::Word)),
-            State::Decimal => Some(Kind::Is(TokenKind::Decimal)),
-            State::Parameter => Some(Kind::Is(TokenKind::Param)),
-            State::Digits => Some(Kind::Is(TokenKind::Sized)),
-            State::Slash => Some(Kind::Is(TokenKind::Mark)),
-            State::Line => Some(Kind::Gap),
+            State::Word => Some(PieceKind::Is(TokenKind::Word)),
+            State::Decimal => Some(PieceKind::Is(TokenKind::Decimal)),
+            State::Parameter => Some(PieceKind::Is(TokenKind::Param)),
+            State::Digits => Some(PieceKind::Is(TokenKind::Sized)),
+            State::Slash => Some(PieceKind::Is(TokenKind::Mark)),
+            State::Line => Some(PieceKind::Gap),
             _ => None,
         }
     }

@@ -20,7 +20,7 @@ pub enum TokenKind {
 
 /// What a piece of a text is: a gap, so one blank or one comment, or a token.
 #[derive(Clone, Copy, PartialEq, Eq, Debug)]
-pub enum Kind {
+pub enum PieceKind {
     /// A space, a tab, a carriage return, a line feed or a comment.
     Gap,
     /// A token of this kind.

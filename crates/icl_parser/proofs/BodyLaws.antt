@@ -7,10 +7,10 @@ use Rattle.grammar.proofs.Combinators.{Reads, one_reads, give_reads, none_reads,
 use Rattle.icl_lexer.specs.declared.token.TokenKind.{TokenKind}
 use Rattle.icl_lexer.specs.declared.token.TokenKind.TheVariants.{Word, Decimal, Sized, Quoted, Param, Mark}
 use Rattle.icl_syntax.specs.declared.words.Limit.{Limit}
-use Rattle.icl_syntax.specs.declared.words.Owner.{Owner}
-use Rattle.icl_syntax.specs.declared.words.Owner.TheVariants.{ScanIn, ScanOut, DataIn, DataOut, Control, Register, Alias}
-use Rattle.icl_syntax.specs.declared.words.PropWord.{PropWord}
-use Rattle.icl_syntax.specs.declared.words.PropWord.TheVariants.{Source, LaunchEdge, DefaultLoadValue, RefEnum, ActivePolarity, ScanInSource, CaptureSource, ResetValue, AccessTogether, Attribute}
+use Rattle.icl_syntax.specs.declared.words.BodyKind.{BodyKind}
+use Rattle.icl_syntax.specs.declared.words.BodyKind.TheVariants.{ScanIn, ScanOut, DataIn, DataOut, Control, Register, Alias}
+use Rattle.icl_syntax.specs.declared.words.PropKeyword.{PropKeyword}
+use Rattle.icl_syntax.specs.declared.words.PropKeyword.TheVariants.{Source, LaunchEdge, DefaultLoadValue, RefEnum, ActivePolarity, ScanInSource, CaptureSource, ResetValue, AccessTogether, Attribute}
 use Rattle.icl_lexer.specs.Seen.{SeenToken, if_word, if_mark, is_mark}
 use Rattle.icl_syntax.specs.Values.{SeenProp, ASource, ALaunchEdge, ALoadValue, ARefEnum, APolarity, AScanInSource, ACaptureSource, AResetValue, ATogether}
 use Rattle.icl_syntax.specs.Grammar.{Of, mark, maybe, expr_behind, ended_by, sources, free_word, free_prop_at, attribute_said, decimal_token, prop_behind, property, with_property, lacks, body_end, body}
@@ -38,7 +38,7 @@ attribute_said_reads =
     narrow true h = h
     narrow false h = h
 
-sources_reads : (owner : Owner) → Reads (sources owner) any (marks sigs_marks) false (read_sources owner)
+sources_reads : (owner : BodyKind) → Reads (sources owner) any (marks sigs_marks) false (read_sources owner)
 sources_reads ScanOut = wider_reads (made_reads (λ s. s ∷ []) sig_reads) any (marks sigs_marks) (λ t h. h) (λ t h. right (is_mark 44 t) _ h)
   where
     right : (a b : Bool) → a || b ≡ false → b ≡ false
@@ -57,7 +57,7 @@ alone_reads a =
     wider_reads (turn_reads (give a) (λ b. mark 59 >>= λ e. give b) nothing nothing (is_mark 59) nothing true false (gives a) (λ b. read_in_turn (read_mark 59) (λ e. gives b)) (give_reads a) (λ b. made_reads (λ e. b) (mark_reads 59)) (λ t h. refl))
     any nothing (λ t h. refl) (λ t h. refl)
 
-prop_ended_reads : (owner : Owner) (w : PropWord) → Reads (ended_by 59 (prop_behind owner w)) any nothing false (read_ended 59 (read_prop_behind owner w))
+prop_ended_reads : (owner : BodyKind) (w : PropKeyword) → Reads (ended_by 59 (prop_behind owner w)) any nothing false (read_ended 59 (read_prop_behind owner w))
 unfolding prop_behind read_prop_behind
 prop_ended_reads owner Source = ended_reads 59 (made_reads (λ s. Some (ASource s)) (sources_reads owner)) (λ t h. marks_apart 59 sigs_marks refl t h)
 prop_ended_reads owner LaunchEdge = ended_reads 59 (made_reads (λ n. Some (ALaunchEdge n)) name_reads) (λ t h. refl)
@@ -70,10 +70,10 @@ prop_ended_reads owner ResetValue = ended_reads 59 (made_reads (λ v. Some (ARes
 prop_ended_reads owner AccessTogether = alone_reads (Some ATogether)
 prop_ended_reads owner Attribute = ended_reads 59 (made_reads (λ a. None) attribute_said_reads) (λ t h. marks_apart 59 (61 ∷ sign_marks) refl t h)
 
-free_prop_reads : (owner : Owner) (ps : List SeenProp) → Reads {W = Limit} (one (free_prop_at owner ps)) no_close nothing false (read_free_prop owner ps)
+free_prop_reads : (owner : BodyKind) (ps : List SeenProp) → Reads {W = Limit} (one (free_prop_at owner ps)) no_close nothing false (read_free_prop owner ps)
 free_prop_reads owner ps = wider_reads (one_reads Limit (free_prop_at owner ps)) no_close nothing (λ t h. no_mark_closes t (by_kind t.kind _ h)) (λ t h. refl)
   where
-    by_kind : (k : TokenKind) (o : Option PropWord) → is_some (free_word owner ps (if_word k o None)) ≡ true → if_mark k false true ≡ true
+    by_kind : (k : TokenKind) (o : Option PropKeyword) → is_some (free_word owner ps (if_word k o None)) ≡ true → if_mark k false true ≡ true
     by_kind Word o h = refl
     by_kind Decimal o h = absurd cc
     by_kind Sized o h = absurd cc
@@ -81,7 +81,7 @@ free_prop_reads owner ps = wider_reads (one_reads Limit (free_prop_at owner ps))
     by_kind Param o h = absurd cc
     by_kind Mark o h = absurd cc
 
-pub property_reads : (owner : Owner) (ps : List SeenProp) → Reads (property owner ps) no_close nothing false (read_property owner ps)
+pub property_reads : (owner : BodyKind) (ps : List SeenProp) → Reads (property owner ps) no_close nothing false (read_property owner ps)
 unfolding property read_property
 property_reads owner ps = then_reads (λ w. ended_by 59 (prop_behind owner w)) any nothing false (λ w. read_ended 59 (read_prop_behind owner w)) (free_prop_reads owner ps) (λ w. prop_ended_reads owner w) (λ t h. refl)
 
@@ -91,7 +91,7 @@ pub unless_reads : {A : Type 0} (b : Bool) {S : Of A} {first more : SeenToken �
 unless_reads true {S} {first} {more} {r} law = wider_reads none_reads first more (λ t h. absurd cc) (λ t h. refl)
 unless_reads false law = law
 
-body_end_reads : (owner : Owner) (ps : List SeenProp) (c : ℕ) → Reads (body_end owner ps c) (is_mark c) nothing false (read_body_end owner ps c)
+body_end_reads : (owner : BodyKind) (ps : List SeenProp) (c : ℕ) → Reads (body_end owner ps c) (is_mark c) nothing false (read_body_end owner ps c)
 unfolding read_body_end
 body_end_reads owner ps c = unless_reads (lacks owner ps) (made_reads (λ e. ps) (mark_reads c))
 
@@ -99,7 +99,7 @@ body_end_reads owner ps c = unless_reads (lacks owner ps) (made_reads (λ e. ps)
 abbrev pub body_marks : List ℕ
 body_marks = 59 ∷ 123 ∷ []
 
-pub body_reads : (owner : Owner) → Reads (body owner) (marks body_marks) nothing false (read_body owner)
+pub body_reads : (owner : BodyKind) → Reads (body owner) (marks body_marks) nothing false (read_body owner)
 unfolding body read_body read_braced_body read_properties
 body_reads owner =
     wider_reads

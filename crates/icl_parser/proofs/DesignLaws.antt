@@ -9,10 +9,10 @@ use Rattle.icl_lexer.specs.declared.token.TokenKind.{TokenKind}
 use Rattle.icl_lexer.specs.declared.token.TokenKind.TheVariants.{Word, Decimal, Sized, Quoted, Param, Mark}
 use Rattle.ij_text.specs.declared.Place.{Place}
 use Rattle.icl_syntax.specs.declared.words.Limit.{Limit}
-use Rattle.icl_syntax.specs.declared.words.ItemWord.{ItemWord}
-use Rattle.icl_syntax.specs.declared.words.ItemWord.TheVariants.{OfPort, OfRegister, OfMux, OfChild, OfAlias, OfEnum, OfParameter, OfAttribute, OfInterface, OfLink}
-use Rattle.icl_syntax.specs.declared.words.MemberWord.{MemberWord}
-use Rattle.icl_syntax.specs.declared.words.MemberWord.TheVariants.{MemberPort, MemberAttribute}
+use Rattle.icl_syntax.specs.declared.words.ItemKeyword.{ItemKeyword}
+use Rattle.icl_syntax.specs.declared.words.ItemKeyword.TheVariants.{OfPort, OfRegister, OfMux, OfChild, OfAlias, OfEnum, OfParameter, OfAttribute, OfInterface, OfLink}
+use Rattle.icl_syntax.specs.declared.words.MemberKeyword.{MemberKeyword}
+use Rattle.icl_syntax.specs.declared.words.MemberKeyword.TheVariants.{MemberPort, MemberAttribute}
 use Rattle.icl_lexer.specs.Seen.{SeenToken, if_word, if_mark, is_mark}
 use Rattle.icl_syntax.specs.Values.{SeenLinkInstr, SomeWords, AnInterface, ALink, SeenModule}
 use Rattle.icl_syntax.specs.Grammar.{mark, name, value, ended_by, appended}
@@ -63,7 +63,7 @@ words_reads = wider_reads (made_reads (λ ws. SomeWords ws) (braced_reads enum_w
 member_word_reads : Reads {W = Limit} (one member_word_at) no_close nothing false read_member_word
 member_word_reads = wider_reads (one_reads Limit member_word_at) no_close nothing (λ t h. no_mark_closes t (by_kind t.kind _ h)) (λ t h. refl)
   where
-    by_kind : (k : TokenKind) (o : Option MemberWord) → is_some (if_word k o None) ≡ true → if_mark k false true ≡ true
+    by_kind : (k : TokenKind) (o : Option MemberKeyword) → is_some (if_word k o None) ≡ true → if_mark k false true ≡ true
     by_kind Word o h = refl
     by_kind Decimal o h = absurd cc
     by_kind Sized o h = absurd cc
@@ -71,7 +71,7 @@ member_word_reads = wider_reads (one_reads Limit member_word_at) no_close nothin
     by_kind Param o h = absurd cc
     by_kind Mark o h = absurd cc
 
-member_ended_reads : (w : MemberWord) → Reads (ended_by 59 (member_behind w)) any nothing false (read_ended 59 (read_member_behind w))
+member_ended_reads : (w : MemberKeyword) → Reads (ended_by 59 (member_behind w)) any nothing false (read_ended 59 (read_member_behind w))
 member_ended_reads MemberPort = ended_reads 59 (made_reads (λ n. Some n) name_reads) (λ t h. refl)
 member_ended_reads MemberAttribute = ended_reads 59 (made_reads (λ a. None) attribute_said_reads) (λ t h. marks_apart 59 (61 ∷ sign_marks) refl t h)
 
@@ -151,7 +151,7 @@ link_reads =
 item_begin_reads : Reads {W = Limit} (one item_begin_at) no_close nothing false read_item_begin
 item_begin_reads = wider_reads (one_reads Limit item_begin_at) no_close nothing (λ t h. no_mark_closes t (by_kind t.kind t.at _ h)) (λ t h. refl)
   where
-    by_kind : (k : TokenKind) (at : Place) (o : Option ItemWord) → is_some (item_begun at (if_word k o None)) ≡ true → if_mark k false true ≡ true
+    by_kind : (k : TokenKind) (at : Place) (o : Option ItemKeyword) → is_some (item_begun at (if_word k o None)) ≡ true → if_mark k false true ≡ true
     by_kind Word at o h = refl
     by_kind Decimal at o h = absurd cc
     by_kind Sized at o h = absurd cc
@@ -159,7 +159,7 @@ item_begin_reads = wider_reads (one_reads Limit item_begin_at) no_close nothing 
     by_kind Param at o h = absurd cc
     by_kind Mark at o h = absurd cc
 
-meaning_reads : (w : ItemWord) → Reads (meaning_behind w) any nothing false (read_meaning_behind w)
+meaning_reads : (w : ItemKeyword) → Reads (meaning_behind w) any nothing false (read_meaning_behind w)
 unfolding read_meaning_behind
 meaning_reads (OfPort kind) = port_reads kind
 meaning_reads OfRegister = register_reads

@@ -9,10 +9,10 @@ use Rattle.icl_lexer.specs.declared.token.TokenKind.TheVariants.{Word, Decimal, 
 use Rattle.ij_text.specs.declared.Place.{Place}
 use Rattle.icl_syntax.specs.declared.tree.PortKind.{PortKind}
 use Rattle.icl_syntax.specs.declared.words.Limit.{Limit}
-use Rattle.icl_syntax.specs.declared.words.BindWord.{BindWord}
-use Rattle.icl_syntax.specs.declared.words.BindWord.TheVariants.{BindsPort, BindsParameter, BindsAttribute}
-use Rattle.icl_syntax.specs.declared.words.Owner.{Owner}
-use Rattle.icl_syntax.specs.declared.words.Owner.TheVariants.{ScanIn, ScanOut, DataIn, DataOut, Control, Register, Alias}
+use Rattle.icl_syntax.specs.declared.words.BindKeyword.{BindKeyword}
+use Rattle.icl_syntax.specs.declared.words.BindKeyword.TheVariants.{BindsPort, BindsParameter, BindsAttribute}
+use Rattle.icl_syntax.specs.declared.words.BodyKind.{BodyKind}
+use Rattle.icl_syntax.specs.declared.words.BodyKind.TheVariants.{ScanIn, ScanOut, DataIn, DataOut, Control, Register, Alias}
 use Rattle.icl_lexer.specs.Seen.{SeenToken, if_word, if_mark, is_mark, word_at}
 use Rattle.icl_syntax.specs.Values.{SeenRow, ABoundPort, ABoundParameter, ABoundAttribute, APort, ARegister, AMux, AChild, AnAlias, AParameter, AnAttribute}
 use Rattle.icl_syntax.specs.Grammar.{Of, mark, word, name, value, maybe, expr_behind, ended_by, appended, parted, range, sig, sigs, body}
@@ -31,7 +31,7 @@ word_reads w = wider_reads (one_reads Limit (word_at w)) any nothing (λ t h. re
 
 -- ---- ports, registers, aliases, parameters and attributes
 
-port_range_reads : (owner : Owner) → Reads (port_range owner) (is_mark 91) (is_mark 91) true (read_port_range owner)
+port_range_reads : (owner : BodyKind) → Reads (port_range owner) (is_mark 91) (is_mark 91) true (read_port_range owner)
 port_range_reads ScanIn = wider_reads (give_reads None) (is_mark 91) (is_mark 91) (λ t h. absurd cc) (λ t h. refl)
 port_range_reads ScanOut = wider_reads (give_reads None) (is_mark 91) (is_mark 91) (λ t h. absurd cc) (λ t h. refl)
 port_range_reads DataIn = maybe_range_reads
@@ -147,7 +147,7 @@ mux_reads =
 bind_begin_reads : Reads {W = Limit} (one bind_begin_at) no_close nothing false read_bind_begin
 bind_begin_reads = wider_reads (one_reads Limit bind_begin_at) no_close nothing (λ t h. no_mark_closes t (by_kind t.kind t.at _ h)) (λ t h. refl)
   where
-    by_kind : (k : TokenKind) (at : Place) (o : Option BindWord) → is_some (begun_by at (if_word k o None)) ≡ true → if_mark k false true ≡ true
+    by_kind : (k : TokenKind) (at : Place) (o : Option BindKeyword) → is_some (begun_by at (if_word k o None)) ≡ true → if_mark k false true ≡ true
     by_kind Word at o h = refl
     by_kind Decimal at o h = absurd cc
     by_kind Sized at o h = absurd cc
@@ -173,7 +173,7 @@ bound_attribute_reads : Reads bound_attribute is_name (marks (61 ∷ sign_marks)
 unfolding bound_attribute read_bound_attribute
 bound_attribute_reads = made_reads (λ a. ABoundAttribute a.name a.value) attribute_said_reads
 
-bind_ended_reads : (at : Place) (w : BindWord) → Reads (ended_by 59 (bind_behind at w)) any nothing false (read_ended 59 (read_bind_behind at w))
+bind_ended_reads : (at : Place) (w : BindKeyword) → Reads (ended_by 59 (bind_behind at w)) any nothing false (read_ended 59 (read_bind_behind at w))
 bind_ended_reads at BindsPort = ended_reads 59 (bound_port_reads at) (λ t h. marks_apart 59 sigs_marks refl t h)
 bind_ended_reads at BindsParameter = ended_reads 59 (bound_parameter_reads at) (λ t h. marks_apart 59 sign_marks refl t h)
 bind_ended_reads at BindsAttribute = ended_reads 59 bound_attribute_reads (λ t h. marks_apart 59 (61 ∷ sign_marks) refl t h)

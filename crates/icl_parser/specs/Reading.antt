@@ -5,16 +5,16 @@ use Rattle.ij_text.specs.declared.Place.{Place}
 use Rattle.icl_syntax.specs.declared.tree.LinkKind.{LinkKind}
 use Rattle.icl_syntax.specs.declared.tree.PortKind.{PortKind}
 use Rattle.icl_syntax.specs.declared.words.Limit.{Limit}
-use Rattle.icl_syntax.specs.declared.words.ItemWord.{ItemWord}
-use Rattle.icl_syntax.specs.declared.words.ItemWord.TheVariants.{OfPort, OfRegister, OfMux, OfChild, OfAlias, OfEnum, OfParameter, OfAttribute, OfInterface, OfLink}
-use Rattle.icl_syntax.specs.declared.words.BindWord.{BindWord}
-use Rattle.icl_syntax.specs.declared.words.BindWord.TheVariants.{BindsPort, BindsParameter, BindsAttribute}
-use Rattle.icl_syntax.specs.declared.words.MemberWord.{MemberWord}
-use Rattle.icl_syntax.specs.declared.words.MemberWord.TheVariants.{MemberPort, MemberAttribute}
-use Rattle.icl_syntax.specs.declared.words.Owner.{Owner}
-use Rattle.icl_syntax.specs.declared.words.Owner.TheVariants.{ScanIn, ScanOut, DataIn, DataOut, Control, Register, Alias}
-use Rattle.icl_syntax.specs.declared.words.PropWord.{PropWord}
-use Rattle.icl_syntax.specs.declared.words.PropWord.TheVariants.{Source, LaunchEdge, DefaultLoadValue, RefEnum, ActivePolarity, ScanInSource, CaptureSource, ResetValue, AccessTogether, Attribute}
+use Rattle.icl_syntax.specs.declared.words.ItemKeyword.{ItemKeyword}
+use Rattle.icl_syntax.specs.declared.words.ItemKeyword.TheVariants.{OfPort, OfRegister, OfMux, OfChild, OfAlias, OfEnum, OfParameter, OfAttribute, OfInterface, OfLink}
+use Rattle.icl_syntax.specs.declared.words.BindKeyword.{BindKeyword}
+use Rattle.icl_syntax.specs.declared.words.BindKeyword.TheVariants.{BindsPort, BindsParameter, BindsAttribute}
+use Rattle.icl_syntax.specs.declared.words.MemberKeyword.{MemberKeyword}
+use Rattle.icl_syntax.specs.declared.words.MemberKeyword.TheVariants.{MemberPort, MemberAttribute}
+use Rattle.icl_syntax.specs.declared.words.BodyKind.{BodyKind}
+use Rattle.icl_syntax.specs.declared.words.BodyKind.TheVariants.{ScanIn, ScanOut, DataIn, DataOut, Control, Register, Alias}
+use Rattle.icl_syntax.specs.declared.words.PropKeyword.{PropKeyword}
+use Rattle.icl_syntax.specs.declared.words.PropKeyword.TheVariants.{Source, LaunchEdge, DefaultLoadValue, RefEnum, ActivePolarity, ScanInSource, CaptureSource, ResetValue, AccessTogether, Attribute}
 use Rattle.icl_lexer.specs.Seen.{SeenToken, is_mark}
 use Rattle.icl_syntax.specs.Values.{SeenExpr, SeenRange, SeenSig, SeenProp, ASource, ALaunchEdge, ALoadValue, ARefEnum, APolarity, AScanInSource, ACaptureSource, AResetValue, ATogether, SeenRow, SeenBind, ABoundPort, ABoundParameter, ABoundAttribute, SeenEnumWord, SeenLinkInstr, SeenWhat, APort, ARegister, AMux, AChild, AnAlias, SomeWords, AParameter, AnInterface, ALink, AnAttribute, SeenItem, SeenModule}
 use Rattle.icl_syntax.specs.Grammar.{appended, free_prop_at, AttributeSaid, with_property, lacks}
@@ -29,7 +29,7 @@ read_attribute_said = read_in_turn read_name (λ n. read_in_turn (read_maybe 61 
 abbrev pub read_one_sig : Reading (List SeenSig)
 read_one_sig = read_in_turn read_sig (λ s. gives (s ∷ []))
 
-abbrev pub read_sources : Owner → Reading (List SeenSig)
+abbrev pub read_sources : BodyKind → Reading (List SeenSig)
 read_sources ScanOut = read_one_sig
 read_sources ScanIn = read_sigs
 read_sources DataIn = read_sigs
@@ -41,7 +41,7 @@ read_sources Alias = read_sigs
 abbrev pub read_some : {A : Type 0} → Reading A → (A → SeenProp) → Reading (Option SeenProp)
 read_some r make = read_in_turn r (λ a. gives (Some (make a)))
 
-unfoldable pub read_prop_behind : Owner → PropWord → Reading (Option SeenProp)
+unfoldable pub read_prop_behind : BodyKind → PropKeyword → Reading (Option SeenProp)
 read_prop_behind owner Source = read_some (read_sources owner) ASource
 read_prop_behind owner LaunchEdge = read_some read_name ALaunchEdge
 read_prop_behind owner DefaultLoadValue = read_some read_value ALoadValue
@@ -53,13 +53,13 @@ read_prop_behind owner ResetValue = read_some read_value AResetValue
 read_prop_behind owner AccessTogether = gives (Some ATogether)
 read_prop_behind owner Attribute = read_in_turn read_attribute_said (λ a. gives None)
 
-abbrev pub read_free_prop : Owner → List SeenProp → Reading PropWord
+abbrev pub read_free_prop : BodyKind → List SeenProp → Reading PropKeyword
 read_free_prop owner ps = read_one (free_prop_at owner ps)
 
-unfoldable pub read_property : Owner → List SeenProp → Reading (Option SeenProp)
+unfoldable pub read_property : BodyKind → List SeenProp → Reading (Option SeenProp)
 read_property owner ps = read_in_turn (read_free_prop owner ps) (λ w. read_ended 59 (read_prop_behind owner w))
 
-unfoldable pub read_properties : Owner → Reading (List SeenProp)
+unfoldable pub read_properties : BodyKind → Reading (List SeenProp)
 read_properties owner = read_repeat no_close (read_property owner) with_property []
 
 -- reads nothing, where something lacks
@@ -67,18 +67,18 @@ abbrev pub read_unless : {A : Type 0} → Bool → Reading A → Reading A
 read_unless true r ts = Err (length ts, None)
 read_unless false r ts = r ts
 
-unfoldable pub read_body_end : Owner → List SeenProp → ℕ → Reading (List SeenProp)
+unfoldable pub read_body_end : BodyKind → List SeenProp → ℕ → Reading (List SeenProp)
 read_body_end owner ps c = read_unless (lacks owner ps) (read_in_turn (read_mark c) (λ e. gives ps))
 
-unfoldable pub read_braced_body : Owner → Reading (List SeenProp)
+unfoldable pub read_braced_body : BodyKind → Reading (List SeenProp)
 read_braced_body owner = read_in_turn (read_mark 123) (λ o. read_in_turn (read_properties owner) (λ ps. read_body_end owner ps 125))
 
-unfoldable pub read_body : Owner → Reading (List SeenProp)
+unfoldable pub read_body : BodyKind → Reading (List SeenProp)
 read_body owner = read_either (is_mark 59) (read_body_end owner [] 59) (read_braced_body owner)
 
 -- ---- items
 
-abbrev pub read_port_range : Owner → Reading (Option SeenRange)
+abbrev pub read_port_range : BodyKind → Reading (Option SeenRange)
 read_port_range ScanIn = gives None
 read_port_range ScanOut = gives None
 read_port_range DataIn = read_maybe 91 read_range
@@ -123,7 +123,7 @@ read_bound_parameter at = read_in_turn read_name (λ n. read_in_turn (read_expr_
 unfoldable pub read_bound_attribute : Reading SeenBind
 read_bound_attribute = read_in_turn read_attribute_said (λ a. gives (ABoundAttribute a.name a.value))
 
-abbrev pub read_bind_behind : Place → BindWord → Reading SeenBind
+abbrev pub read_bind_behind : Place → BindKeyword → Reading SeenBind
 read_bind_behind at BindsPort = read_bound_port at
 read_bind_behind at BindsParameter = read_bound_parameter at
 read_bind_behind at BindsAttribute = read_bound_attribute
@@ -155,11 +155,11 @@ read_many_words = read_many read_enum_word
 unfoldable pub read_words : Reading SeenWhat
 read_words = read_in_turn (read_braced read_many_words) (λ ws. gives (SomeWords ws))
 
-abbrev pub read_member_behind : MemberWord → Reading (Option (List ℕ))
+abbrev pub read_member_behind : MemberKeyword → Reading (Option (List ℕ))
 read_member_behind MemberPort = read_in_turn read_name (λ n. gives (Some n))
 read_member_behind MemberAttribute = read_in_turn read_attribute_said (λ a. gives None)
 
-abbrev pub read_member_word : Reading MemberWord
+abbrev pub read_member_word : Reading MemberKeyword
 read_member_word = read_one member_word_at
 
 unfoldable pub read_member : Reading (Option (List ℕ))
@@ -192,7 +192,7 @@ read_link_kind = read_one link_kind_at
 unfoldable pub read_link : Reading SeenWhat
 read_link = read_in_turn (read_word (codes "Of")) (λ of. read_in_turn read_link_kind (λ k. read_in_turn (read_mark 123) (λ o. read_in_turn read_entity (λ e. read_in_turn read_instructions (λ is. read_in_turn (read_mark 125) (λ c. gives (ALink k e is)))))))
 
-unfoldable pub read_meaning_behind : ItemWord → Reading SeenWhat
+unfoldable pub read_meaning_behind : ItemKeyword → Reading SeenWhat
 read_meaning_behind (OfPort kind) = read_port kind
 read_meaning_behind OfRegister = read_register
 read_meaning_behind OfMux = read_mux

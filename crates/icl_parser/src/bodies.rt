@@ -11,35 +11,35 @@ ghost use Rattle.icl_parser.specs.Reading.{read_free_prop, read_attribute_said, 
 
 use crate::words::prop_word;
 use icl_expressions::{
-    Read, Stop, before_close, begins_mark, maybe_expr_behind, pushed, read_decimal, read_mark,
-    read_name, read_sig, read_sigs, read_value,
+    Parsed, Stop, before_close, begins_mark, beside, maybe_expr_behind, pushed, read_decimal,
+    read_mark, read_name, read_sig, read_sigs, read_value,
 };
 use icl_lexer::{Cursor, Lexeme};
-use icl_syntax::{Expr, Owner, Prop, PropWord, Sig, SmallText};
+use icl_syntax::{BodyKind, Expr, Prop, PropKeyword, Sig, SmallText};
 use ij_bits::{List, OutOfMemory};
 use std::alloc::Global;
 
 // ---- which properties may stand
 
 /// Whether a property has this word.
-fn is_prop(word: PropWord, prop: &Prop) -> bool
+fn is_prop(word: PropKeyword, prop: &Prop) -> bool
     ensures { result ≡ is_prop word (seen_prop prop.now) }
 {
     match prop {
-        Prop::Source(_) => word == PropWord::Source,
-        Prop::LaunchEdge(_) => word == PropWord::LaunchEdge,
-        Prop::DefaultLoadValue(_) => word == PropWord::DefaultLoadValue,
-        Prop::RefEnum(_) => word == PropWord::RefEnum,
-        Prop::ActivePolarity(_) => word == PropWord::ActivePolarity,
-        Prop::ScanInSource(_) => word == PropWord::ScanInSource,
-        Prop::CaptureSource(_) => word == PropWord::CaptureSource,
-        Prop::ResetValue(_) => word == PropWord::ResetValue,
-        Prop::AccessTogether => word == PropWord::AccessTogether,
+        Prop::Source(_) => word == PropKeyword::Source,
+        Prop::LaunchEdge(_) => word == PropKeyword::LaunchEdge,
+        Prop::DefaultLoadValue(_) => word == PropKeyword::DefaultLoadValue,
+        Prop::RefEnum(_) => word == PropKeyword::RefEnum,
+        Prop::ActivePolarity(_) => word == PropKeyword::ActivePolarity,
+        Prop::ScanInSource(_) => word == PropKeyword::ScanInSource,
+        Prop::CaptureSource(_) => word == PropKeyword::CaptureSource,
+        Prop::ResetValue(_) => word == PropKeyword::ResetValue,
+        Prop::AccessTogether => word == PropKeyword::AccessTogether,
     }
 }
 
 /// Whether a property with this word stands among some others.
-fn stands(word: PropWord, props: &[Prop]) -> bool
+fn stands(word: PropKeyword, props: &[Prop]) -> bool
     ensures { result ≡ stands word (map seen_prop props.now) }
 {
     for prop in props {
@@ -51,55 +51,55 @@ fn stands(word: PropWord, props: &[Prop]) -> bool
 }
 
 /// Whether a body takes a property.
-fn takes(owner: Owner, word: PropWord) -> bool
+fn takes(owner: BodyKind, word: PropKeyword) -> bool
     ensures { result ≡ takes owner word }
 {
     match owner {
-        Owner::ScanIn => matches!(word, PropWord::Attribute),
-        Owner::ScanOut => matches!(
+        BodyKind::ScanIn => matches!(word, PropKeyword::Attribute),
+        BodyKind::ScanOut => matches!(
             word,
-            PropWord::Source | PropWord::LaunchEdge | PropWord::Attribute
+            PropKeyword::Source | PropKeyword::LaunchEdge | PropKeyword::Attribute
         ),
-        Owner::DataIn => matches!(
+        BodyKind::DataIn => matches!(
             word,
-            PropWord::DefaultLoadValue | PropWord::RefEnum | PropWord::Attribute
+            PropKeyword::DefaultLoadValue | PropKeyword::RefEnum | PropKeyword::Attribute
         ),
-        Owner::DataOut => matches!(
+        BodyKind::DataOut => matches!(
             word,
-            PropWord::Source | PropWord::RefEnum | PropWord::Attribute
+            PropKeyword::Source | PropKeyword::RefEnum | PropKeyword::Attribute
         ),
-        Owner::Control => matches!(
+        BodyKind::Control => matches!(
             word,
-            PropWord::Source | PropWord::ActivePolarity | PropWord::Attribute
+            PropKeyword::Source | PropKeyword::ActivePolarity | PropKeyword::Attribute
         ),
-        Owner::Register => matches!(
+        BodyKind::Register => matches!(
             word,
-            PropWord::ScanInSource
-                | PropWord::CaptureSource
-                | PropWord::ResetValue
-                | PropWord::DefaultLoadValue
-                | PropWord::RefEnum
-                | PropWord::Attribute
+            PropKeyword::ScanInSource
+                | PropKeyword::CaptureSource
+                | PropKeyword::ResetValue
+                | PropKeyword::DefaultLoadValue
+                | PropKeyword::RefEnum
+                | PropKeyword::Attribute
         ),
-        Owner::Alias => matches!(
+        BodyKind::Alias => matches!(
             word,
-            PropWord::RefEnum | PropWord::AccessTogether | PropWord::Attribute
+            PropKeyword::RefEnum | PropKeyword::AccessTogether | PropKeyword::Attribute
         ),
     }
 }
 
 /// Whether the need of a body isn't met: a register has a `ScanInSource`.
-fn lacks(owner: Owner, props: &[Prop]) -> bool
+fn lacks(owner: BodyKind, props: &[Prop]) -> bool
     ensures { result ≡ lacks owner (map seen_prop props.now) }
 {
     match owner {
-        Owner::Register => !stands(PropWord::ScanInSource, props),
+        BodyKind::Register => !stands(PropKeyword::ScanInSource, props),
         _ => false,
     }
 }
 
 /// The word of a property at a token, if such a property may stand there.
-fn free_prop(owner: Owner, props: &[Prop], t: &Lexeme) -> Option<PropWord>
+fn free_prop(owner: BodyKind, props: &[Prop], t: &Lexeme) -> Option<PropKeyword>
     ensures { result ≡ free_prop_at owner (map seen_prop props.now) (tok t.now) }
 {
     match prop_word(t) {
@@ -122,15 +122,15 @@ pub(crate) struct Said {
 pub(crate) fn read_attribute_said<'a>(
     alloc: Global,
     tokens: Cursor<'a>,
-) -> Result<Read<'a, Said>, Stop>
+) -> Result<Parsed<'a, Said>, Stop>
     ensures shorter { IfOk result (λ r. length r.rest < length tokens.entry) }
     ensures gives { Gives (seen_read seen_said) result (read_attribute_said tokens.entry) }
 {
     let name = read_name(alloc, tokens)?;
-    let value = maybe_expr_behind(alloc, name.rest, b'=')?;
-    Ok(Read {
+    let (name, value) = beside(name.value, maybe_expr_behind(alloc, name.rest, b'='))?;
+    Ok(Parsed {
         value: Said {
-            name: name.value,
+            name,
             value: value.value,
         },
         rest: value.rest,
@@ -138,7 +138,7 @@ pub(crate) fn read_attribute_said<'a>(
 }
 
 /// A signal alone, as a list.
-fn one_sig<'a>(alloc: Global, tokens: Cursor<'a>) -> Result<Read<'a, List<Sig>>, Stop>
+fn one_sig<'a>(alloc: Global, tokens: Cursor<'a>) -> Result<Parsed<'a, List<Sig>>, Stop>
     ensures shorter { IfOk result (λ r. length r.rest < length tokens.entry) }
     ensures gives { Gives (seen_read (seen_list seen_sig)) result (read_one_sig tokens.entry) }
 {
@@ -149,24 +149,24 @@ fn one_sig<'a>(alloc: Global, tokens: Cursor<'a>) -> Result<Read<'a, List<Sig>>,
 /// The source of a port: one signal of a `ScanOutPort`.
 fn read_sources<'a>(
     alloc: Global,
-    owner: Owner,
+    owner: BodyKind,
     tokens: Cursor<'a>,
-) -> Result<Read<'a, List<Sig>>, Stop>
+) -> Result<Parsed<'a, List<Sig>>, Stop>
     ensures shorter { IfOk result (λ r. length r.rest < length tokens.entry) }
     ensures gives { Gives (seen_read (seen_list seen_sig)) result (read_sources owner tokens.entry) }
 {
     match owner {
-        Owner::ScanOut => one_sig(alloc, tokens),
+        BodyKind::ScanOut => one_sig(alloc, tokens),
         _ => read_sigs(alloc, tokens),
     }
 }
 
 /// A property in front of the rest.
-fn some<'a>(prop: Prop, rest: Cursor<'a>) -> Read<'a, Option<Prop>>
+fn some<'a>(prop: Prop, rest: Cursor<'a>) -> Parsed<'a, Option<Prop>>
     ensures value { option_map seen_prop result.value ≡ Some (seen_prop prop) }
     ensures rest { result.rest ≡ rest.entry }
 {
-    Read {
+    Parsed {
         value: Some(prop),
         rest,
     }
@@ -176,50 +176,50 @@ fn some<'a>(prop: Prop, rest: Cursor<'a>) -> Read<'a, Option<Prop>>
 #[tactic(auto, unfolding(crate::specs::Reading::read_prop_behind))]
 fn read_prop_behind<'a>(
     alloc: Global,
-    owner: Owner,
-    word: PropWord,
+    owner: BodyKind,
+    word: PropKeyword,
     tokens: Cursor<'a>,
-) -> Result<Read<'a, Option<Prop>>, Stop>
+) -> Result<Parsed<'a, Option<Prop>>, Stop>
     ensures shorter { IfOk result (λ r. length r.rest ≤ length tokens.entry) }
     ensures gives { Gives (seen_read (option_map seen_prop)) result (read_prop_behind owner word tokens.entry) }
 {
     match word {
-        PropWord::Source => {
+        PropKeyword::Source => {
             let sigs = read_sources(alloc, owner, tokens)?;
             Ok(some(Prop::Source(sigs.value), sigs.rest))
         }
-        PropWord::LaunchEdge => {
+        PropKeyword::LaunchEdge => {
             let edge = read_name(alloc, tokens)?;
             Ok(some(Prop::LaunchEdge(edge.value), edge.rest))
         }
-        PropWord::DefaultLoadValue => {
+        PropKeyword::DefaultLoadValue => {
             let value = read_value(alloc, tokens)?;
             Ok(some(Prop::DefaultLoadValue(value.value), value.rest))
         }
-        PropWord::RefEnum => {
+        PropKeyword::RefEnum => {
             let name = read_name(alloc, tokens)?;
             Ok(some(Prop::RefEnum(name.value), name.rest))
         }
-        PropWord::ActivePolarity => {
+        PropKeyword::ActivePolarity => {
             let n = read_decimal(tokens)?;
             Ok(some(Prop::ActivePolarity(n.value), n.rest))
         }
-        PropWord::ScanInSource => {
+        PropKeyword::ScanInSource => {
             let sig = read_sig(alloc, tokens)?;
             Ok(some(Prop::ScanInSource(sig.value), sig.rest))
         }
-        PropWord::CaptureSource => {
+        PropKeyword::CaptureSource => {
             let sigs = read_sigs(alloc, tokens)?;
             Ok(some(Prop::CaptureSource(sigs.value), sigs.rest))
         }
-        PropWord::ResetValue => {
+        PropKeyword::ResetValue => {
             let value = read_value(alloc, tokens)?;
             Ok(some(Prop::ResetValue(value.value), value.rest))
         }
-        PropWord::AccessTogether => Ok(some(Prop::AccessTogether, tokens)),
-        PropWord::Attribute => {
+        PropKeyword::AccessTogether => Ok(some(Prop::AccessTogether, tokens)),
+        PropKeyword::Attribute => {
             let said = read_attribute_said(alloc, tokens)?;
-            Ok(Read {
+            Ok(Parsed {
                 value: None,
                 rest: said.rest,
             })
@@ -229,17 +229,17 @@ fn read_prop_behind<'a>(
 
 /// The word of a property that may stand there.
 fn read_free_prop<'a>(
-    owner: Owner,
+    owner: BodyKind,
     props: &[Prop],
     tokens: Cursor<'a>,
-) -> Result<Read<'a, PropWord>, Stop>
+) -> Result<Parsed<'a, PropKeyword>, Stop>
     ensures shorter { IfOk result (λ r. length r.rest < length tokens.entry) }
     ensures gives { Gives (seen_read same) result (read_free_prop owner (map seen_prop props.now) tokens.entry) }
 {
     let left = tokens.len();
     match tokens.next() {
         Some((t, rest)) => match free_prop(owner, props, &t) {
-            Some(value) => Ok(Read { value, rest }),
+            Some(value) => Ok(Parsed { value, rest }),
             None => Err(Stop::At(left, None)),
         },
         None => Err(Stop::At(0, None)),
@@ -250,18 +250,18 @@ fn read_free_prop<'a>(
 #[tactic(auto, unfolding(crate::specs::Reading::read_property))]
 fn read_property<'a>(
     alloc: Global,
-    owner: Owner,
+    owner: BodyKind,
     props: &[Prop],
     tokens: Cursor<'a>,
-) -> Result<Read<'a, Option<Prop>>, Stop>
+) -> Result<Parsed<'a, Option<Prop>>, Stop>
     ensures shorter { IfOk result (λ r. length r.rest < length tokens.entry) }
     ensures gives { Gives (seen_read (option_map seen_prop)) result (read_property owner (map seen_prop props.now) tokens.entry) }
 {
     let word = read_free_prop(owner, props, tokens)?;
     let prop = read_prop_behind(alloc, owner, word.value, word.rest)?;
-    let end = read_mark(prop.rest, b';')?;
-    Ok(Read {
-        value: prop.value,
+    let (prop, end) = beside(prop.value, read_mark(prop.rest, b';'))?;
+    Ok(Parsed {
+        value: prop,
         rest: end.rest,
     })
 }
@@ -271,44 +271,45 @@ fn read_property<'a>(
 /// Properties with the next one behind them, if it is kept.
 fn with<'a>(
     props: List<Prop>,
-    next: Read<'a, Option<Prop>>,
-) -> Result<Read<'a, List<Prop>>, OutOfMemory>
+    next: Parsed<'a, Option<Prop>>,
+) -> Result<Parsed<'a, List<Prop>>, OutOfMemory>
     ensures value { IfOk result (λ r. seen_list seen_prop r.value ≡ with_property (seen_list seen_prop props) (option_map seen_prop next.entry.value)) }
     ensures rest { IfOk result (λ r. r.rest ≡ next.entry.rest) }
 {
     let rest = next.rest;
     match next.value {
-        Some(value) => pushed(props, Read { value, rest }),
-        None => Ok(Read { value: props, rest }),
+        Some(value) => pushed(props, Parsed { value, rest }),
+        None => Ok(Parsed { value: props, rest }),
     }
 }
 
 /// Properties with the next one.
 fn with_property<'a>(
     alloc: Global,
-    owner: Owner,
-    props: Read<'a, List<Prop>>,
-) -> Result<Read<'a, List<Prop>>, Stop>
+    owner: BodyKind,
+    props: Parsed<'a, List<Prop>>,
+) -> Result<Parsed<'a, List<Prop>>, Stop>
     ensures shorter { IfOk result (λ r. length r.rest < length props.entry.rest) }
     ensures gives { Gives (seen_read (seen_list seen_prop)) result (read_put (read_property owner (seen_list seen_prop props.entry.value)) with_property (seen_list seen_prop props.entry.value) props.entry.rest) }
 {
     let rest = props.rest;
     let props = props.value;
-    let next = read_property(alloc, owner, props.as_slice(), rest)?;
+    let next = read_property(alloc, owner, props.as_slice(), rest);
+    let (props, next) = beside(props, next)?;
     Ok(with(props, next)?)
 }
 
-/// Properties up to a `}`.
+/// Properties up to a `}` or the end of the tokens.
 #[tactic(auto, unfolding(crate::specs::Reading::read_properties))]
 fn read_properties<'a>(
     alloc: Global,
-    owner: Owner,
+    owner: BodyKind,
     tokens: Cursor<'a>,
-) -> Result<Read<'a, List<Prop>>, Stop>
+) -> Result<Parsed<'a, List<Prop>>, Stop>
     ensures shorter { IfOk result (λ r. length r.rest ≤ length tokens.entry) }
     ensures gives { Gives (seen_read (seen_list seen_prop)) result (read_properties owner tokens.entry) }
 {
-    let mut props = Read {
+    let mut props = Parsed {
         value: List::new(alloc),
         rest: tokens,
     };
@@ -321,11 +322,11 @@ fn read_properties<'a>(
 /// The end of a body: a mark, if the body lacks nothing.
 #[tactic(auto, unfolding(crate::specs::Reading::read_body_end))]
 fn read_body_end<'a>(
-    owner: Owner,
+    owner: BodyKind,
     props: List<Prop>,
     tokens: Cursor<'a>,
     mark: u8,
-) -> Result<Read<'a, List<Prop>>, Stop>
+) -> Result<Parsed<'a, List<Prop>>, Stop>
     ensures shorter { IfOk result (λ r. length r.rest < length tokens.entry) }
     ensures gives { Gives (seen_read (seen_list seen_prop)) result (read_body_end owner (seen_list seen_prop props) mark tokens.entry) }
 {
@@ -333,7 +334,7 @@ fn read_body_end<'a>(
         return Err(Stop::At(tokens.len(), None));
     }
     let end = read_mark(tokens, mark)?;
-    Ok(Read {
+    Ok(Parsed {
         value: props,
         rest: end.rest,
     })
@@ -343,9 +344,9 @@ fn read_body_end<'a>(
 #[tactic(auto, unfolding(crate::specs::Reading::read_braced_body))]
 fn read_braced<'a>(
     alloc: Global,
-    owner: Owner,
+    owner: BodyKind,
     tokens: Cursor<'a>,
-) -> Result<Read<'a, List<Prop>>, Stop>
+) -> Result<Parsed<'a, List<Prop>>, Stop>
     ensures shorter { IfOk result (λ r. length r.rest < length tokens.entry) }
     ensures gives { Gives (seen_read (seen_list seen_prop)) result (read_braced_body owner tokens.entry) }
 {
@@ -358,9 +359,9 @@ fn read_braced<'a>(
 #[tactic(auto, unfolding(crate::specs::Reading::read_body))]
 pub(crate) fn read_body<'a>(
     alloc: Global,
-    owner: Owner,
+    owner: BodyKind,
     tokens: Cursor<'a>,
-) -> Result<Read<'a, List<Prop>>, Stop>
+) -> Result<Parsed<'a, List<Prop>>, Stop>
     ensures shorter { IfOk result (λ r. length r.rest < length tokens.entry) }
     ensures gives { Gives (seen_read (seen_list seen_prop)) result (read_body owner tokens.entry) }
 {

@@ -5,7 +5,7 @@ ghost use Rattle.icl_syntax.specs.Views.{seen_list};
 ghost use Rattle.icl_expressions.specs.Seen.{seen_read, Gives};
 ghost use Rattle.icl_expressions.specs.Reading.{Reading, Shrinks, read_put, more, read_many, read_braced};
 
-use icl_expressions::{Read, Stop, before_close, pushed, read_mark};
+use icl_expressions::{Parsed, Stop, before_close, beside, pushed, read_mark};
 use icl_lexer::Cursor;
 use ij_bits::List;
 use std::alloc::Global;
@@ -21,7 +21,7 @@ pub(crate) trait Entry: Sized {
     ghost reader: { Reading Plain };
 
     /// Reads it.
-    fn read<'a>(alloc: Global, tokens: Cursor<'a>) -> Result<Read<'a, Self>, Stop>
+    fn read<'a>(alloc: Global, tokens: Cursor<'a>) -> Result<Parsed<'a, Self>, Stop>
         ensures shorter { IfOk result (λ r. length r.rest < length tokens.entry) }
         ensures gives { Gives (seen_read view) result (reader tokens.entry) };
 }
@@ -29,20 +29,20 @@ pub(crate) trait Entry: Sized {
 /// Entries with the next one.
 pub(crate) fn with_next<'a, T: Entry + Drop>(
     alloc: Global,
-    entries: Read<'a, List<T>>,
-) -> Result<Read<'a, List<T>>, Stop>
+    entries: Parsed<'a, List<T>>,
+) -> Result<Parsed<'a, List<T>>, Stop>
     ensures shorter { IfOk result (λ r. length r.rest < length entries.entry.rest) }
     ensures gives { Gives (seen_read (seen_list T.view)) result (read_put T.reader appended (seen_list T.view entries.entry.value) entries.entry.rest) }
 {
-    let next = T::read(alloc, entries.rest)?;
-    Ok(pushed(entries.value, next)?)
+    let (values, next) = beside(entries.value, T::read(alloc, entries.rest))?;
+    Ok(pushed(values, next)?)
 }
 
-/// Entries with those that follow, up to a `}`.
+/// Entries with those that follow, up to a `}` or the end of the tokens.
 pub(crate) fn read_behind<'a, T: Entry + Drop>(
     alloc: Global,
-    first: Read<'a, List<T>>,
-) -> Result<Read<'a, List<T>>, Stop>
+    first: Parsed<'a, List<T>>,
+) -> Result<Parsed<'a, List<T>>, Stop>
     requires { Shrinks T.reader }
     ensures shorter { IfOk result (λ r. length r.rest ≤ length first.entry.rest) }
     ensures gives { Gives (seen_read (seen_list T.view)) result (more T.reader (seen_list T.view first.entry.value) first.entry.rest) }
@@ -54,16 +54,16 @@ pub(crate) fn read_behind<'a, T: Entry + Drop>(
     Ok(entries)
 }
 
-/// Entries up to a `}`.
+/// Entries up to a `}` or the end of the tokens.
 pub(crate) fn read_many<'a, T: Entry + Drop>(
     alloc: Global,
     tokens: Cursor<'a>,
-) -> Result<Read<'a, List<T>>, Stop>
+) -> Result<Parsed<'a, List<T>>, Stop>
     requires { Shrinks T.reader }
     ensures shorter { IfOk result (λ r. length r.rest ≤ length tokens.entry) }
     ensures gives { Gives (seen_read (seen_list T.view)) result (read_many T.reader tokens.entry) }
 {
-    let none = Read {
+    let none = Parsed {
         value: List::new(alloc),
         rest: tokens,
     };
@@ -74,16 +74,16 @@ pub(crate) fn read_many<'a, T: Entry + Drop>(
 pub(crate) fn read_braced<'a, T: Entry + Drop>(
     alloc: Global,
     tokens: Cursor<'a>,
-) -> Result<Read<'a, List<T>>, Stop>
+) -> Result<Parsed<'a, List<T>>, Stop>
     requires { Shrinks T.reader }
     ensures shorter { IfOk result (λ r. length r.rest < length tokens.entry) }
     ensures gives { Gives (seen_read (seen_list T.view)) result (read_braced (read_many T.reader) tokens.entry) }
 {
     let open = read_mark(tokens, b'{')?;
     let entries = read_many(alloc, open.rest)?;
-    let close = read_mark(entries.rest, b'}')?;
-    Ok(Read {
-        value: entries.value,
+    let (value, close) = beside(entries.value, read_mark(entries.rest, b'}'))?;
+    Ok(Parsed {
+        value,
         rest: close.rest,
     })
 }

@@ -12,11 +12,11 @@ use crate::bodies::{read_attribute_said, read_body};
 use crate::entries::{Entry, read_behind, read_braced};
 use crate::words::bind_word;
 use icl_expressions::{
-    Read, Stop, begins_mark, maybe_expr_behind, maybe_range, pushed, read_expr_behind, read_mark,
-    read_name, read_parted, read_sig, read_sigs, read_word,
+    Parsed, Stop, begins_mark, beside, maybe_expr_behind, maybe_range, pushed, read_expr_behind,
+    read_mark, read_name, read_parted, read_sig, read_sigs, read_word,
 };
 use icl_lexer::Cursor;
-use icl_syntax::{Bind, BindWord, MuxRow, Owner, PortKind, Range, What};
+use icl_syntax::{Bind, BindKeyword, BodyKind, MuxRow, PortKind, Range, What};
 use ij_bits::List;
 use ij_text::Place;
 use std::alloc::Global;
@@ -24,29 +24,29 @@ use std::alloc::Global;
 // ---- ports, registers, aliases, parameters and attributes
 
 /// What has the body of a port.
-fn owner_of(kind: PortKind) -> Owner
+fn owner_of(kind: PortKind) -> BodyKind
     ensures { result ≡ owner_of kind }
 {
     match kind {
-        PortKind::ScanInPort => Owner::ScanIn,
-        PortKind::ScanOutPort => Owner::ScanOut,
-        PortKind::DataInPort => Owner::DataIn,
-        PortKind::DataOutPort => Owner::DataOut,
-        _ => Owner::Control,
+        PortKind::ScanInPort => BodyKind::ScanIn,
+        PortKind::ScanOutPort => BodyKind::ScanOut,
+        PortKind::DataInPort => BodyKind::DataIn,
+        PortKind::DataOutPort => BodyKind::DataOut,
+        _ => BodyKind::Control,
     }
 }
 
 /// The range of a port, which a scan port hasn't.
 fn read_port_range<'a>(
     alloc: Global,
-    owner: Owner,
+    owner: BodyKind,
     tokens: Cursor<'a>,
-) -> Result<Read<'a, Option<Range>>, Stop>
+) -> Result<Parsed<'a, Option<Range>>, Stop>
     ensures shorter { IfOk result (λ r. length r.rest ≤ length tokens.entry) }
     ensures gives { Gives (seen_read (option_map seen_range)) result (read_port_range owner tokens.entry) }
 {
     match owner {
-        Owner::ScanIn | Owner::ScanOut => Ok(Read {
+        BodyKind::ScanIn | BodyKind::ScanOut => Ok(Parsed {
             value: None,
             rest: tokens,
         }),
@@ -60,17 +60,17 @@ pub(crate) fn read_port<'a>(
     alloc: Global,
     kind: PortKind,
     tokens: Cursor<'a>,
-) -> Result<Read<'a, What>, Stop>
+) -> Result<Parsed<'a, What>, Stop>
     ensures shorter { IfOk result (λ r. length r.rest < length tokens.entry) }
     ensures gives { Gives (seen_read seen_what) result (read_port kind tokens.entry) }
 {
     let owner = owner_of(kind);
     let range = read_port_range(alloc, owner, tokens)?;
-    let props = read_body(alloc, owner, range.rest)?;
-    Ok(Read {
+    let (range, props) = beside(range.value, read_body(alloc, owner, range.rest))?;
+    Ok(Parsed {
         value: What::Port {
             kind,
-            range: range.value,
+            range,
             props: props.value,
         },
         rest: props.rest,
@@ -79,15 +79,18 @@ pub(crate) fn read_port<'a>(
 
 /// A scan register behind its name.
 #[tactic(auto, unfolding(crate::specs::Reading::read_register))]
-pub(crate) fn read_register<'a>(alloc: Global, tokens: Cursor<'a>) -> Result<Read<'a, What>, Stop>
+pub(crate) fn read_register<'a>(alloc: Global, tokens: Cursor<'a>) -> Result<Parsed<'a, What>, Stop>
     ensures shorter { IfOk result (λ r. length r.rest < length tokens.entry) }
     ensures gives { Gives (seen_read seen_what) result (read_register tokens.entry) }
 {
     let range = maybe_range(alloc, tokens)?;
-    let props = read_body(alloc, Owner::Register, range.rest)?;
-    Ok(Read {
+    let (range, props) = beside(
+        range.value,
+        read_body(alloc, BodyKind::Register, range.rest),
+    )?;
+    Ok(Parsed {
         value: What::Register {
-            range: range.value,
+            range,
             props: props.value,
         },
         rest: props.rest,
@@ -96,18 +99,19 @@ pub(crate) fn read_register<'a>(alloc: Global, tokens: Cursor<'a>) -> Result<Rea
 
 /// An alias behind its name.
 #[tactic(auto, unfolding(crate::specs::Reading::read_alias))]
-pub(crate) fn read_alias<'a>(alloc: Global, tokens: Cursor<'a>) -> Result<Read<'a, What>, Stop>
+pub(crate) fn read_alias<'a>(alloc: Global, tokens: Cursor<'a>) -> Result<Parsed<'a, What>, Stop>
     ensures shorter { IfOk result (λ r. length r.rest < length tokens.entry) }
     ensures gives { Gives (seen_read seen_what) result (read_alias tokens.entry) }
 {
     let range = maybe_range(alloc, tokens)?;
-    let equals = read_mark(range.rest, b'=')?;
-    let sigs = read_sigs(alloc, equals.rest)?;
-    let props = read_body(alloc, Owner::Alias, sigs.rest)?;
-    Ok(Read {
+    let (range, equals) = beside(range.value, read_mark(range.rest, b'='))?;
+    let (range, sigs) = beside(range, read_sigs(alloc, equals.rest))?;
+    let props = beside(sigs.value, read_body(alloc, BodyKind::Alias, sigs.rest));
+    let (range, (sigs, props)) = beside(range, props)?;
+    Ok(Parsed {
         value: What::Alias {
-            range: range.value,
-            sigs: sigs.value,
+            range,
+            sigs,
             props: props.value,
         },
         rest: props.rest,
@@ -120,31 +124,31 @@ pub(crate) fn read_parameter<'a>(
     alloc: Global,
     local: bool,
     tokens: Cursor<'a>,
-) -> Result<Read<'a, What>, Stop>
+) -> Result<Parsed<'a, What>, Stop>
     ensures shorter { IfOk result (λ r. length r.rest < length tokens.entry) }
     ensures gives { Gives (seen_read seen_what) result (read_parameter local tokens.entry) }
 {
     let value = read_expr_behind(alloc, tokens, b'=')?;
-    let end = read_mark(value.rest, b';')?;
-    Ok(Read {
-        value: What::Parameter {
-            local,
-            value: value.value,
-        },
+    let (value, end) = beside(value.value, read_mark(value.rest, b';'))?;
+    Ok(Parsed {
+        value: What::Parameter { local, value },
         rest: end.rest,
     })
 }
 
 /// An attribute of a module behind its name.
 #[tactic(auto, unfolding(crate::specs::Reading::read_attribute))]
-pub(crate) fn read_attribute<'a>(alloc: Global, tokens: Cursor<'a>) -> Result<Read<'a, What>, Stop>
+pub(crate) fn read_attribute<'a>(
+    alloc: Global,
+    tokens: Cursor<'a>,
+) -> Result<Parsed<'a, What>, Stop>
     ensures shorter { IfOk result (λ r. length r.rest < length tokens.entry) }
     ensures gives { Gives (seen_read seen_what) result (read_attribute tokens.entry) }
 {
     let value = maybe_expr_behind(alloc, tokens, b'=')?;
-    let end = read_mark(value.rest, b';')?;
-    Ok(Read {
-        value: What::Attribute { value: value.value },
+    let (value, end) = beside(value.value, read_mark(value.rest, b';'))?;
+    Ok(Parsed {
+        value: What::Attribute { value },
         rest: end.rest,
     })
 }
@@ -160,24 +164,25 @@ impl Entry for MuxRow {
 
     ghost reader = { read_row };
 
-    fn read<'a>(alloc: Global, tokens: Cursor<'a>) -> Result<Read<'a, MuxRow>, Stop> {
+    fn read<'a>(alloc: Global, tokens: Cursor<'a>) -> Result<Parsed<'a, MuxRow>, Stop> {
         let values = read_parted(alloc, tokens, b'|')?;
-        let colon = read_mark(values.rest, b':')?;
-        let source = read_sig(alloc, colon.rest)?;
-        let end = read_mark(source.rest, b';')?;
-        Ok(Read {
-            value: MuxRow {
-                values: values.value,
-                source: source.value,
-            },
+        let (values, colon) = beside(values.value, read_mark(values.rest, b':'))?;
+        let (values, source) = beside(values, read_sig(alloc, colon.rest))?;
+        let row = MuxRow {
+            values,
+            source: source.value,
+        };
+        let (row, end) = beside(row, read_mark(source.rest, b';'))?;
+        Ok(Parsed {
+            value: row,
             rest: end.rest,
         })
     }
 }
 
-/// One row or more, up to a `}`.
+/// One row or more, up to a `}` or the end of the tokens.
 #[tactic(auto, using(crate::proofs::ItemLaws::row_shrinks), unfolding(crate::specs::Reading::read_rows))]
-fn read_rows<'a>(alloc: Global, tokens: Cursor<'a>) -> Result<Read<'a, List<MuxRow>>, Stop>
+fn read_rows<'a>(alloc: Global, tokens: Cursor<'a>) -> Result<Parsed<'a, List<MuxRow>>, Stop>
     ensures shorter { IfOk result (λ r. length r.rest < length tokens.entry) }
     ensures gives { Gives (seen_read (seen_list seen_row)) result (read_rows tokens.entry) }
 {
@@ -188,20 +193,18 @@ fn read_rows<'a>(alloc: Global, tokens: Cursor<'a>) -> Result<Read<'a, List<MuxR
 
 /// A multiplexer behind its name.
 #[tactic(auto, unfolding(crate::specs::Reading::read_mux))]
-pub(crate) fn read_mux<'a>(alloc: Global, tokens: Cursor<'a>) -> Result<Read<'a, What>, Stop>
+pub(crate) fn read_mux<'a>(alloc: Global, tokens: Cursor<'a>) -> Result<Parsed<'a, What>, Stop>
     ensures shorter { IfOk result (λ r. length r.rest < length tokens.entry) }
     ensures gives { Gives (seen_read seen_what) result (read_mux tokens.entry) }
 {
     let by = read_word(tokens, b"SelectedBy")?;
     let select = read_sigs(alloc, by.rest)?;
-    let open = read_mark(select.rest, b'{')?;
-    let rows = read_rows(alloc, open.rest)?;
-    let close = read_mark(rows.rest, b'}')?;
-    Ok(Read {
-        value: What::Mux {
-            select: select.value,
-            rows: rows.value,
-        },
+    let (select, open) = beside(select.value, read_mark(select.rest, b'{'))?;
+    let (select, rows) = beside(select, read_rows(alloc, open.rest))?;
+    let close = beside(rows.value, read_mark(rows.rest, b'}'));
+    let (select, (rows, close)) = beside(select, close)?;
+    Ok(Parsed {
+        value: What::Mux { select, rows },
         rest: close.rest,
     })
 }
@@ -210,19 +213,25 @@ pub(crate) fn read_mux<'a>(alloc: Global, tokens: Cursor<'a>) -> Result<Read<'a,
 
 /// A binding of a port behind its word.
 #[tactic(auto, unfolding(crate::specs::Reading::read_bound_port))]
-fn read_bound_port<'a>(alloc: Global, at: Place, tokens: Cursor<'a>) -> Result<Read<'a, Bind>, Stop>
+fn read_bound_port<'a>(
+    alloc: Global,
+    at: Place,
+    tokens: Cursor<'a>,
+) -> Result<Parsed<'a, Bind>, Stop>
     ensures shorter { IfOk result (λ r. length r.rest < length tokens.entry) }
     ensures gives { Gives (seen_read seen_bind) result (read_bound_port at tokens.entry) }
 {
     let name = read_name(alloc, tokens)?;
-    let range = maybe_range(alloc, name.rest)?;
-    let equals = read_mark(range.rest, b'=')?;
-    let sigs = read_sigs(alloc, equals.rest)?;
-    Ok(Read {
+    let (name, range) = beside(name.value, maybe_range(alloc, name.rest))?;
+    let equals = beside(range.value, read_mark(range.rest, b'='));
+    let (name, (range, equals)) = beside(name, equals)?;
+    let sigs = beside(range, read_sigs(alloc, equals.rest));
+    let (name, (range, sigs)) = beside(name, sigs)?;
+    Ok(Parsed {
         value: Bind::Port {
             at,
-            name: name.value,
-            range: range.value,
+            name,
+            range,
             sigs: sigs.value,
         },
         rest: sigs.rest,
@@ -235,16 +244,16 @@ fn read_bound_parameter<'a>(
     alloc: Global,
     at: Place,
     tokens: Cursor<'a>,
-) -> Result<Read<'a, Bind>, Stop>
+) -> Result<Parsed<'a, Bind>, Stop>
     ensures shorter { IfOk result (λ r. length r.rest < length tokens.entry) }
     ensures gives { Gives (seen_read seen_bind) result (read_bound_parameter at tokens.entry) }
 {
     let name = read_name(alloc, tokens)?;
-    let value = read_expr_behind(alloc, name.rest, b'=')?;
-    Ok(Read {
+    let (name, value) = beside(name.value, read_expr_behind(alloc, name.rest, b'='))?;
+    Ok(Parsed {
         value: Bind::Parameter {
             at,
-            name: name.value,
+            name,
             value: value.value,
         },
         rest: value.rest,
@@ -253,12 +262,12 @@ fn read_bound_parameter<'a>(
 
 /// An attribute of an instance behind its word.
 #[tactic(auto, unfolding(crate::specs::Reading::read_bound_attribute))]
-fn read_bound_attribute<'a>(alloc: Global, tokens: Cursor<'a>) -> Result<Read<'a, Bind>, Stop>
+fn read_bound_attribute<'a>(alloc: Global, tokens: Cursor<'a>) -> Result<Parsed<'a, Bind>, Stop>
     ensures shorter { IfOk result (λ r. length r.rest < length tokens.entry) }
     ensures gives { Gives (seen_read seen_bind) result (read_bound_attribute tokens.entry) }
 {
     let said = read_attribute_said(alloc, tokens)?;
-    Ok(Read {
+    Ok(Parsed {
         value: Bind::Attribute {
             name: said.value.name,
             value: said.value.value,
@@ -271,16 +280,16 @@ fn read_bound_attribute<'a>(alloc: Global, tokens: Cursor<'a>) -> Result<Read<'a
 fn read_bind_behind<'a>(
     alloc: Global,
     at: Place,
-    word: BindWord,
+    word: BindKeyword,
     tokens: Cursor<'a>,
-) -> Result<Read<'a, Bind>, Stop>
+) -> Result<Parsed<'a, Bind>, Stop>
     ensures shorter { IfOk result (λ r. length r.rest < length tokens.entry) }
     ensures gives { Gives (seen_read seen_bind) result (read_bind_behind at word tokens.entry) }
 {
     match word {
-        BindWord::BindsPort => read_bound_port(alloc, at, tokens),
-        BindWord::BindsParameter => read_bound_parameter(alloc, at, tokens),
-        BindWord::BindsAttribute => read_bound_attribute(alloc, tokens),
+        BindKeyword::BindsPort => read_bound_port(alloc, at, tokens),
+        BindKeyword::BindsParameter => read_bound_parameter(alloc, at, tokens),
+        BindKeyword::BindsAttribute => read_bound_attribute(alloc, tokens),
     }
 }
 
@@ -288,17 +297,17 @@ fn read_bind_behind<'a>(
 #[derive(Clone, Copy, Debug, Drop)]
 pub(crate) struct BindBegin {
     pub at: Place,
-    pub word: BindWord,
+    pub word: BindKeyword,
 }
 
-fn read_bind_begin<'a>(tokens: Cursor<'a>) -> Result<Read<'a, BindBegin>, Stop>
+fn read_bind_begin<'a>(tokens: Cursor<'a>) -> Result<Parsed<'a, BindBegin>, Stop>
     ensures shorter { IfOk result (λ r. length r.rest < length tokens.entry) }
     ensures gives { Gives (seen_read seen_bind_begin) result (read_bind_begin tokens.entry) }
 {
     let left = tokens.len();
     match tokens.next() {
         Some((t, rest)) => match bind_word(&t) {
-            Some(word) => Ok(Read {
+            Some(word) => Ok(Parsed {
                 value: BindBegin { at: t.at, word },
                 rest,
             }),
@@ -317,12 +326,12 @@ impl Entry for Bind {
 
     ghost reader = { read_bind };
 
-    fn read<'a>(alloc: Global, tokens: Cursor<'a>) -> Result<Read<'a, Bind>, Stop> {
+    fn read<'a>(alloc: Global, tokens: Cursor<'a>) -> Result<Parsed<'a, Bind>, Stop> {
         let begin = read_bind_begin(tokens)?;
         let bind = read_bind_behind(alloc, begin.value.at, begin.value.word, begin.rest)?;
-        let end = read_mark(bind.rest, b';')?;
-        Ok(Read {
-            value: bind.value,
+        let (bind, end) = beside(bind.value, read_mark(bind.rest, b';'))?;
+        Ok(Parsed {
+            value: bind,
             rest: end.rest,
         })
     }
@@ -330,7 +339,7 @@ impl Entry for Bind {
 
 /// A `;`, or bindings in braces.
 #[tactic(auto, using(crate::proofs::ItemLaws::bind_shrinks), unfolding(crate::specs::Reading::read_binds, crate::specs::Reading::read_braced_binds, crate::specs::Reading::read_many_binds))]
-fn read_binds<'a>(alloc: Global, tokens: Cursor<'a>) -> Result<Read<'a, List<Bind>>, Stop>
+fn read_binds<'a>(alloc: Global, tokens: Cursor<'a>) -> Result<Parsed<'a, List<Bind>>, Stop>
     ensures shorter { IfOk result (λ r. length r.rest < length tokens.entry) }
     ensures gives { Gives (seen_read (seen_list seen_bind)) result (read_binds tokens.entry) }
 {
@@ -338,7 +347,7 @@ fn read_binds<'a>(alloc: Global, tokens: Cursor<'a>) -> Result<Read<'a, List<Bin
         return read_braced(alloc, tokens);
     }
     let end = read_mark(tokens, b';')?;
-    Ok(Read {
+    Ok(Parsed {
         value: List::new(alloc),
         rest: end.rest,
     })
@@ -346,16 +355,16 @@ fn read_binds<'a>(alloc: Global, tokens: Cursor<'a>) -> Result<Read<'a, List<Bin
 
 /// An instance behind its name.
 #[tactic(auto, unfolding(crate::specs::Reading::read_child))]
-pub(crate) fn read_child<'a>(alloc: Global, tokens: Cursor<'a>) -> Result<Read<'a, What>, Stop>
+pub(crate) fn read_child<'a>(alloc: Global, tokens: Cursor<'a>) -> Result<Parsed<'a, What>, Stop>
     ensures shorter { IfOk result (λ r. length r.rest < length tokens.entry) }
     ensures gives { Gives (seen_read seen_what) result (read_child tokens.entry) }
 {
     let of = read_word(tokens, b"Of")?;
     let module = read_name(alloc, of.rest)?;
-    let binds = read_binds(alloc, module.rest)?;
-    Ok(Read {
+    let (module, binds) = beside(module.value, read_binds(alloc, module.rest))?;
+    Ok(Parsed {
         value: What::Child {
-            module: module.value,
+            module,
             binds: binds.value,
         },
         rest: binds.rest,

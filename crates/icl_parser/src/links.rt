@@ -13,10 +13,10 @@ use crate::bodies::read_attribute_said;
 use crate::entries::{Entry, read_braced, read_many};
 use crate::words::{link_kind, member_word};
 use icl_expressions::{
-    Read, Stop, before_close, pushed, read_mark, read_name, read_value, read_word,
+    Parsed, Stop, before_close, beside, pushed, read_mark, read_name, read_value, read_word,
 };
 use icl_lexer::Cursor;
-use icl_syntax::{EnumWord, LinkInstr, LinkKind, MemberWord, SmallText, What};
+use icl_syntax::{EnumWord, LinkInstr, LinkKind, MemberKeyword, SmallText, What};
 use ij_bits::{List, OutOfMemory};
 use std::alloc::Global;
 
@@ -31,16 +31,17 @@ impl Entry for EnumWord {
 
     ghost reader = { read_enum_word };
 
-    fn read<'a>(alloc: Global, tokens: Cursor<'a>) -> Result<Read<'a, EnumWord>, Stop> {
+    fn read<'a>(alloc: Global, tokens: Cursor<'a>) -> Result<Parsed<'a, EnumWord>, Stop> {
         let name = read_name(alloc, tokens)?;
-        let equals = read_mark(name.rest, b'=')?;
-        let value = read_value(alloc, equals.rest)?;
-        let end = read_mark(value.rest, b';')?;
-        Ok(Read {
-            value: EnumWord {
-                name: name.value,
-                value: value.value,
-            },
+        let (name, equals) = beside(name.value, read_mark(name.rest, b'='))?;
+        let (name, value) = beside(name, read_value(alloc, equals.rest))?;
+        let word = EnumWord {
+            name,
+            value: value.value,
+        };
+        let (word, end) = beside(word, read_mark(value.rest, b';'))?;
+        Ok(Parsed {
+            value: word,
             rest: end.rest,
         })
     }
@@ -48,12 +49,12 @@ impl Entry for EnumWord {
 
 /// An enumeration behind its name.
 #[tactic(auto, using(crate::proofs::DesignLaws::enum_word_shrinks), unfolding(crate::specs::Reading::read_words, crate::specs::Reading::read_many_words))]
-pub(crate) fn read_words<'a>(alloc: Global, tokens: Cursor<'a>) -> Result<Read<'a, What>, Stop>
+pub(crate) fn read_words<'a>(alloc: Global, tokens: Cursor<'a>) -> Result<Parsed<'a, What>, Stop>
     ensures shorter { IfOk result (λ r. length r.rest < length tokens.entry) }
     ensures gives { Gives (seen_read seen_what) result (read_words tokens.entry) }
 {
     let words = read_braced(alloc, tokens)?;
-    Ok(Read {
+    Ok(Parsed {
         value: What::Words { words: words.value },
         rest: words.rest,
     })
@@ -61,14 +62,14 @@ pub(crate) fn read_words<'a>(alloc: Global, tokens: Cursor<'a>) -> Result<Read<'
 
 // ---- interfaces
 
-fn read_member_word<'a>(tokens: Cursor<'a>) -> Result<Read<'a, MemberWord>, Stop>
+fn read_member_word<'a>(tokens: Cursor<'a>) -> Result<Parsed<'a, MemberKeyword>, Stop>
     ensures shorter { IfOk result (λ r. length r.rest < length tokens.entry) }
     ensures gives { Gives (seen_read same) result (read_member_word tokens.entry) }
 {
     let left = tokens.len();
     match tokens.next() {
         Some((t, rest)) => match member_word(&t) {
-            Some(value) => Ok(Read { value, rest }),
+            Some(value) => Ok(Parsed { value, rest }),
             None => Err(Stop::At(left, None)),
         },
         None => Err(Stop::At(0, None)),
@@ -78,23 +79,23 @@ fn read_member_word<'a>(tokens: Cursor<'a>) -> Result<Read<'a, MemberWord>, Stop
 /// What stands behind the word of a member. An attribute isn't kept.
 fn read_member_behind<'a>(
     alloc: Global,
-    word: MemberWord,
+    word: MemberKeyword,
     tokens: Cursor<'a>,
-) -> Result<Read<'a, Option<SmallText>>, Stop>
+) -> Result<Parsed<'a, Option<SmallText>>, Stop>
     ensures shorter { IfOk result (λ r. length r.rest < length tokens.entry) }
     ensures gives { Gives (seen_read (option_map bytes_of)) result (read_member_behind word tokens.entry) }
 {
     match word {
-        MemberWord::MemberPort => {
+        MemberKeyword::MemberPort => {
             let name = read_name(alloc, tokens)?;
-            Ok(Read {
+            Ok(Parsed {
                 value: Some(name.value),
                 rest: name.rest,
             })
         }
-        MemberWord::MemberAttribute => {
+        MemberKeyword::MemberAttribute => {
             let said = read_attribute_said(alloc, tokens)?;
-            Ok(Read {
+            Ok(Parsed {
                 value: None,
                 rest: said.rest,
             })
@@ -104,15 +105,15 @@ fn read_member_behind<'a>(
 
 /// A member of an interface up to its `;`.
 #[tactic(auto, unfolding(crate::specs::Reading::read_member))]
-fn read_member<'a>(alloc: Global, tokens: Cursor<'a>) -> Result<Read<'a, Option<SmallText>>, Stop>
+fn read_member<'a>(alloc: Global, tokens: Cursor<'a>) -> Result<Parsed<'a, Option<SmallText>>, Stop>
     ensures shorter { IfOk result (λ r. length r.rest < length tokens.entry) }
     ensures gives { Gives (seen_read (option_map bytes_of)) result (read_member tokens.entry) }
 {
     let word = read_member_word(tokens)?;
     let name = read_member_behind(alloc, word.value, word.rest)?;
-    let end = read_mark(name.rest, b';')?;
-    Ok(Read {
-        value: name.value,
+    let (name, end) = beside(name.value, read_mark(name.rest, b';'))?;
+    Ok(Parsed {
+        value: name,
         rest: end.rest,
     })
 }
@@ -120,37 +121,37 @@ fn read_member<'a>(alloc: Global, tokens: Cursor<'a>) -> Result<Read<'a, Option<
 /// Names with the next one behind them, if it is kept.
 fn with<'a>(
     names: List<SmallText>,
-    next: Read<'a, Option<SmallText>>,
-) -> Result<Read<'a, List<SmallText>>, OutOfMemory>
+    next: Parsed<'a, Option<SmallText>>,
+) -> Result<Parsed<'a, List<SmallText>>, OutOfMemory>
     ensures value { IfOk result (λ r. seen_list bytes_of r.value ≡ with_member (seen_list bytes_of names) (option_map bytes_of next.entry.value)) }
     ensures rest { IfOk result (λ r. r.rest ≡ next.entry.rest) }
 {
     let rest = next.rest;
     match next.value {
-        Some(value) => pushed(names, Read { value, rest }),
-        None => Ok(Read { value: names, rest }),
+        Some(value) => pushed(names, Parsed { value, rest }),
+        None => Ok(Parsed { value: names, rest }),
     }
 }
 
 /// Members of an interface with the next one.
 fn with_next_member<'a>(
     alloc: Global,
-    names: Read<'a, List<SmallText>>,
-) -> Result<Read<'a, List<SmallText>>, Stop>
+    names: Parsed<'a, List<SmallText>>,
+) -> Result<Parsed<'a, List<SmallText>>, Stop>
     ensures shorter { IfOk result (λ r. length r.rest < length names.entry.rest) }
     ensures gives { Gives (seen_read (seen_list bytes_of)) result (read_put read_member with_member (seen_list bytes_of names.entry.value) names.entry.rest) }
 {
-    let next = read_member(alloc, names.rest)?;
-    Ok(with(names.value, next)?)
+    let (names, next) = beside(names.value, read_member(alloc, names.rest))?;
+    Ok(with(names, next)?)
 }
 
-/// Members of an interface up to a `}`.
+/// Members of an interface up to a `}` or the end of the tokens.
 #[tactic(auto, unfolding(crate::specs::Reading::read_members))]
-fn read_members<'a>(alloc: Global, tokens: Cursor<'a>) -> Result<Read<'a, List<SmallText>>, Stop>
+fn read_members<'a>(alloc: Global, tokens: Cursor<'a>) -> Result<Parsed<'a, List<SmallText>>, Stop>
     ensures shorter { IfOk result (λ r. length r.rest ≤ length tokens.entry) }
     ensures gives { Gives (seen_read (seen_list bytes_of)) result (read_members tokens.entry) }
 {
-    let mut names = Read {
+    let mut names = Parsed {
         value: List::new(alloc),
         rest: tokens,
     };
@@ -162,15 +163,18 @@ fn read_members<'a>(alloc: Global, tokens: Cursor<'a>) -> Result<Read<'a, List<S
 
 /// A scan interface behind its name.
 #[tactic(auto, unfolding(crate::specs::Reading::read_interface))]
-pub(crate) fn read_interface<'a>(alloc: Global, tokens: Cursor<'a>) -> Result<Read<'a, What>, Stop>
+pub(crate) fn read_interface<'a>(
+    alloc: Global,
+    tokens: Cursor<'a>,
+) -> Result<Parsed<'a, What>, Stop>
     ensures shorter { IfOk result (λ r. length r.rest < length tokens.entry) }
     ensures gives { Gives (seen_read seen_what) result (read_interface tokens.entry) }
 {
     let open = read_mark(tokens, b'{')?;
     let ports = read_members(alloc, open.rest)?;
-    let close = read_mark(ports.rest, b'}')?;
-    Ok(Read {
-        value: What::Interface { ports: ports.value },
+    let (ports, close) = beside(ports.value, read_mark(ports.rest, b'}'))?;
+    Ok(Parsed {
+        value: What::Interface { ports },
         rest: close.rest,
     })
 }
@@ -185,35 +189,36 @@ pub(crate) struct Selected {
 }
 
 #[tactic(auto, unfolding(crate::specs::Reading::read_selected))]
-fn read_selected<'a>(alloc: Global, tokens: Cursor<'a>) -> Result<Read<'a, Selected>, Stop>
+fn read_selected<'a>(alloc: Global, tokens: Cursor<'a>) -> Result<Parsed<'a, Selected>, Stop>
     ensures shorter { IfOk result (λ r. length r.rest < length tokens.entry) }
     ensures gives { Gives (seen_read seen_selected) result (read_selected tokens.entry) }
 {
     let cell = read_name(alloc, tokens)?;
-    let dot = read_mark(cell.rest, b'.')?;
-    let interface = read_name(alloc, dot.rest)?;
-    let end = read_mark(interface.rest, b';')?;
-    Ok(Read {
-        value: Selected {
-            cell: cell.value,
-            interface: interface.value,
-        },
+    let (cell, dot) = beside(cell.value, read_mark(cell.rest, b'.'))?;
+    let (cell, interface) = beside(cell, read_name(alloc, dot.rest))?;
+    let selected = Selected {
+        cell,
+        interface: interface.value,
+    };
+    let (selected, end) = beside(selected, read_mark(interface.rest, b';'))?;
+    Ok(Parsed {
+        value: selected,
         rest: end.rest,
     })
 }
 
 /// The `ScanInterface` of an instruction.
 #[tactic(auto, unfolding(crate::specs::Reading::read_selecting))]
-fn read_selecting<'a>(alloc: Global, tokens: Cursor<'a>) -> Result<Read<'a, Selected>, Stop>
+fn read_selecting<'a>(alloc: Global, tokens: Cursor<'a>) -> Result<Parsed<'a, Selected>, Stop>
     ensures shorter { IfOk result (λ r. length r.rest < length tokens.entry) }
     ensures gives { Gives (seen_read seen_selected) result (read_selecting tokens.entry) }
 {
     let word = read_word(tokens, b"ScanInterface")?;
     let open = read_mark(word.rest, b'{')?;
     let selected = read_selected(alloc, open.rest)?;
-    let close = read_mark(selected.rest, b'}')?;
-    Ok(Read {
-        value: selected.value,
+    let (selected, close) = beside(selected.value, read_mark(selected.rest, b'}'))?;
+    Ok(Parsed {
+        value: selected,
         rest: close.rest,
     })
 }
@@ -227,17 +232,18 @@ impl Entry for LinkInstr {
 
     ghost reader = { read_instruction };
 
-    fn read<'a>(alloc: Global, tokens: Cursor<'a>) -> Result<Read<'a, LinkInstr>, Stop> {
+    fn read<'a>(alloc: Global, tokens: Cursor<'a>) -> Result<Parsed<'a, LinkInstr>, Stop> {
         let name = read_name(alloc, tokens)?;
-        let open = read_mark(name.rest, b'{')?;
-        let selected = read_selecting(alloc, open.rest)?;
-        let close = read_mark(selected.rest, b'}')?;
-        Ok(Read {
-            value: LinkInstr {
-                name: name.value,
-                cell: selected.value.cell,
-                interface: selected.value.interface,
-            },
+        let (name, open) = beside(name.value, read_mark(name.rest, b'{'))?;
+        let (name, selected) = beside(name, read_selecting(alloc, open.rest))?;
+        let instr = LinkInstr {
+            name,
+            cell: selected.value.cell,
+            interface: selected.value.interface,
+        };
+        let (instr, close) = beside(instr, read_mark(selected.rest, b'}'))?;
+        Ok(Parsed {
+            value: instr,
             rest: close.rest,
         })
     }
@@ -245,27 +251,27 @@ impl Entry for LinkInstr {
 
 /// The entity of an access link.
 #[tactic(auto, unfolding(crate::specs::Reading::read_entity))]
-fn read_entity<'a>(alloc: Global, tokens: Cursor<'a>) -> Result<Read<'a, SmallText>, Stop>
+fn read_entity<'a>(alloc: Global, tokens: Cursor<'a>) -> Result<Parsed<'a, SmallText>, Stop>
     ensures shorter { IfOk result (λ r. length r.rest < length tokens.entry) }
     ensures gives { Gives (seen_read bytes_of) result (read_entity tokens.entry) }
 {
     let word = read_word(tokens, b"BSDLEntity")?;
     let name = read_name(alloc, word.rest)?;
-    let end = read_mark(name.rest, b';')?;
-    Ok(Read {
-        value: name.value,
+    let (name, end) = beside(name.value, read_mark(name.rest, b';'))?;
+    Ok(Parsed {
+        value: name,
         rest: end.rest,
     })
 }
 
-fn read_link_kind<'a>(tokens: Cursor<'a>) -> Result<Read<'a, LinkKind>, Stop>
+fn read_link_kind<'a>(tokens: Cursor<'a>) -> Result<Parsed<'a, LinkKind>, Stop>
     ensures shorter { IfOk result (λ r. length r.rest < length tokens.entry) }
     ensures gives { Gives (seen_read same) result (read_link_kind tokens.entry) }
 {
     let left = tokens.len();
     match tokens.next() {
         Some((t, rest)) => match link_kind(&t) {
-            Some(value) => Ok(Read { value, rest }),
+            Some(value) => Ok(Parsed { value, rest }),
             None => Err(Stop::At(left, None)),
         },
         None => Err(Stop::At(0, None)),
@@ -274,7 +280,7 @@ fn read_link_kind<'a>(tokens: Cursor<'a>) -> Result<Read<'a, LinkKind>, Stop>
 
 /// An access link behind its name.
 #[tactic(auto, using(crate::proofs::DesignLaws::instruction_shrinks), unfolding(crate::specs::Reading::read_link, crate::specs::Reading::read_instructions))]
-pub(crate) fn read_link<'a>(alloc: Global, tokens: Cursor<'a>) -> Result<Read<'a, What>, Stop>
+pub(crate) fn read_link<'a>(alloc: Global, tokens: Cursor<'a>) -> Result<Parsed<'a, What>, Stop>
     ensures shorter { IfOk result (λ r. length r.rest < length tokens.entry) }
     ensures gives { Gives (seen_read seen_what) result (read_link tokens.entry) }
 {
@@ -282,13 +288,14 @@ pub(crate) fn read_link<'a>(alloc: Global, tokens: Cursor<'a>) -> Result<Read<'a
     let kind = read_link_kind(of.rest)?;
     let open = read_mark(kind.rest, b'{')?;
     let entity = read_entity(alloc, open.rest)?;
-    let instrs = read_many(alloc, entity.rest)?;
-    let close = read_mark(instrs.rest, b'}')?;
-    Ok(Read {
+    let (entity, instrs) = beside(entity.value, read_many(alloc, entity.rest))?;
+    let close = beside(instrs.value, read_mark(instrs.rest, b'}'));
+    let (entity, (instrs, close)) = beside(entity, close)?;
+    Ok(Parsed {
         value: What::Link {
             kind: kind.value,
-            entity: entity.value,
-            instrs: instrs.value,
+            entity,
+            instrs,
         },
         rest: close.rest,
     })

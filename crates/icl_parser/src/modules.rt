@@ -12,9 +12,9 @@ use crate::items::{
 };
 use crate::links::{read_interface, read_link, read_words};
 use crate::words::item_word;
-use icl_expressions::{Read, Stop, read_name, read_word};
+use icl_expressions::{Parsed, Stop, beside, read_name, read_word};
 use icl_lexer::Cursor;
-use icl_syntax::{Item, ItemWord, Module, What};
+use icl_syntax::{Item, ItemKeyword, Module, What};
 use ij_bits::List;
 use ij_text::Place;
 use std::alloc::Global;
@@ -23,17 +23,17 @@ use std::alloc::Global;
 #[derive(Clone, Copy, Debug, Drop)]
 pub(crate) struct ItemBegin {
     pub at: Place,
-    pub word: ItemWord,
+    pub word: ItemKeyword,
 }
 
-fn read_item_begin<'a>(tokens: Cursor<'a>) -> Result<Read<'a, ItemBegin>, Stop>
+fn read_item_begin<'a>(tokens: Cursor<'a>) -> Result<Parsed<'a, ItemBegin>, Stop>
     ensures shorter { IfOk result (λ r. length r.rest < length tokens.entry) }
     ensures gives { Gives (seen_read seen_item_begin) result (read_item_begin tokens.entry) }
 {
     let left = tokens.len();
     match tokens.next() {
         Some((t, rest)) => match item_word(&t) {
-            Some(word) => Ok(Read {
+            Some(word) => Ok(Parsed {
                 value: ItemBegin { at: t.at, word },
                 rest,
             }),
@@ -47,23 +47,23 @@ fn read_item_begin<'a>(tokens: Cursor<'a>) -> Result<Read<'a, ItemBegin>, Stop>
 #[tactic(auto, unfolding(crate::specs::Reading::read_meaning_behind))]
 fn read_meaning_behind<'a>(
     alloc: Global,
-    word: ItemWord,
+    word: ItemKeyword,
     tokens: Cursor<'a>,
-) -> Result<Read<'a, What>, Stop>
+) -> Result<Parsed<'a, What>, Stop>
     ensures shorter { IfOk result (λ r. length r.rest < length tokens.entry) }
     ensures gives { Gives (seen_read seen_what) result (read_meaning_behind word tokens.entry) }
 {
     match word {
-        ItemWord::OfPort(kind) => read_port(alloc, kind, tokens),
-        ItemWord::OfRegister => read_register(alloc, tokens),
-        ItemWord::OfMux => read_mux(alloc, tokens),
-        ItemWord::OfChild => read_child(alloc, tokens),
-        ItemWord::OfAlias => read_alias(alloc, tokens),
-        ItemWord::OfEnum => read_words(alloc, tokens),
-        ItemWord::OfParameter(local) => read_parameter(alloc, local, tokens),
-        ItemWord::OfAttribute => read_attribute(alloc, tokens),
-        ItemWord::OfInterface => read_interface(alloc, tokens),
-        ItemWord::OfLink => read_link(alloc, tokens),
+        ItemKeyword::OfPort(kind) => read_port(alloc, kind, tokens),
+        ItemKeyword::OfRegister => read_register(alloc, tokens),
+        ItemKeyword::OfMux => read_mux(alloc, tokens),
+        ItemKeyword::OfChild => read_child(alloc, tokens),
+        ItemKeyword::OfAlias => read_alias(alloc, tokens),
+        ItemKeyword::OfEnum => read_words(alloc, tokens),
+        ItemKeyword::OfParameter(local) => read_parameter(alloc, local, tokens),
+        ItemKeyword::OfAttribute => read_attribute(alloc, tokens),
+        ItemKeyword::OfInterface => read_interface(alloc, tokens),
+        ItemKeyword::OfLink => read_link(alloc, tokens),
     }
 }
 
@@ -76,14 +76,17 @@ impl Entry for Item {
 
     ghost reader = { read_item };
 
-    fn read<'a>(alloc: Global, tokens: Cursor<'a>) -> Result<Read<'a, Item>, Stop> {
+    fn read<'a>(alloc: Global, tokens: Cursor<'a>) -> Result<Parsed<'a, Item>, Stop> {
         let begin = read_item_begin(tokens)?;
         let name = read_name(alloc, begin.rest)?;
-        let what = read_meaning_behind(alloc, begin.value.word, name.rest)?;
-        Ok(Read {
+        let (name, what) = beside(
+            name.value,
+            read_meaning_behind(alloc, begin.value.word, name.rest),
+        )?;
+        Ok(Parsed {
             value: Item {
                 at: begin.value.at,
-                name: name.value,
+                name,
                 what: what.value,
             },
             rest: what.rest,
@@ -100,13 +103,13 @@ impl Entry for Module {
 
     ghost reader = { read_module };
 
-    fn read<'a>(alloc: Global, tokens: Cursor<'a>) -> Result<Read<'a, Module>, Stop> {
+    fn read<'a>(alloc: Global, tokens: Cursor<'a>) -> Result<Parsed<'a, Module>, Stop> {
         let word = read_word(tokens, b"Module")?;
         let name = read_name(alloc, word.rest)?;
-        let items = read_braced(alloc, name.rest)?;
-        Ok(Read {
+        let (name, items) = beside(name.value, read_braced(alloc, name.rest))?;
+        Ok(Parsed {
             value: Module {
-                name: name.value,
+                name,
                 at: word.value,
                 items: items.value,
             },
@@ -120,7 +123,7 @@ impl Entry for Module {
 pub(crate) fn read_design<'a>(alloc: Global, tokens: Cursor<'a>) -> Result<List<Module>, Stop>
     ensures { Gives (seen_list seen_module) result (whole_design tokens.entry) }
 {
-    let mut modules = Read {
+    let mut modules = Parsed {
         value: List::new(alloc),
         rest: tokens,
     };

@@ -16,7 +16,7 @@ use ij_bits::OutOfMemory;
 use ij_text::name_of;
 use std::alloc::Global;
 
-/// The fault at a token, and whether a limit bars it.
+/// The fault at a token, which a limit may bar. Takes memory for a word that is left out alone.
 fn fault_at(alloc: Global, t: &Lexeme, why: Option<Limit>) -> Result<ParseFault, OutOfMemory>
     ensures { IfOk result (IsFaultAt (tok t.now) why) }
 {

@@ -8,7 +8,7 @@ ghost use Rattle.icl_syntax.specs.Grammar.{prop_word_at};
 ghost use Rattle.icl_syntax.specs.Modules.{item_word_at, bind_word_at, member_word_at, link_kind_at};
 
 use icl_lexer::Lexeme;
-use icl_syntax::{BindWord, ItemWord, LinkKind, MemberWord, PortKind, PropWord};
+use icl_syntax::{BindKeyword, ItemKeyword, LinkKind, MemberKeyword, PortKind, PropKeyword};
 
 /// Whether a text is a word.
 fn is(text: &[u8], word: &[u8]) -> bool
@@ -109,124 +109,124 @@ fn port(text: &[u8]) -> Option<PortKind>
 
 /// Items that are no ports.
 #[tactic(auto, unfolding(icl_syntax::specs::Words::other_item_named))]
-fn other_item(text: &[u8]) -> Option<ItemWord>
+fn other_item(text: &[u8]) -> Option<ItemKeyword>
     ensures { result ≡ other_item_named text.now }
 {
     if is(text, b"ScanRegister") {
-        Some(ItemWord::OfRegister)
+        Some(ItemKeyword::OfRegister)
     } else if is(text, b"ScanMux") {
-        Some(ItemWord::OfMux)
+        Some(ItemKeyword::OfMux)
     } else if is(text, b"Instance") {
-        Some(ItemWord::OfChild)
+        Some(ItemKeyword::OfChild)
     } else if is(text, b"Alias") {
-        Some(ItemWord::OfAlias)
+        Some(ItemKeyword::OfAlias)
     } else if is(text, b"Enum") {
-        Some(ItemWord::OfEnum)
+        Some(ItemKeyword::OfEnum)
     } else if is(text, b"Parameter") {
-        Some(ItemWord::OfParameter(false))
+        Some(ItemKeyword::OfParameter(false))
     } else if is(text, b"LocalParameter") {
-        Some(ItemWord::OfParameter(true))
+        Some(ItemKeyword::OfParameter(true))
     } else if is(text, b"Attribute") {
-        Some(ItemWord::OfAttribute)
+        Some(ItemKeyword::OfAttribute)
     } else if is(text, b"ScanInterface") {
-        Some(ItemWord::OfInterface)
+        Some(ItemKeyword::OfInterface)
     } else if is(text, b"AccessLink") {
-        Some(ItemWord::OfLink)
+        Some(ItemKeyword::OfLink)
     } else {
         None
     }
 }
 
 #[tactic(auto, unfolding(icl_syntax::specs::Words::item_named))]
-fn item(text: &[u8]) -> Option<ItemWord>
+fn item(text: &[u8]) -> Option<ItemKeyword>
     ensures { result ≡ item_named text.now }
 {
     match port(text) {
-        Some(kind) => Some(ItemWord::OfPort(kind)),
+        Some(kind) => Some(ItemKeyword::OfPort(kind)),
         None => other_item(text),
     }
 }
 
 /// The word of an item at a token.
-pub(crate) fn item_word(t: &Lexeme) -> Option<ItemWord>
+pub(crate) fn item_word(t: &Lexeme) -> Option<ItemKeyword>
     ensures { result ≡ item_word_at (tok t.now) }
 {
     if t.is_name() { item(t.text) } else { None }
 }
 
 #[tactic(auto, unfolding(icl_syntax::specs::Words::prop_named))]
-fn prop(text: &[u8]) -> Option<PropWord>
+fn prop(text: &[u8]) -> Option<PropKeyword>
     ensures { result ≡ prop_named text.now }
 {
     if is(text, b"Source") {
-        Some(PropWord::Source)
+        Some(PropKeyword::Source)
     } else if is(text, b"LaunchEdge") {
-        Some(PropWord::LaunchEdge)
+        Some(PropKeyword::LaunchEdge)
     } else if is(text, b"DefaultLoadValue") {
-        Some(PropWord::DefaultLoadValue)
+        Some(PropKeyword::DefaultLoadValue)
     } else if is(text, b"RefEnum") {
-        Some(PropWord::RefEnum)
+        Some(PropKeyword::RefEnum)
     } else if is(text, b"ActivePolarity") {
-        Some(PropWord::ActivePolarity)
+        Some(PropKeyword::ActivePolarity)
     } else if is(text, b"ScanInSource") {
-        Some(PropWord::ScanInSource)
+        Some(PropKeyword::ScanInSource)
     } else if is(text, b"CaptureSource") {
-        Some(PropWord::CaptureSource)
+        Some(PropKeyword::CaptureSource)
     } else if is(text, b"ResetValue") {
-        Some(PropWord::ResetValue)
+        Some(PropKeyword::ResetValue)
     } else if is(text, b"AccessTogether") {
-        Some(PropWord::AccessTogether)
+        Some(PropKeyword::AccessTogether)
     } else if is(text, b"Attribute") {
-        Some(PropWord::Attribute)
+        Some(PropKeyword::Attribute)
     } else {
         None
     }
 }
 
 /// The word of a property at a token.
-pub(crate) fn prop_word(t: &Lexeme) -> Option<PropWord>
+pub(crate) fn prop_word(t: &Lexeme) -> Option<PropKeyword>
     ensures { result ≡ prop_word_at (tok t.now) }
 {
     if t.is_name() { prop(t.text) } else { None }
 }
 
 #[tactic(auto, unfolding(icl_syntax::specs::Words::bind_named))]
-fn bind(text: &[u8]) -> Option<BindWord>
+fn bind(text: &[u8]) -> Option<BindKeyword>
     ensures { result ≡ bind_named text.now }
 {
     if is(text, b"InputPort") {
-        Some(BindWord::BindsPort)
+        Some(BindKeyword::BindsPort)
     } else if is(text, b"Parameter") {
-        Some(BindWord::BindsParameter)
+        Some(BindKeyword::BindsParameter)
     } else if is(text, b"Attribute") {
-        Some(BindWord::BindsAttribute)
+        Some(BindKeyword::BindsAttribute)
     } else {
         None
     }
 }
 
 /// The word of a binding at a token.
-pub(crate) fn bind_word(t: &Lexeme) -> Option<BindWord>
+pub(crate) fn bind_word(t: &Lexeme) -> Option<BindKeyword>
     ensures { result ≡ bind_word_at (tok t.now) }
 {
     if t.is_name() { bind(t.text) } else { None }
 }
 
 #[tactic(auto, unfolding(icl_syntax::specs::Words::member_named))]
-fn member(text: &[u8]) -> Option<MemberWord>
+fn member(text: &[u8]) -> Option<MemberKeyword>
     ensures { result ≡ member_named text.now }
 {
     if is(text, b"Port") {
-        Some(MemberWord::MemberPort)
+        Some(MemberKeyword::MemberPort)
     } else if is(text, b"Attribute") {
-        Some(MemberWord::MemberAttribute)
+        Some(MemberKeyword::MemberAttribute)
     } else {
         None
     }
 }
 
 /// The word of a member of an interface at a token.
-pub(crate) fn member_word(t: &Lexeme) -> Option<MemberWord>
+pub(crate) fn member_word(t: &Lexeme) -> Option<MemberKeyword>
     ensures { result ≡ member_word_at (tok t.now) }
 {
     if t.is_name() { member(t.text) } else { None }

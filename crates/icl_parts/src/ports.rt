@@ -1,5 +1,6 @@
 // What ports and aliases are.
 ghost use Rattle.std.specs.Prelude.{◌≡◌, [], map};
+ghost use Rattle.icl_syntax.specs.Values.{ARefEnum};
 ghost use Rattle.icl_syntax.specs.Views.{seen_prop, seen_sig};
 ghost use Rattle.icl_values.specs.Expressions.{same};
 ghost use Rattle.icl_values.specs.Faults.{Gives, over};
@@ -13,7 +14,7 @@ use crate::words::words_named;
 use icl_references::{
     Body, Member, Ref, Tables, alias_signals, control_signals, data_signals, scan_signal, width_of,
 };
-use icl_syntax::{PortKind, Prop, Sig};
+use icl_syntax::{PortKind, Prop, Sig, SmallText};
 use icl_values::ElabFault;
 use ij_bits::{List, Tern};
 use ij_text::{Name, Place};
@@ -58,27 +59,54 @@ fn source_role(
 {
     match kind {
         PortKind::ScanOutPort => {
+            drop(body);
             let source = first_scan(alloc, tables, here, m.item.at, sigs)?;
             Ok(Body::ScanOut {
                 source: Some(source),
             })
         }
         PortKind::DataOutPort => {
+            drop(body);
             let wide = width_of(m.bounds)?;
             let source = data_signals(alloc, tables, here, m.item.at, wide, sigs)?;
             Ok(Body::DataOut {
                 source: Some(source),
             })
         }
-        _ => {
-            control_signals(alloc, tables, here, sigs)?;
-            Ok(body)
+        _ => match control_signals(alloc, tables, here, sigs) {
+            Ok(()) => Ok(body),
+            Err(e) => {
+                drop(body);
+                Err(e)
+            }
+        },
+    }
+}
+
+/// What a port or an alias is, with the words that it refers to.
+#[tactic(auto, unfolding(crate::specs::FoundParts::alias_prop))]
+fn with_words(
+    alloc: Global,
+    tables: &Tables,
+    here: u32,
+    m: &Member,
+    body: Body,
+    name: &SmallText,
+) -> Result<Resolved, ElabFault>
+    requires { IsHere tables.now here }
+    ensures { Gives seen_resolved result (alias_prop (frames_of tables.now) (here_in tables.now here) (seen_member m.now) (found (seen_body body)) (ARefEnum name.now.items)) }
+{
+    match words_named(alloc, tables.frame(here), m, name) {
+        Ok(words) => Ok(Resolved { body, words }),
+        Err(e) => {
+            drop(body);
+            Err(e)
         }
     }
 }
 
 /// What a port is, with one property more.
-#[tactic(auto, unfolding(crate::specs::FoundParts::port_prop))]
+#[tactic(auto, unfolding(crate::specs::FoundParts::port_prop, crate::specs::FoundParts::alias_prop))]
 fn port_prop(
     alloc: Global,
     tables: &Tables,
@@ -94,12 +122,17 @@ fn port_prop(
     let Resolved { body, words } = port;
     match prop {
         Prop::Source(sigs) => {
-            let body = source_role(alloc, tables, here, kind, m, body, sigs.as_slice())?;
-            Ok(Resolved { body, words })
+            match source_role(alloc, tables, here, kind, m, body, sigs.as_slice()) {
+                Ok(body) => Ok(Resolved { body, words }),
+                Err(e) => {
+                    drop(words);
+                    Err(e)
+                }
+            }
         }
         Prop::RefEnum(name) => {
-            let words = words_named(alloc, tables.frame(here), m, name)?;
-            Ok(Resolved { body, words })
+            drop(words);
+            with_words(alloc, tables, here, m, body, name)
         }
         _ => Ok(Resolved { body, words }),
     }
@@ -156,8 +189,8 @@ fn alias_prop(
     let Resolved { body, words } = alias;
     match prop {
         Prop::RefEnum(name) => {
-            let words = words_named(alloc, tables.frame(here), m, name)?;
-            Ok(Resolved { body, words })
+            drop(words);
+            with_words(alloc, tables, here, m, body, name)
         }
         _ => Ok(Resolved { body, words }),
     }

@@ -14,6 +14,7 @@ use icl_values::{ElabFault, value_in};
 use ij_bits::{List, Tern};
 use ij_text::Name;
 use std::alloc::Global;
+use std::mem::replace;
 
 /// What the properties of a register say.
 #[derive(Drop)]
@@ -24,8 +25,44 @@ pub(crate) struct RegisterParts {
     pub words: List<(Name, Tern)>,
 }
 
-/// What a register's properties say, with one more.
+/// Adds one property more to what a register's properties say.
 #[tactic(auto, unfolding(crate::specs::FoundParts::register_prop))]
+fn add_prop(
+    alloc: Global,
+    tables: &Tables,
+    here: u32,
+    m: &Member,
+    said: &mut RegisterParts,
+    prop: &Prop,
+) -> Result<(), ElabFault>
+    requires { IsHere tables.now here }
+    ensures { Gives (λ u. seen_said (frames_of tables.now) (here_in tables.now here) said.new) result (register_prop (frames_of tables.now) (here_in tables.now here) (seen_member m.now) (seen_said (frames_of tables.now) (here_in tables.now here) said.old) (seen_prop prop.now)) }
+{
+    let at = m.item.at;
+    match prop {
+        Prop::ScanInSource(sig) => {
+            said.scan = Some(scan_signal(alloc, tables, here, sig)?);
+        }
+        Prop::CaptureSource(sigs) => {
+            let wide = width_of(m.bounds)?;
+            let refs = data_signals(alloc, tables, here, at, wide, sigs.as_slice())?;
+            drop(said.capture.replace(refs));
+        }
+        Prop::ResetValue(value) => {
+            let wide = width_of(m.bounds)?;
+            let bits = value_in(alloc, tables.params(here), value.as_slice(), wide, at)?;
+            drop(said.reset.replace(bits));
+        }
+        Prop::RefEnum(name) => {
+            let words = words_named(alloc, tables.frame(here), m, name)?;
+            drop(replace(&mut said.words, words));
+        }
+        _ => {}
+    }
+    Ok(())
+}
+
+/// What a register's properties say, with one more.
 fn register_prop(
     alloc: Global,
     tables: &Tables,
@@ -37,58 +74,13 @@ fn register_prop(
     requires { IsHere tables.now here }
     ensures { Gives (seen_said (frames_of tables.now) (here_in tables.now here)) result (register_prop (frames_of tables.now) (here_in tables.now here) (seen_member m.now) (seen_said (frames_of tables.now) (here_in tables.now here) said) (seen_prop prop.now)) }
 {
-    let at = m.item.at;
-    let RegisterParts {
-        scan,
-        capture,
-        reset,
-        words,
-    } = said;
-    match prop {
-        Prop::ScanInSource(sig) => {
-            let scan = Some(scan_signal(alloc, tables, here, sig)?);
-            Ok(RegisterParts {
-                scan,
-                capture,
-                reset,
-                words,
-            })
+    let mut said = said;
+    match add_prop(alloc, tables, here, m, &mut said, prop) {
+        Ok(()) => Ok(said),
+        Err(e) => {
+            drop(said);
+            Err(e)
         }
-        Prop::CaptureSource(sigs) => {
-            let wide = width_of(m.bounds)?;
-            let capture = Some(data_signals(alloc, tables, here, at, wide, sigs.as_slice())?);
-            Ok(RegisterParts {
-                scan,
-                capture,
-                reset,
-                words,
-            })
-        }
-        Prop::ResetValue(value) => {
-            let wide = width_of(m.bounds)?;
-            let reset = Some(value_in(alloc, tables.params(here), value.as_slice(), wide, at)?);
-            Ok(RegisterParts {
-                scan,
-                capture,
-                reset,
-                words,
-            })
-        }
-        Prop::RefEnum(name) => {
-            let words = words_named(alloc, tables.frame(here), m, name)?;
-            Ok(RegisterParts {
-                scan,
-                capture,
-                reset,
-                words,
-            })
-        }
-        _ => Ok(RegisterParts {
-            scan,
-            capture,
-            reset,
-            words,
-        }),
     }
 }
 

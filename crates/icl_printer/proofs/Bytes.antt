@@ -5,8 +5,8 @@ use Rattle.std.specs.Char.{is_ascii_digit}
 use Rattle.std.proofs.lemmas.Bool.{ltb-false, le-ltb, eqb-true}
 use Rattle.std.proofs.lemmas.List.{take_at}
 use Rattle.std.proofs.lemmas.Fmt.{decimal_by_steps}
-use Rattle.icl_lexer.specs.declared.token.Kind.{Kind}
-use Rattle.icl_lexer.specs.declared.token.Kind.TheVariants.{Gap, Is}
+use Rattle.icl_lexer.specs.declared.token.PieceKind.{PieceKind}
+use Rattle.icl_lexer.specs.declared.token.PieceKind.TheVariants.{Gap, Is}
 use Rattle.icl_lexer.specs.declared.token.TokenKind.{TokenKind}
 use Rattle.icl_lexer.specs.declared.token.TokenKind.TheVariants.{Word, Decimal, Sized, Quoted, Param, Mark}
 use Rattle.icl_lexer.specs.Pieces.{kind_of, size, in_decimal, in_digits, in_line, run, ends, base, digits, dollar, quoted, slash, block, is_mark, is_base, is_digit_x}
@@ -115,20 +115,20 @@ inside_quotes t =
 
 -- ---- which piece it can be
 
-abbrev pub is_of : (Kind → Bool) → Option Kind → Bool
+abbrev pub is_of : (PieceKind → Bool) → Option PieceKind → Bool
 is_of p None = false
 is_of p (Some k) = p k
 
-module _ (p : Kind → Bool) where
-  cond_never : (c : Bool) (x y : Option Kind) → is_of p x ≡ false → is_of p y ≡ false → is_of p (cond c x y) ≡ false
+module _ (p : PieceKind → Bool) where
+  cond_never : (c : Bool) (x y : Option PieceKind) → is_of p x ≡ false → is_of p y ≡ false → is_of p (cond c x y) ≡ false
   cond_never true x y a b = a
   cond_never false x y a b = b
 
-  pub run_never : (class : ℕ → Bool) (k : Kind) → p k ≡ false → (bs : List ℕ) → is_of p (run class k bs) ≡ false
+  pub run_never : (class : ℕ → Bool) (k : PieceKind) → p k ≡ false → (bs : List ℕ) → is_of p (run class k bs) ≡ false
   run_never class k never [] = never
   run_never class k never (b ∷ bs) = cond_never (class b) (run class k bs) None (run_never class k never bs) refl
 
-  ends_never : (k : Kind) → p k ≡ false → (bs : List ℕ) → is_of p (ends k bs) ≡ false
+  ends_never : (k : PieceKind) → p k ≡ false → (bs : List ℕ) → is_of p (ends k bs) ≡ false
   ends_never k never [] = never
   ends_never k never (b ∷ bs) = refl
 
@@ -164,19 +164,19 @@ module _ (p : Kind → Bool) where
   slash_never a b (c ∷ bs) =
       cond_never (c == 47) (run in_line Gap bs) (cond (c == 42) (block false bs) None) (run_never in_line Gap b bs) (cond_never (c == 42) (block false bs) None (block_never b false bs) refl)
 
-  not_here : (c : Bool) (x y : Option Kind) → is_of p x ≡ false → is_of p (cond c x y) ≡ true → is_of p y ≡ true
+  not_here : (c : Bool) (x y : Option PieceKind) → is_of p x ≡ false → is_of p (cond c x y) ≡ true → is_of p y ≡ true
   not_here true x y never h = absurd (cc)
   not_here false x y never h = h
 
-  here_only : (c : Bool) (x y : Option Kind) → is_of p y ≡ false → is_of p (cond c x y) ≡ true → (c ≡ true) × (is_of p x ≡ true)
+  here_only : (c : Bool) (x y : Option PieceKind) → is_of p y ≡ false → is_of p (cond c x y) ≡ true → (c ≡ true) × (is_of p x ≡ true)
   here_only true x y never h = (refl, h)
   here_only false x y never h = absurd (cc)
 
-abbrev is_quoted : Kind → Bool
+abbrev is_quoted : PieceKind → Bool
 is_quoted (Is Quoted) = true
 is_quoted k = false
 
-abbrev is_param : Kind → Bool
+abbrev is_param : PieceKind → Bool
 is_param (Is Param) = true
 is_param k = false
 

@@ -10,7 +10,7 @@ use Rattle.icl_syntax.specs.Values.{SeenExpr, ADecimal, ASized, AQuoted, AParam,
 use Rattle.icl_syntax.specs.Grammar.{Of, Counted, Signed, Operand, operator, operand, with_operand, chain, sum_sign, product_sign, in_parentheses, factor, sum_of, leaf_at}
 use Rattle.icl_printer.specs.Layout.{Spelling, mark}
 use Rattle.icl_printer.specs.Canonical.{sign_mark, binding, binding_of}
-use Rattle.icl_printer.specs.Again.{IsSpelled, nowhere, bare_formula}
+use Rattle.icl_printer.specs.Again.{IsSpelled, no_place, placeless_formula}
 use Rattle.icl_printer.proofs.Printed.{cut, all_append, Printed, p_turn, p_last, p_mark, p_token}
 
 -- ---- what counts of a formula
@@ -46,22 +46,22 @@ is_lone (AQuoted t) = false
 is_lone (AParam at n) = false
 is_lone (AnOp at sign a b) = false
 
-abbrev pub bare_counted : Counted → Counted
-bare_counted c = record { formula = bare_formula c.formula; used = c.used; lone = c.lone }
+abbrev pub placeless_counted : Counted → Counted
+placeless_counted c = record { formula = placeless_formula c.formula; used = c.used; lone = c.lone }
 
 abbrev pub counted : SeenExpr → ℕ → Bool → Counted
 counted f used lone = record { formula = f; used = used; lone = lone }
 
-abbrev pub bare_signed : Signed → Signed
-bare_signed s = record { sign = s.sign; at = nowhere }
+abbrev pub placeless_signed : Signed → Signed
+placeless_signed s = record { sign = s.sign; at = no_place }
 
-abbrev pub bare_operand : Operand → Operand
-bare_operand o = record { sign = bare_signed o.sign; right = bare_counted o.right }
+abbrev pub placeless_operand : Operand → Operand
+placeless_operand o = record { sign = placeless_signed o.sign; right = placeless_counted o.right }
 
 -- ---- chains
 
 -- a first part alone
-pub p_up : (first part : ℕ → Of Counted) (sign : SeenToken → Option Signed) (used : ℕ) {x : List Spelling} {c : Counted} → Printed (first used) bare_counted x c → Printed (chain first part sign used) bare_counted x c
+pub p_up : (first part : ℕ → Of Counted) (sign : SeenToken → Option Signed) (used : ℕ) {x : List Spelling} {c : Counted} → Printed (first used) placeless_counted x c → Printed (chain first part sign used) placeless_counted x c
 p_up first part sign used p = record {
   good = p.good;
   again = λ us e. let r = p.again us e in (r.0, (us, [], r.0, sym (append-nil us), r.1, (0, (refl, refl))), r.2);
@@ -76,8 +76,8 @@ parts_snoc part sign (suc n) s mid ts us o h d =
 
 -- one operator and operand more
 pub p_more : (first part : ℕ → Of Counted) (sign : SeenToken → Option Signed) (used : ℕ) {x y : List Spelling} {a : Counted} {o : Operand}
-    → Printed (chain first part sign used) bare_counted x a → ((a' : Counted) → bare_counted a' ≡ bare_counted a → Printed (operand part sign a') bare_operand y o)
-    → Printed (chain first part sign used) bare_counted (x ++ y) (with_operand a o)
+    → Printed (chain first part sign used) placeless_counted x a → ((a' : Counted) → placeless_counted a' ≡ placeless_counted a → Printed (operand part sign a') placeless_operand y o)
+    → Printed (chain first part sign used) placeless_counted (x ++ y) (with_operand a o)
 p_more first part sign used {x} {y} {a} {o} p q = record {
   good = all_append x y p.good (q a refl).good;
   again = λ us e.
@@ -91,11 +91,11 @@ p_more first part sign used {x} {y} {a} {o} p q = record {
       );
 }
   where
-    same_operation : (l a : Counted) (r o : Operand) → bare_counted l ≡ bare_counted a → bare_operand r ≡ bare_operand o → bare_counted (with_operand l r) ≡ bare_counted (with_operand a o)
+    same_operation : (l a : Counted) (r o : Operand) → placeless_counted l ≡ placeless_counted a → placeless_operand r ≡ placeless_operand o → placeless_counted (with_operand l r) ≡ placeless_counted (with_operand a o)
     same_operation l a r o e h =
         let left = ap (λ (c : Counted). c.formula) e in
-        ap (λ f. counted (AnOp nowhere r.sign.sign f (bare_formula r.right.formula)) r.right.used false) left
-        ∙ ap (λ (p : Operand). counted (AnOp nowhere p.sign.sign (bare_formula a.formula) p.right.formula) p.right.used false) h
+        ap (λ f. counted (AnOp no_place r.sign.sign f (placeless_formula r.right.formula)) r.right.used false) left
+        ∙ ap (λ (p : Operand). counted (AnOp no_place p.sign.sign (placeless_formula a.formula) p.right.formula) p.right.used false) h
 
 -- ---- operators
 
@@ -120,36 +120,36 @@ pub rest_is : IsSign product_sign Rest
 rest_is = record { takes = λ at. refl; spelled = refl }
 
 p_operator : (spare : ℕ) (lone : Bool) (read : SeenToken → Option Signed) (sign : Sign) (at : Place) → IsSign read sign → 0 < spare → lone ≡ false
-    → Printed (operator spare lone read) bare_signed (mark (sign_mark sign) ∷ []) (record { sign = sign; at = at })
+    → Printed (operator spare lone read) placeless_signed (mark (sign_mark sign) ∷ []) (record { sign = sign; at = at })
 p_operator zero lone read sign at is more alone = absurd (omega arith)
 p_operator (suc spare) true read sign at is more alone = absurd (cc)
 p_operator (suc spare) false read sign at is more alone = p_token (mark (sign_mark sign)) (record { sign = sign; at = at }) (λ p. record { sign = sign; at = p }) is.spelled is.takes (λ p. refl)
 
 pub p_operand : (part : ℕ → Of Counted) (read : SeenToken → Option Signed) (sign : Sign) (at : Place) (y : List Spelling) (a b : Counted) → IsSign read sign → a.used < 256 → a.lone ≡ false
-    → Printed (part (a.used + 1)) bare_counted y b → Printed (operand part read a) bare_operand (mark (sign_mark sign) ∷ y) (record { sign = record { sign = sign; at = at }; right = b })
+    → Printed (part (a.used + 1)) placeless_counted y b → Printed (operand part read a) placeless_operand (mark (sign_mark sign) ∷ y) (record { sign = record { sign = sign; at = at }; right = b })
 p_operand part read sign at y a b is few alone p =
     let more : 0 < 256 - a.used = omega arith in
     p_turn (p_operator (256 - a.used) a.lone read sign at is more alone)
-    (λ s e. p_last p (λ c h. ap (λ (r : Signed). record { sign = r; right = bare_counted c }) e ∙ ap (λ (r : Counted). record { sign = record { sign = sign; at = nowhere }; right = r }) h))
+    (λ s e. p_last p (λ c h. ap (λ (r : Signed). record { sign = r; right = placeless_counted c }) e ∙ ap (λ (r : Counted). record { sign = record { sign = sign; at = no_place }; right = r }) h))
 
 -- ---- parentheses
 
-pub p_parentheses : (whole : ℕ → Of Counted) (used : ℕ) (x : List Spelling) (c : Counted) → Printed (whole used) bare_counted x c
-    → Printed (in_parentheses whole used) bare_counted (mark 40 ∷ (x ++ (mark 41 ∷ []))) (counted c.formula c.used false)
+pub p_parentheses : (whole : ℕ → Of Counted) (used : ℕ) (x : List Spelling) (c : Counted) → Printed (whole used) placeless_counted x c
+    → Printed (in_parentheses whole used) placeless_counted (mark 40 ∷ (x ++ (mark 41 ∷ []))) (counted c.formula c.used false)
 p_parentheses whole used x c p =
-    p_turn (p_mark 40 nowhere refl refl)
-    (λ o e. p_turn p (λ d same. p_last (p_mark 41 nowhere refl refl) (λ m h. ap (λ (z : Counted). counted z.formula z.used false) same)))
+    p_turn (p_mark 40 no_place refl refl)
+    (λ o e. p_turn p (λ d same. p_last (p_mark 41 no_place refl refl) (λ m h. ap (λ (z : Counted). counted z.formula z.used false) same)))
 
 -- a factor in parentheses
-pub p_enclosed : (depth : ℕ) (alone : Bool) (used : ℕ) (x : List Spelling) (c : Counted) → Printed (sum_of depth used) bare_counted x c
-    → Printed (factor (suc depth) alone used) bare_counted (mark 40 ∷ (x ++ (mark 41 ∷ []))) (counted c.formula c.used false)
+pub p_enclosed : (depth : ℕ) (alone : Bool) (used : ℕ) (x : List Spelling) (c : Counted) → Printed (sum_of depth used) placeless_counted x c
+    → Printed (factor (suc depth) alone used) placeless_counted (mark 40 ∷ (x ++ (mark 41 ∷ []))) (counted c.formula c.used false)
 unfolding factor
 p_enclosed depth alone used x c p =
     let q = p_parentheses (sum_of depth) used x c p in
     record { good = q.good; again = λ us e. let r = q.again us e in (r.0, inl r.1, r.2) }
 
 -- a factor of one token
-pub p_leaf : (depth : ℕ) (alone : Bool) (used : ℕ) (x : List Spelling) (c : Counted) → Printed (one (leaf_at alone used)) bare_counted x c → Printed (factor depth alone used) bare_counted x c
+pub p_leaf : (depth : ℕ) (alone : Bool) (used : ℕ) (x : List Spelling) (c : Counted) → Printed (one (leaf_at alone used)) placeless_counted x c → Printed (factor depth alone used) placeless_counted x c
 unfolding factor
 p_leaf zero alone used x c p = record { good = p.good; again = λ us e. let r = p.again us e in (r.0, inr r.1, r.2) }
 p_leaf (suc depth) alone used x c p = record { good = p.good; again = λ us e. let r = p.again us e in (r.0, inr r.1, r.2) }

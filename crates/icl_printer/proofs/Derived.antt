@@ -10,7 +10,7 @@ use Rattle.icl_lexer.specs.Seen.{SeenToken, is_mark}
 use Rattle.icl_syntax.specs.Values.{SeenExpr, ADecimal, ASized, AQuoted, AParam, AnOp}
 use Rattle.icl_syntax.specs.Grammar.{Of, Counted, Signed, Operand, operator, operand, with_operand, chain, sum_sign, product_sign, in_parentheses, factor, term, sum_of, leaf_at, expr, mark as a_mark}
 use Rattle.icl_printer.specs.Canonical.{binding, binding_of, formula_tokens}
-use Rattle.icl_printer.specs.Again.{spellings, AllSpelled, bare_formula}
+use Rattle.icl_printer.specs.Again.{spellings, AllSpelled, placeless_formula}
 use Rattle.icl_printer.proofs.Printed.{Printed, Law, p_last, turned, all_front, all_back, single}
 use Rattle.icl_printer.proofs.Leaves.{Sound, IsLeaf, IsTight, IsSizedNumber, leaf_is}
 use Rattle.icl_printer.proofs.Chains.{ops, around, inner, nest, counted}
@@ -255,12 +255,12 @@ sum_derived d used ts c few good h =
 
 -- ---- whole expressions
 
-pub expr_law : Law expr bare_formula formula_tokens
+pub expr_law : Law expr placeless_formula formula_tokens
 unfolding expr
 expr_law ts f good h =
     let e = turned (sum_of 64 0) (λ (c : Counted). give c.formula) ts f good h in
     let c = sum_derived 64 0 e.front e.value (omega arith) e.good e.derived in
     let g = formula_again e.value.formula c.sound in
     let p = g.as_sum 64 0 (derived_inner 64 1 0 e.value c) (omega (arith, c.count, c.few)) in
-    subst (λ x. Printed expr bare_formula (formula_tokens x) x) (sym e.rest.1)
+    subst (λ x. Printed expr placeless_formula (formula_tokens x) x) (sym e.rest.1)
     (p_last p (λ x same. ap (λ (z : Counted). z.formula) same))

@@ -3,15 +3,15 @@ use Rattle.std.proofs.Common.{◌≡◌, ℕ, true, false, List, [], ◌∷◌, 
 use Rattle.std.specs.Prelude.{codes}
 use Rattle.grammar.specs.Symbol.{one, ◌>>=◌, give}
 use Rattle.icl_syntax.specs.declared.tree.PortKind.TheVariants.{ScanInPort, ScanOutPort, DataInPort, DataOutPort, SelectPort, CaptureEnPort, ShiftEnPort, UpdateEnPort, ResetPort, TCKPort, TMSPort, TRSTPort, ClockPort, ToSelectPort, ToCaptureEnPort, ToShiftEnPort, ToUpdateEnPort, ToResetPort, ToTCKPort, ToTMSPort, ToTRSTPort, ToClockPort, ToIRSelectPort}
-use Rattle.icl_syntax.specs.declared.words.ItemWord.{ItemWord}
-use Rattle.icl_syntax.specs.declared.words.ItemWord.TheVariants.{OfPort, OfRegister, OfMux, OfChild, OfAlias, OfEnum, OfParameter, OfAttribute, OfInterface, OfLink}
+use Rattle.icl_syntax.specs.declared.words.ItemKeyword.{ItemKeyword}
+use Rattle.icl_syntax.specs.declared.words.ItemKeyword.TheVariants.{OfPort, OfRegister, OfMux, OfChild, OfAlias, OfEnum, OfParameter, OfAttribute, OfInterface, OfLink}
 use Rattle.icl_lexer.specs.Seen.{SeenToken}
 use Rattle.icl_syntax.specs.Words.{port_word, port_named, data_port_named, control_port_named, to_port_named, other_item_named, item_named}
 use Rattle.icl_syntax.specs.Values.{SeenWhat, APort, ARegister, AMux, AChild, AnAlias, SomeWords, AParameter, AnInterface, ALink, AnAttribute, SeenItem, SeenModule}
 use Rattle.icl_syntax.specs.Modules.{ItemBegin, item_begun, item_begin_at, meaning_behind, item, module_of, design}
 use Rattle.icl_printer.specs.Layout.{Spelling, word}
 use Rattle.icl_printer.specs.Canonical.{parameter_word, item_tokens, thing_tokens, module_tokens, tokens_of}
-use Rattle.icl_printer.specs.Again.{spellings, IsSpelled, AllSpelled, nowhere, bare_meaning, bare_thing, bare_block, bare_design, PrintedTokensDeriveIt}
+use Rattle.icl_printer.specs.Again.{spellings, IsSpelled, AllSpelled, no_place, placeless_meaning, placeless_thing, placeless_block, placeless_design, PrintedTokensDeriveIt}
 use Rattle.icl_printer.proofs.Printed.{Printed, Law, p_turn, p_last, p_word, p_token, name_law, halves}
 use Rattle.icl_printer.proofs.Loops.{many_law}
 use Rattle.icl_printer.proofs.ItemLaws.{port_law, register_law, alias_law, parameter_law, attribute_law, mux_law}
@@ -19,7 +19,7 @@ use Rattle.icl_printer.proofs.InstanceLaws.{braced_again, child_law, words_law, 
 
 -- ---- the words of items
 
-abbrev item_word : ItemWord → List ℕ
+abbrev item_word : ItemKeyword → List ℕ
 item_word (OfPort k) = port_word k
 item_word OfRegister = codes "ScanRegister"
 item_word OfMux = codes "ScanMux"
@@ -31,7 +31,7 @@ item_word OfAttribute = codes "Attribute"
 item_word OfInterface = codes "ScanInterface"
 item_word OfLink = codes "AccessLink"
 
-item_again : (w : ItemWord) → item_named (item_word w) ≡ Some w
+item_again : (w : ItemKeyword) → item_named (item_word w) ≡ Some w
 unfolding item_named port_named data_port_named control_port_named to_port_named other_item_named
 item_again (OfPort ScanInPort) = refl
 item_again (OfPort ScanOutPort) = refl
@@ -67,7 +67,7 @@ item_again OfAttribute = refl
 item_again OfInterface = refl
 item_again OfLink = refl
 
-item_spelled : (w : ItemWord) → IsSpelled (word (item_word w))
+item_spelled : (w : ItemKeyword) → IsSpelled (word (item_word w))
 item_spelled (OfPort ScanInPort) = refl
 item_spelled (OfPort ScanOutPort) = refl
 item_spelled (OfPort DataInPort) = refl
@@ -108,12 +108,12 @@ p_item_begin b = p_token (word (item_word b.word)) b (λ at. record { at = at; w
 -- ---- items
 
 -- what stands behind the word and the name of an item
-record Meant (w : ItemWord) (m : SeenWhat) : Type 0 where
+record Meant (w : ItemKeyword) (m : SeenWhat) : Type 0 where
   middle : List Spelling
   tokens_are : (n : List ℕ) → item_tokens n m ≡ word (item_word w) ∷ word n ∷ middle
-  printed : Printed (meaning_behind w) bare_meaning middle m
+  printed : Printed (meaning_behind w) placeless_meaning middle m
 
-meaning_law : (w : ItemWord) (ts : List SeenToken) (m : SeenWhat) → AllSpelled (spellings ts) → (meaning_behind w).derives ts m → Meant w m
+meaning_law : (w : ItemKeyword) (ts : List SeenToken) (m : SeenWhat) → AllSpelled (spellings ts) → (meaning_behind w).derives ts m → Meant w m
 meaning_law (OfPort k) ts m good h =
     let r = port_law k ts m good h in
     subst (Meant (OfPort k)) (sym r.2) (let z : Meant (OfPort k) (APort k r.0 r.1) = record { middle = _; tokens_are = λ n. refl; printed = r.3 } in z)
@@ -145,7 +145,7 @@ meaning_law OfLink ts m good h =
     let r = link_law ts m good h in
     subst (Meant OfLink) (sym r.3) (let z : Meant OfLink (ALink r.0 r.1 r.2) = record { middle = _; tokens_are = λ n. refl; printed = r.4 } in z)
 
-item_law : Law item bare_thing thing_tokens
+item_law : Law item placeless_thing thing_tokens
 unfolding item
 item_law ts t good h =
     let g1 = halves h.0 h.1 ts h.3 good in
@@ -155,17 +155,17 @@ item_law ts t good h =
     let g3 = halves h3.0 h3.1 h2.1 h3.3 g2.1 in
     let r = meaning_law h.2.word h3.0 h3.2 g3.0 h3.4 in
     let x : SeenItem = record { at = h.2.at; name = h2.2; what = h3.2 } in
-    let again : Printed item bare_thing (thing_tokens x) x =
-    subst (λ (y : List Spelling). Printed item bare_thing y x) (sym (r.tokens_are h2.2))
+    let again : Printed item placeless_thing (thing_tokens x) x =
+    subst (λ (y : List Spelling). Printed item placeless_thing y x) (sym (r.tokens_are h2.2))
     (p_turn (p_item_begin h.2)
     (λ b eb. p_turn (name_law h2.0 h2.2 g2.0 h2.4)
-    (λ n en. subst (λ u. Printed (meaning_behind u >>= λ m. give (record { at = b.at; name = n; what = m })) bare_thing r.middle x) (sym eb)
+    (λ n en. subst (λ u. Printed (meaning_behind u >>= λ m. give (record { at = b.at; name = n; what = m })) placeless_thing r.middle x) (sym eb)
     (p_last r.printed (λ m em. cc (en, em)))))) in
-    subst (λ z. Printed item bare_thing (thing_tokens z) z) (sym h3.5.1) again
+    subst (λ z. Printed item placeless_thing (thing_tokens z) z) (sym h3.5.1) again
 
 -- ---- modules and designs
 
-module_law : Law module_of bare_block module_tokens
+module_law : Law module_of placeless_block module_tokens
 unfolding module_of
 module_law ts m good h =
     let g1 = halves h.0 h.1 ts h.3 good in
@@ -173,13 +173,13 @@ module_law ts m good h =
     let g2 = halves h2.0 h2.1 h.1 h2.3 g1.1 in
     let h3 = h2.5 in
     let g3 = halves h3.0 h3.1 h2.1 h3.3 g2.1 in
-    subst (λ z. Printed module_of bare_block (module_tokens z) z) (sym h3.5.1)
-    (p_turn (p_word (codes "Module") nowhere refl refl)
-    (λ a ea. p_turn (name_law h2.0 h2.2 g2.0 h2.4) (λ n en. p_last (braced_again item bare_thing thing_tokens item_law h3.0 h3.2 g3.0 h3.4) (λ is ei. cc (en, ei)))))
+    subst (λ z. Printed module_of placeless_block (module_tokens z) z) (sym h3.5.1)
+    (p_turn (p_word (codes "Module") no_place refl refl)
+    (λ a ea. p_turn (name_law h2.0 h2.2 g2.0 h2.4) (λ n en. p_last (braced_again item placeless_thing thing_tokens item_law h3.0 h3.2 g3.0 h3.4) (λ is ei. cc (en, ei)))))
 
-pub design_law : Law design bare_design tokens_of
-unfolding design tokens_of bare_design
-design_law = many_law module_of bare_block module_tokens module_law
+pub design_law : Law design placeless_design tokens_of
+unfolding design tokens_of placeless_design
+design_law = many_law module_of placeless_block module_tokens module_law
 
 pub printed_tokens_derive_it : PrintedTokensDeriveIt
 printed_tokens_derive_it read printed d good h spelled = (design_law read d good h).again printed spelled

@@ -6,12 +6,12 @@ use Rattle.icl_printer.specs.Canonical.{in_turn, behind, separated, braced}
 use Rattle.ij_io.specs.Bytes.{Adds, AddsPart}
 use Rattle.ij_io.proofs.Adding.{adds_both, adds_front, adds_then_part, with_none}
 use Rattle.ij_io.proofs.Fronts.{AddsFront, front_next, front_part, front_all}
-use Rattle.icl_printer.specs.Layout.{Spelling, mark, laid, layout}
+use Rattle.icl_printer.specs.Layout.{Spelling, mark, with_blank, layout}
 
 pub layout-append : (x y : List Spelling) → layout (x ++ y) ≡ layout x ++ layout y
 unfolding layout
 layout-append [] y = refl
-layout-append (t ∷ x) y = ap (λ (z : List ℕ). laid t ++ z) (layout-append x y) ∙ sym (append_assoc (laid t) (layout x) (layout y))
+layout-append (t ∷ x) y = ap (λ (z : List ℕ). with_blank t ++ z) (layout-append x y) ∙ sym (append_assoc (with_blank t) (layout x) (layout y))
 
 -- some tokens, and then others
 pub laid_both : {old between new : Option (List ℕ)} (x y : List Spelling) → Adds old between (layout x) → Adds between new (layout y) → Adds old new (layout (x ++ y))
@@ -75,17 +75,17 @@ singles : (ts : List Spelling) → in_turn one_token ts ≡ ts
 singles [] = refl
 singles (t ∷ ts) = ap (λ (us : List Spelling). t ∷ us) (singles ts)
 
-layout_one : (t : Spelling) → laid t ≡ layout (one_token t)
+layout_one : (t : Spelling) → with_blank t ≡ layout (one_token t)
 unfolding layout
-layout_one t = sym (append-nil (laid t))
+layout_one t = sym (append-nil (with_blank t))
 
 pub token_next : {T : Type 0} {old between new : Option (List ℕ)} (v : T → Spelling) (xs : List T) (i : ℕ) (x : T) → i < length xs → x ≡ get_or xs i x
-    → PartsLeft one_token v xs i old between → Adds between new (laid (v x)) → PartsLeft one_token v xs (i + 1) old new
+    → PartsLeft one_token v xs i old between → Adds between new (with_blank (v x)) → PartsLeft one_token v xs (i + 1) old new
 token_next {T} {old} {between} {new} v xs i x h is front added =
     part_next one_token v xs i x h is front (subst (λ (bytes : List ℕ). Adds between new bytes) (layout_one (v x)) added)
 
 pub token_refused : {T : Type 0} {old between new : Option (List ℕ)} (v : T → Spelling) (xs : List T) (i : ℕ) (x : T) → i < length xs → x ≡ get_or xs i x
-    → PartsLeft one_token v xs i old between → AddsPart between new (laid (v x)) → AddsPart old new (layout (map v xs))
+    → PartsLeft one_token v xs i old between → AddsPart between new (with_blank (v x)) → AddsPart old new (layout (map v xs))
 token_refused {T} {old} {between} {new} v xs i x h is front added =
     subst (λ (ts : List Spelling). AddsPart old new (layout ts)) (singles (map v xs))
     (part_refused one_token v xs i x h is front (subst (λ (bytes : List ℕ). AddsPart between new bytes) (layout_one (v x)) added))

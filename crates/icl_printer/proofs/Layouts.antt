@@ -5,7 +5,7 @@ use Rattle.std.proofs.lemmas.List.{take_at, drop_at}
 use Rattle.ij_text.specs.declared.Place.{Place}
 use Rattle.ij_text.specs.Places.{first_place, place_behind}
 use Rattle.icl_lexer.specs.Token.{Token}
-use Rattle.icl_lexer.specs.declared.token.Kind.TheVariants.{Gap, Is}
+use Rattle.icl_lexer.specs.declared.token.PieceKind.TheVariants.{Gap, Is}
 use Rattle.icl_lexer.specs.Cutting.{Piece, joined, AreLongest, tokens_from, AreTokens}
 use Rattle.icl_lexer.specs.Laws.{AreInText}
 use Rattle.icl_lexer.proofs.Total.{tokens_in_text}

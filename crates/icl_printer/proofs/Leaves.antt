@@ -5,7 +5,7 @@ use Rattle.ij_text.specs.declared.Place.{Place}
 use Rattle.grammar.specs.Symbol.{one}
 use Rattle.icl_lexer.specs.declared.token.TokenKind.{TokenKind}
 use Rattle.icl_lexer.specs.declared.token.TokenKind.TheVariants.{Word, Decimal, Sized, Quoted, Param, Mark}
-use Rattle.icl_lexer.specs.declared.token.Kind.TheVariants.{Is}
+use Rattle.icl_lexer.specs.declared.token.PieceKind.TheVariants.{Is}
 use Rattle.icl_lexer.specs.Pieces.{kind_of}
 use Rattle.ij_text.specs.Numbers.{decimal_from}
 use Rattle.icl_syntax.specs.Tokens.{decimal_of}
@@ -14,7 +14,7 @@ use Rattle.icl_syntax.specs.Grammar.{Counted, leaf_of, leaf_at, with_count, as_d
 use Rattle.icl_printer.specs.Canonical.{formula_tokens}
 use Rattle.icl_printer.proofs.Printed.{Printed, p_token}
 use Rattle.icl_printer.proofs.Bytes.{decimal_kind, decimal_again, small_is, inside_quotes, quoted_text, param_text}
-use Rattle.icl_printer.proofs.Chains.{bare_counted, counted}
+use Rattle.icl_printer.proofs.Chains.{counted, placeless_counted}
 
 -- its numbers fit, and its texts are pieces
 unfoldable pub Sound : SeenExpr → Type 0
@@ -24,23 +24,23 @@ Sound (AQuoted t) = kind_of (34 ∷ (t ++ 34 ∷ [])) ≡ Some (Is Quoted)
 Sound (AParam at n) = kind_of (36 ∷ n) ≡ Some (Is Param)
 Sound (AnOp at sign a b) = Sound a × Sound b
 
-pub p_decimal_leaf : (alone : Bool) (used n : ℕ) → Sound (ADecimal n) → Printed (one (leaf_at alone used)) bare_counted (formula_tokens (ADecimal n)) (counted (ADecimal n) used false)
+pub p_decimal_leaf : (alone : Bool) (used n : ℕ) → Sound (ADecimal n) → Printed (one (leaf_at alone used)) placeless_counted (formula_tokens (ADecimal n)) (counted (ADecimal n) used false)
 unfolding Sound
 p_decimal_leaf alone used n s =
     p_token (record { kind = Decimal; text = decimal n }) (counted (ADecimal n) used false) (λ at. counted (ADecimal n) used false) (decimal_kind n s)
     (λ at. ap (λ o. with_count used (as_decimal o)) (decimal_again n s)) (λ at. refl)
 
-pub p_sized_leaf : (used : ℕ) (t : List ℕ) → Sound (ASized t) → Printed (one (leaf_at true used)) bare_counted (formula_tokens (ASized t)) (counted (ASized t) used true)
+pub p_sized_leaf : (used : ℕ) (t : List ℕ) → Sound (ASized t) → Printed (one (leaf_at true used)) placeless_counted (formula_tokens (ASized t)) (counted (ASized t) used true)
 unfolding Sound
 p_sized_leaf used t s = p_token (record { kind = Sized; text = t }) (counted (ASized t) used true) (λ at. counted (ASized t) used true) s (λ at. refl) (λ at. refl)
 
-pub p_quoted_leaf : (alone : Bool) (used : ℕ) (t : List ℕ) → Sound (AQuoted t) → Printed (one (leaf_at alone used)) bare_counted (formula_tokens (AQuoted t)) (counted (AQuoted t) used false)
+pub p_quoted_leaf : (alone : Bool) (used : ℕ) (t : List ℕ) → Sound (AQuoted t) → Printed (one (leaf_at alone used)) placeless_counted (formula_tokens (AQuoted t)) (counted (AQuoted t) used false)
 unfolding Sound
 p_quoted_leaf alone used t s =
     p_token (record { kind = Quoted; text = 34 ∷ (t ++ 34 ∷ []) }) (counted (AQuoted t) used false) (λ at. counted (AQuoted t) used false) s
     (λ at. ap (λ x. Some (counted (AQuoted x) used false)) (inside_quotes t)) (λ at. refl)
 
-pub p_param_leaf : (alone : Bool) (used : ℕ) (at : Place) (n : List ℕ) → Sound (AParam at n) → Printed (one (leaf_at alone used)) bare_counted (formula_tokens (AParam at n)) (counted (AParam at n) used false)
+pub p_param_leaf : (alone : Bool) (used : ℕ) (at : Place) (n : List ℕ) → Sound (AParam at n) → Printed (one (leaf_at alone used)) placeless_counted (formula_tokens (AParam at n)) (counted (AParam at n) used false)
 unfolding Sound
 p_param_leaf alone used at n s =
     p_token (record { kind = Param; text = 36 ∷ n }) (counted (AParam at n) used false) (λ p. counted (AParam p n) used false) s (λ p. refl) (λ p. refl)

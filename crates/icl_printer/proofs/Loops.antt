@@ -61,11 +61,6 @@ many_law {A} S bare canon law ts xs good h =
     let a = appends S bare canon law h.0 ts [] xs good h.1 in
     subst (λ (ys : List A). Printed (many S) (map bare) (in_turn canon ys) xs) (sym a.is) (a.printed [] refl)
 
--- the parts that a loop appended to a list
-in_turn_append : {A : Type 0} (canon : A → List Spelling) (xs ys : List A) → in_turn canon (xs ++ ys) ≡ in_turn canon xs ++ in_turn canon ys
-in_turn_append canon [] ys = refl
-in_turn_append canon (x ∷ xs) ys = ap (λ (zs : List Spelling). canon x ++ zs) (in_turn_append canon xs ys) ∙ sym (append_assoc (canon x) (in_turn canon xs) (in_turn canon ys))
-
 -- ---- behind marks
 
 pub behind_law : {A A' : Type 0} (c : ℕ) (S : Of A) (bare : A → A') (canon : A → List Spelling) → IsSpelled (mark c) → (c == c) ≡ true → Law S bare canon → Law (a_mark c >>= λ m. S) bare (behind c canon)

@@ -120,9 +120,6 @@ p_word w at ok same =
 abbrev pub itself : {A : Type 0} → A → A
 itself a = a
 
-some_text : TokenKind → List ℕ → Option (List ℕ)
-some_text k text = if_word k (Some text) None
-
 pub p_name : (n : List ℕ) → IsSpelled (word n) → Printed name itself (word n ∷ []) n
 p_name n ok = p_one (word n) n ok (λ t e. (n, ap (λ (s : Spelling). if_word s.kind (Some s.text) None) e, refl))
 

@@ -6,8 +6,8 @@ use Rattle.std.proofs.Math.Seq.{take-append-add}
 use Rattle.std.proofs.lemmas.List.{take_at}
 use Rattle.ij_text.specs.Words.{in_name, begins_name}
 use Rattle.ij_text.specs.Bytes.{is_blank}
-use Rattle.icl_lexer.specs.declared.token.Kind.{Kind}
-use Rattle.icl_lexer.specs.declared.token.Kind.TheVariants.{Gap, Is}
+use Rattle.icl_lexer.specs.declared.token.PieceKind.{PieceKind}
+use Rattle.icl_lexer.specs.declared.token.PieceKind.TheVariants.{Gap, Is}
 use Rattle.icl_lexer.specs.declared.token.TokenKind.{TokenKind}
 use Rattle.icl_lexer.specs.declared.token.TokenKind.TheVariants.{Word, Decimal, Sized, Quoted, Param, Mark}
 use Rattle.icl_lexer.specs.Pieces.{kind_of, size, in_decimal, in_digits, in_line, run, ends, base, digits, dollar, quoted, slash, block, is_mark, is_base, is_digit_x}
@@ -45,28 +45,28 @@ blank_is Sized text = space
 blank_is Quoted text = space
 blank_is Param text = space
 
-abbrev is_token : Kind → Bool
+abbrev is_token : PieceKind → Bool
 is_token Gap = false
 is_token (Is k) = true
 
 -- ---- what is a piece of its own is none with a blank behind it
 
 module _ (b : ℕ) (is : IsBehind b) (more : List ℕ) (k : TokenKind) where
-  cond_stops : (c : Bool) (x y x' y' : Option Kind) → (x ≡ Some (Is k) → x' ≡ None) → (y ≡ Some (Is k) → y' ≡ None) → cond c x y ≡ Some (Is k) → cond c x' y' ≡ None
+  cond_stops : (c : Bool) (x y x' y' : Option PieceKind) → (x ≡ Some (Is k) → x' ≡ None) → (y ≡ Some (Is k) → y' ≡ None) → cond c x y ≡ Some (Is k) → cond c x' y' ≡ None
   cond_stops true x y x' y' f g h = f h
   cond_stops false x y x' y' f g h = g h
 
-  nothing_stops : (x : Option Kind) → None ≡ Some (Is k) → x ≡ None
+  nothing_stops : (x : Option PieceKind) → None ≡ Some (Is k) → x ≡ None
   nothing_stops x h = absurd (cc)
 
-  no_stops : (x y : Option Kind) → is_of is_token x ≡ false → x ≡ Some (Is k) → y ≡ None
+  no_stops : (x y : Option PieceKind) → is_of is_token x ≡ false → x ≡ Some (Is k) → y ≡ None
   no_stops x y never h = absurd (let there : is_of is_token x ≡ true = ap (is_of is_token) h in cc)
 
-  ends_stops : (q : Kind) (bs : List ℕ) → ends q bs ≡ Some (Is k) → ends q (bs ++ b ∷ more) ≡ None
+  ends_stops : (q : PieceKind) (bs : List ℕ) → ends q bs ≡ Some (Is k) → ends q (bs ++ b ∷ more) ≡ None
   ends_stops q [] h = refl
   ends_stops q (x ∷ bs) h = refl
 
-  run_stops : (class : ℕ → Bool) → class b ≡ false → (q : Kind) (bs : List ℕ) → run class q bs ≡ Some (Is k) → run class q (bs ++ b ∷ more) ≡ None
+  run_stops : (class : ℕ → Bool) → class b ≡ false → (q : PieceKind) (bs : List ℕ) → run class q bs ≡ Some (Is k) → run class q (bs ++ b ∷ more) ≡ None
   run_stops class out q [] h = ap (λ c. cond c (run class q more) None) out
   run_stops class out q (x ∷ bs) h = cond_stops (class x) (run class q bs) None (run class q (bs ++ b ∷ more)) None (run_stops class out q bs) (nothing_stops None) h
 

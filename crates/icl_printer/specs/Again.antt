@@ -3,7 +3,7 @@ use Rattle.std.specs.Prelude.{◌≡◌, ℕ, List, [], ◌∷◌, map, Some}
 use Rattle.std.specs.Option.{option_map}
 use Rattle.ij_text.specs.declared.Place.{Place}
 use Rattle.icl_lexer.specs.Token.{Token}
-use Rattle.icl_lexer.specs.declared.token.Kind.TheVariants.{Is}
+use Rattle.icl_lexer.specs.declared.token.PieceKind.TheVariants.{Is}
 use Rattle.icl_lexer.specs.Pieces.{kind_of}
 use Rattle.icl_lexer.specs.Cutting.{AreTokens}
 use Rattle.icl_lexer.specs.Seen.{SeenToken, seen_tokens}
@@ -30,74 +30,74 @@ AllSpelled (s ∷ ss) = (IsSpelled s) × (AllSpelled ss)
 
 -- ---- designs without their places
 
-abbrev pub nowhere : Place
-nowhere = record { line = 0; col = 0 }
+abbrev pub no_place : Place
+no_place = record { line = 0; col = 0 }
 
-abbrev pub bare_formula : SeenExpr → SeenExpr
-bare_formula (ADecimal n) = ADecimal n
-bare_formula (ASized t) = ASized t
-bare_formula (AQuoted t) = AQuoted t
-bare_formula (AParam at n) = AParam nowhere n
-bare_formula (AnOp at sign a b) = AnOp nowhere sign (bare_formula a) (bare_formula b)
+abbrev pub placeless_formula : SeenExpr → SeenExpr
+placeless_formula (ADecimal n) = ADecimal n
+placeless_formula (ASized t) = ASized t
+placeless_formula (AQuoted t) = AQuoted t
+placeless_formula (AParam at n) = AParam no_place n
+placeless_formula (AnOp at sign a b) = AnOp no_place sign (placeless_formula a) (placeless_formula b)
 
-abbrev pub bare_value : List SeenExpr → List SeenExpr
-bare_value = map bare_formula
+abbrev pub placeless_value : List SeenExpr → List SeenExpr
+placeless_value = map placeless_formula
 
-abbrev pub bare_span : SeenRange → SeenRange
-bare_span r = record { at = nowhere; left = bare_formula r.left; right = option_map bare_formula r.right }
+abbrev pub placeless_span : SeenRange → SeenRange
+placeless_span r = record { at = no_place; left = placeless_formula r.left; right = option_map placeless_formula r.right }
 
-abbrev pub bare_meant : SeenSigWhat → SeenSigWhat
-bare_meant (ANumber f) = ANumber (bare_formula f)
-bare_meant (APath path r) = APath path (option_map bare_span r)
+abbrev pub placeless_meant : SeenSigWhat → SeenSigWhat
+placeless_meant (ANumber f) = ANumber (placeless_formula f)
+placeless_meant (APath path r) = APath path (option_map placeless_span r)
 
-abbrev pub bare_signal : SeenSig → SeenSig
-bare_signal s = record { at = nowhere; inverted = s.inverted; what = bare_meant s.what }
+abbrev pub placeless_signal : SeenSig → SeenSig
+placeless_signal s = record { at = no_place; inverted = s.inverted; what = placeless_meant s.what }
 
-abbrev pub bare_signals : List SeenSig → List SeenSig
-bare_signals = map bare_signal
+abbrev pub placeless_signals : List SeenSig → List SeenSig
+placeless_signals = map placeless_signal
 
-abbrev pub bare_property : SeenProp → SeenProp
-bare_property (ASource ss) = ASource (bare_signals ss)
-bare_property (ALaunchEdge w) = ALaunchEdge w
-bare_property (ALoadValue v) = ALoadValue (bare_value v)
-bare_property (ARefEnum n) = ARefEnum n
-bare_property (APolarity n) = APolarity n
-bare_property (AScanInSource s) = AScanInSource (bare_signal s)
-bare_property (ACaptureSource ss) = ACaptureSource (bare_signals ss)
-bare_property (AResetValue v) = AResetValue (bare_value v)
-bare_property ATogether = ATogether
+abbrev pub placeless_property : SeenProp → SeenProp
+placeless_property (ASource ss) = ASource (placeless_signals ss)
+placeless_property (ALaunchEdge w) = ALaunchEdge w
+placeless_property (ALoadValue v) = ALoadValue (placeless_value v)
+placeless_property (ARefEnum n) = ARefEnum n
+placeless_property (APolarity n) = APolarity n
+placeless_property (AScanInSource s) = AScanInSource (placeless_signal s)
+placeless_property (ACaptureSource ss) = ACaptureSource (placeless_signals ss)
+placeless_property (AResetValue v) = AResetValue (placeless_value v)
+placeless_property ATogether = ATogether
 
-abbrev pub bare_row : SeenRow → SeenRow
-bare_row r = record { values = map bare_value r.values; source = bare_signal r.source }
+abbrev pub placeless_row : SeenRow → SeenRow
+placeless_row r = record { values = map placeless_value r.values; source = placeless_signal r.source }
 
-abbrev pub bare_binding : SeenBind → SeenBind
-bare_binding (ABoundPort at n r ss) = ABoundPort nowhere n (option_map bare_span r) (bare_signals ss)
-bare_binding (ABoundParameter at n v) = ABoundParameter nowhere n (bare_formula v)
-bare_binding (ABoundAttribute n v) = ABoundAttribute n (option_map bare_formula v)
+abbrev pub placeless_binding : SeenBind → SeenBind
+placeless_binding (ABoundPort at n r ss) = ABoundPort no_place n (option_map placeless_span r) (placeless_signals ss)
+placeless_binding (ABoundParameter at n v) = ABoundParameter no_place n (placeless_formula v)
+placeless_binding (ABoundAttribute n v) = ABoundAttribute n (option_map placeless_formula v)
 
-abbrev pub bare_word : SeenEnumWord → SeenEnumWord
-bare_word w = record { name = w.name; value = bare_value w.value }
+abbrev pub placeless_word : SeenEnumWord → SeenEnumWord
+placeless_word w = record { name = w.name; value = placeless_value w.value }
 
-abbrev pub bare_meaning : SeenWhat → SeenWhat
-bare_meaning (APort k r ps) = APort k (option_map bare_span r) (map bare_property ps)
-bare_meaning (ARegister r ps) = ARegister (option_map bare_span r) (map bare_property ps)
-bare_meaning (AMux ss rs) = AMux (bare_signals ss) (map bare_row rs)
-bare_meaning (AChild m bs) = AChild m (map bare_binding bs)
-bare_meaning (AnAlias r ss ps) = AnAlias (option_map bare_span r) (bare_signals ss) (map bare_property ps)
-bare_meaning (SomeWords ws) = SomeWords (map bare_word ws)
-bare_meaning (AParameter local v) = AParameter local (bare_formula v)
-bare_meaning (AnInterface ps) = AnInterface ps
-bare_meaning (ALink k entity is) = ALink k entity is
-bare_meaning (AnAttribute v) = AnAttribute (option_map bare_formula v)
+abbrev pub placeless_meaning : SeenWhat → SeenWhat
+placeless_meaning (APort k r ps) = APort k (option_map placeless_span r) (map placeless_property ps)
+placeless_meaning (ARegister r ps) = ARegister (option_map placeless_span r) (map placeless_property ps)
+placeless_meaning (AMux ss rs) = AMux (placeless_signals ss) (map placeless_row rs)
+placeless_meaning (AChild m bs) = AChild m (map placeless_binding bs)
+placeless_meaning (AnAlias r ss ps) = AnAlias (option_map placeless_span r) (placeless_signals ss) (map placeless_property ps)
+placeless_meaning (SomeWords ws) = SomeWords (map placeless_word ws)
+placeless_meaning (AParameter local v) = AParameter local (placeless_formula v)
+placeless_meaning (AnInterface ps) = AnInterface ps
+placeless_meaning (ALink k entity is) = ALink k entity is
+placeless_meaning (AnAttribute v) = AnAttribute (option_map placeless_formula v)
 
-abbrev pub bare_thing : SeenItem → SeenItem
-bare_thing t = record { at = nowhere; name = t.name; what = bare_meaning t.what }
+abbrev pub placeless_thing : SeenItem → SeenItem
+placeless_thing t = record { at = no_place; name = t.name; what = placeless_meaning t.what }
 
-abbrev pub bare_block : SeenModule → SeenModule
-bare_block m = record { name = m.name; at = nowhere; items = map bare_thing m.items }
+abbrev pub placeless_block : SeenModule → SeenModule
+placeless_block m = record { name = m.name; at = no_place; items = map placeless_thing m.items }
 
-unfoldable pub bare_design : List SeenModule → List SeenModule
-bare_design d = map bare_block d
+unfoldable pub placeless_design : List SeenModule → List SeenModule
+placeless_design d = map placeless_block d
 
 -- ---- the laws
 
@@ -105,11 +105,11 @@ bare_design d = map bare_block d
 abbrev pub PrintedTokensDeriveIt : Type 0
 PrintedTokensDeriveIt =
     (read printed : List SeenToken) (d : List SeenModule) → AllSpelled (spellings read) → design.derives read d → spellings printed ≡ tokens_of d
-    → (again : List SeenModule) × (design.derives printed again) × (bare_design again ≡ bare_design d)
+    → (again : List SeenModule) × (design.derives printed again) × (placeless_design again ≡ placeless_design d)
 
 -- a design that was read is read again from the text that is printed of it, places aside
 abbrev pub DesignsAreReadAgain : Type 0
 DesignsAreReadAgain =
     (src : List ℕ) (tokens : List Token) (d : List SeenModule) → AreTokens src tokens → design.derives (seen_tokens src tokens) d
     → (printed : List Token) × (again : List SeenModule) × (AreTokens (design_text d) printed)
-    × (design.derives (seen_tokens (design_text d) printed) again) × (bare_design again ≡ bare_design d)
+    × (design.derives (seen_tokens (design_text d) printed) again) × (placeless_design again ≡ placeless_design d)

@@ -27,10 +27,10 @@ blank_of Mark (c ∷ []) = gap_behind c
 blank_of kind text = 32
 
 -- a token with the blank behind it
-abbrev pub laid : Spelling → List ℕ
-laid t = t.text ++ (blank_of t.kind t.text ∷ [])
+abbrev pub with_blank : Spelling → List ℕ
+with_blank t = t.text ++ (blank_of t.kind t.text ∷ [])
 
 -- tokens, each with the blank behind it
 unfoldable pub layout : List Spelling → List ℕ
 layout [] = []
-layout (t ∷ ts) = laid t ++ layout ts
+layout (t ∷ ts) = with_blank t ++ layout ts

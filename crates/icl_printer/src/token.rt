@@ -2,7 +2,7 @@
 ghost use Rattle.std.specs.Prelude.{◌≡◌, OnOk, OnErr, map};
 ghost use Rattle.ij_io.specs.Bytes.{Adds, AddsPart};
 ghost use Rattle.ij_io.specs.Causes.{HasCause};
-ghost use Rattle.icl_printer.specs.Layout.{layout, gap_behind, laid};
+ghost use Rattle.icl_printer.specs.Layout.{layout, gap_behind, with_blank};
 ghost use Rattle.icl_printer.specs.Pieces.{spelled};
 
 use icl_syntax::SmallText;
@@ -37,8 +37,8 @@ fn gap_behind(mark: u8) -> u8
 /// Writes a token and the blank behind it.
 #[tactic(auto, unfolding(ij_io::specs::Words::words_text))]
 fn put_token<K: Sink>(piece: &Piece, k: &mut K) -> Result<(), StoreFault>
-    ensures whole { OnOk result (Adds (K.taken k.old) (K.taken k.new) (laid (spelled piece.now))) }
-    ensures part { OnErr result (AddsPart (K.taken k.old) (K.taken k.new) (laid (spelled piece.now))) }
+    ensures whole { OnOk result (Adds (K.taken k.old) (K.taken k.new) (with_blank (spelled piece.now))) }
+    ensures part { OnErr result (AddsPart (K.taken k.old) (K.taken k.new) (with_blank (spelled piece.now))) }
     ensures cause { HasCause (K.faults k.old) (K.faults k.new) result StoreFault.Failed }
 {
     match piece {

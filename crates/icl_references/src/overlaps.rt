@@ -1,5 +1,5 @@
 // Overlaps of the rows of a multiplexer.
-ghost use Rattle.std.specs.Prelude.{◌≡◌, ◌++◌, ◌∷◌, [], length, map, IfOk};
+ghost use Rattle.std.specs.Prelude.{◌≡◌, ◌++◌, ◌∷◌, [], length, map, IfOk, OnOk};
 ghost use Rattle.std.specs.List.{list_any};
 ghost use Rattle.ij_text.specs.Numbers.{tern_bits};
 ghost use Rattle.icl_references.specs.Muxes.{meet, meet_at, some_meet};
@@ -111,29 +111,32 @@ impl<'a> Seen<'a> {
         Ok(one_meets(&self.with_x, v))
     }
 
-    /// The values with one more.
-    fn with(self, alloc: Global, v: &'a Tern) -> Result<Seen<'a>, OutOfMemory>
-        requires { IsSeen self }
-        ensures seen { IfOk result (λ next. IsSeen next) }
-        ensures all { IfOk result (λ next. values_of next ≡ values_of self.entry ++ tern_bits v.now ∷ []) }
+    /// One value more.
+    fn note(&mut self, alloc: Global, v: &'a Tern) -> Result<(), OutOfMemory>
+        requires { IsSeen self.old }
+        ensures seen { OnOk result (IsSeen self.new) }
+        ensures all { OnOk result (values_of self.new ≡ values_of self.old ++ tern_bits v.now ∷ []) }
     {
-        let Seen {
-            mut all,
-            mut with_x,
-            mut closed,
-        } = self;
-        all.push(v)?;
-        if is_closed(v) {
-            let key = key_of(alloc, v)?;
-            closed.note(alloc, &key)?;
-        } else {
-            with_x.push(v)?;
+        self.all.push(v)?;
+        if !is_closed(v) {
+            self.with_x.push(v)?;
+            return Ok(());
         }
-        Ok(Seen {
-            all,
-            with_x,
-            closed,
-        })
+        let key = key_of(alloc, v)?;
+        self.closed.note(alloc, &key)?;
+        Ok(())
+    }
+
+    /// The values of one row more.
+    fn note_row(&mut self, alloc: Global, row: &'a [Tern]) -> Result<(), OutOfMemory>
+        requires { IsSeen self.old }
+        ensures seen { OnOk result (IsSeen self.new) }
+        ensures all { OnOk result (values_of self.new ≡ values_of self.old ++ map tern_bits row.now) }
+    {
+        for v in row {
+            self.note(alloc, v)?;
+        }
+        Ok(())
     }
 }
 
@@ -151,19 +154,6 @@ fn row_meets(alloc: Global, seen: &Seen, row: &[Tern]) -> Result<bool, OutOfMemo
     Ok(false)
 }
 
-/// The values with those of one row more.
-fn with_row<'a>(alloc: Global, seen: Seen<'a>, row: &'a [Tern]) -> Result<Seen<'a>, OutOfMemory>
-    requires { IsSeen seen }
-    ensures seen { IfOk result (λ next. IsSeen next) }
-    ensures all { IfOk result (λ next. values_of next ≡ values_of seen.entry ++ map tern_bits row.now) }
-{
-    let mut seen = seen;
-    for v in row {
-        seen = seen.with(alloc, v)?;
-    }
-    Ok(seen)
-}
-
 /// Whether two of these rows overlap, whose values have one width. It takes time in the number of values, and of those with an x
 /// times all.
 pub(crate) fn some_meet(alloc: Global, rows: &[Row]) -> Result<bool, OutOfMemory>
@@ -175,7 +165,7 @@ pub(crate) fn some_meet(alloc: Global, rows: &[Row]) -> Result<bool, OutOfMemory
         if row_meets(alloc, &seen, row.0.as_slice())? {
             return Ok(true);
         }
-        seen = with_row(alloc, seen, row.0.as_slice())?;
+        seen.note_row(alloc, row.0.as_slice())?;
     }
     Ok(false)
 }

@@ -49,9 +49,6 @@ in_first test xs ys n b =
 
 -- ---- parts of one cell
 
-t_of : Kind → Entry → Bool
-t_of kind e = test_of kind e.what.role
-
 same_here : (cell s : ℕ) → (cell == cell && s == s + 0) ≡ true
 same_here cell s = let e : s ≡ s + 0 = omega arith in rw (eq-eqb cell cell refl, eq-eqb s (s + 0) e) refl
 

@@ -54,11 +54,11 @@ module _ (test : Role → Bool) where
       omega (arith, both, more, one, others)
 
 module _ (cells : List CellOf) (entry : Wire) (net : Net) (shaped : IsShaped cells entry net) (h : IsHierarchy cells) where
-  pub few_bits : sum (map (λ (reg : Reg). reg.width) net.regs.items) ≤ 4096
-  few_bits =
+  pub bits_within_limit : sum (map (λ (reg : Reg). reg.width) net.regs.items) ≤ 4096
+  bits_within_limit =
       let same : sum (map (λ (reg : Reg). reg.width) net.regs.items) ≡ sum_by (width_that is_register) cells = ap sum shaped.widths
       ∙ sum-map (λ (e : Entry). part_width e.what) (entries_that is_register cells) ∙ all_widths is_register 0 cells in
-      let few = h.few_bits in
+      let few = h.bits_within_limit in
       omega (arith, same, few)
 
   pub few_muxes : length net.muxes.items ≤ 1024

@@ -65,7 +65,7 @@ module _ (cells : List CellOf) (entry : Wire) (net : Net) (shaped : IsShaped cel
       let rows = each_paired (row_from cells entry e.what.at) seen_row m.rows mux.rows.items m.sources in
       let width = paired_length R m.select mux.select.items bits in
       let long = paired_length S m.rows mux.rows.items rows in
-      let some_bits = has.0 in
+      let at_least_one_bit = has.0 in
       let some_rows = has.1 in
       let few_rows = has.2 in
       let below = cell_below cells e.cell e.part e.what k.0 in
@@ -74,7 +74,7 @@ module _ (cells : List CellOf) (entry : Wire) (net : Net) (shaped : IsShaped cel
       let values = paired_maps S (λ (c : Choice). c.values) (λ (row : Row). map tern_bits row.values.items)
       (λ c row g. (row_is cells entry e.what.at c row g).values) m.rows mux.rows.items rows in
       record {
-        some_bits = omega (arith, some_bits, width);
+        at_least_one_bit = omega (arith, at_least_one_bit, width);
         select = All-from_recursion (IsBitOf net) mux.select.items
             (paired_all (IsRefOf cells) R (IsBitOf net) (λ r b g d. select_there cells entry net shaped wired e.what.at r b g d) m.select mux.select.items role.0 bits);
         some_rows = omega (arith, some_rows, long);

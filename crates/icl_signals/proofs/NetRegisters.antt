@@ -74,7 +74,7 @@ module _ (cells : List CellOf) (entry : Wire) (net : Net) (shaped : IsShaped cel
         let thing = r.thing in
         let things = shaped.things in
         record {
-          some_bits = omega (arith, some, width);
+          at_least_one_bit = omega (arith, some, width);
           source = source_there e.what.at r.scan reg.from r.from;
           captures = captures_long e.what.at (part_width e.what) r.capture reg.capture.items role.1 r.signals ∙ width;
           signals = All-from_recursion (IsSignalOf net) reg.capture.items

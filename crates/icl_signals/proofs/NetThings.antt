@@ -84,7 +84,7 @@ module _ (cells : List CellOf) (entry : Wire) (net : Net) (shaped : IsShaped cel
         let below = cell_below cells e.cell e.part e.what k.0 in
         let node = i.node in
         let nodes = shaped.nodes in
-        let few = names.few_bits in
+        let few = names.bits_within_limit in
         let spots = all_of_map (spot_of cells entry) (IsSpotOf net) refs
         (all_weaker (IsRefOf cells) (λ r. IsSpotOf net (spot_of cells entry r)) spot_good refs (refs_there e e.what.role k.0 part.role)) in
         let words : AllByRecursion (λ (w : Word). length w.value ≡ part_width e.what) (map seen_word t.words.items) =
@@ -94,7 +94,7 @@ module _ (cells : List CellOf) (entry : Wire) (net : Net) (shaped : IsShaped cel
           named = subst (λ (n : List ℕ). IsTrue (is_name n)) i.name names.name;
           wide = sym long ∙ ap (λ (n : ℕ). (n - e.what.right) + (e.what.right - n) + 1) i.left
               ∙ ap (λ (n : ℕ). (t.left - n) + (n - t.left) + 1) i.right;
-          few_bits = omega (arith, long, few);
+          bits_within_limit = omega (arith, long, few);
           spots = All-from_recursion (IsSpotOf net) t.bits.items (subst (AllByRecursion (IsSpotOf net)) i.bits spots);
           words = All-from_recursion (λ (w : Listed ℕ × Tern). length w.1.value.items ≡ length t.bits.items) t.words.items
               (all_weaker (λ (w : Listed ℕ × Tern). length (tern_bits w.1) ≡ part_width e.what)

@@ -17,7 +17,7 @@ use Rattle.icl_signals.proofs.NetMuxes.{muxes_good}
 use Rattle.icl_signals.proofs.NetInstruments.{instruments_good, instrument_nodes}
 use Rattle.icl_signals.proofs.NetThings.{things_good, have_things, thing_names}
 use Rattle.icl_signals.proofs.NetNodes.{paths_differ, path_names, few_levels, top_path}
-use Rattle.icl_signals.proofs.NetCounts.{few_bits, few_muxes, few_insts, few_nodes}
+use Rattle.icl_signals.proofs.NetCounts.{bits_within_limit, few_muxes, few_insts, few_nodes}
 
 pub nets_are_well_formed : NetsAreWellFormed
 nets_are_well_formed cells link instr net h e =
@@ -38,7 +38,7 @@ nets_are_well_formed cells link instr net h e =
       inst_nodes = instrument_nodes cells net n;
       thing_names = thing_names cells net n h.cells_are;
       reg_things = have_things cells n.entry net shaped h.wired;
-      few_bits = few_bits cells n.entry net shaped h;
+      bits_within_limit = bits_within_limit cells n.entry net shaped h;
       few_muxes = few_muxes cells n.entry net shaped h;
       few_insts = few_insts cells n.entry net shaped h;
       few_nodes = few_nodes cells n.entry net shaped h;

@@ -1,13 +1,16 @@
 // The network of a hierarchy.
-ghost use Rattle.std.specs.Prelude.{IfOk};
+ghost use Rattle.std.specs.Prelude.{◌≡◌, map, IfOk};
 ghost use Rattle.icl_references.specs.Roles.{seen_hier};
-ghost use Rattle.icl_elab.specs.WellFormed.{IsHierarchy};
+ghost use Rattle.icl_values.specs.Faults.{each};
+ghost use Rattle.icl_elab.specs.WellFormed.{IsHierarchy, is_mux, is_register, is_thing};
 ghost use Rattle.net_graph.specs.Nets.{IsNet};
 ghost use Rattle.icl_signals.specs.Refusals.{Gives};
-ghost use Rattle.icl_signals.specs.PlainNets.{seen_net};
-ghost use Rattle.icl_signals.specs.Connecting.{network};
+ghost use Rattle.icl_signals.specs.Wirings.{IsWiring, cells_of};
+ghost use Rattle.icl_signals.specs.PlainNets.{seen_mux, seen_net, seen_reg, seen_thing};
+ghost use Rattle.icl_signals.specs.Connecting.{entries_that, mux_of, network, network_from, register_of, thing_of};
 
 use crate::ConnectFault;
+use crate::beside::beside;
 use crate::ends::scan_from;
 use crate::entries::entries_of;
 use crate::finding::with_ends;
@@ -18,11 +21,68 @@ use crate::nodes::nodes_of;
 use crate::parts::Kind;
 use crate::registers::registers;
 use crate::things::things;
-use crate::wiring::wiring_of;
+use crate::wiring::{Wiring, wiring_of};
 use icl_elab::{Hier, Ref};
-use ij_text::Name;
-use net_graph::Net;
+use ij_bits::{List, OutOfMemory};
+use ij_text::{Name, Place};
+use net_graph::{Mux, Net, Reg, Thing};
 use std::alloc::Global;
+
+/// The registers.
+fn own_registers(alloc: Global, wiring: &Wiring) -> Result<List<Reg>, ConnectFault>
+    requires { IsWiring wiring.now }
+    ensures { Gives (λ all. map seen_reg all.items) result (each (register_of (cells_of wiring.now) wiring.now.entry) (entries_that is_register (cells_of wiring.now))) }
+{
+    let parts = entries_of(alloc, Kind::Register, wiring.hier)?;
+    let regs = registers(alloc, wiring, parts.as_slice());
+    drop(parts);
+    regs
+}
+
+/// The multiplexers.
+fn own_muxes(alloc: Global, wiring: &Wiring) -> Result<List<Mux>, ConnectFault>
+    requires { IsWiring wiring.now }
+    ensures { Gives (λ all. map seen_mux all.items) result (each (mux_of (cells_of wiring.now) wiring.now.entry) (entries_that is_mux (cells_of wiring.now))) }
+{
+    let parts = entries_of(alloc, Kind::Mux, wiring.hier)?;
+    let muxes = muxes(alloc, wiring, parts.as_slice());
+    drop(parts);
+    muxes
+}
+
+/// What procedures may name.
+fn own_things(alloc: Global, wiring: &Wiring) -> Result<List<Thing>, OutOfMemory>
+    requires { IsWiring wiring.now }
+    ensures { IfOk result (λ all. map seen_thing all.items ≡ map (thing_of (cells_of wiring.now) wiring.now.entry) (entries_that is_thing (cells_of wiring.now))) }
+{
+    let parts = entries_of(alloc, Kind::Thing, wiring.hier)?;
+    let things = things(alloc, wiring, parts.as_slice());
+    drop(parts);
+    things
+}
+
+/// The network whose output a reference leads to, where its signals are followed.
+fn network_from(alloc: Global, wiring: &Wiring, at: Place, exit: Ref) -> Result<Net, ConnectFault>
+    requires { IsWiring wiring.now }
+    ensures { Gives seen_net result (network_from (cells_of wiring.now) wiring.now.entry at exit) }
+{
+    let out = scan_from(wiring, at, exit)?;
+    let regs = own_registers(alloc, wiring)?;
+    let scanned = beside(regs, own_muxes(alloc, wiring))?;
+    let (scanned, insts) = beside(scanned, instruments(alloc, wiring))?;
+    let nodes = beside(insts, nodes_of(alloc, wiring.hier));
+    let (scanned, named) = beside(scanned, nodes)?;
+    let things = beside(named, own_things(alloc, wiring));
+    let (scanned, (named, things)) = beside(scanned, things)?;
+    Ok(Net {
+        regs: scanned.0,
+        muxes: scanned.1,
+        insts: named.0,
+        out,
+        nodes: named.1,
+        things,
+    })
+}
 
 /// The network between the two ends that an instruction selects, or the first fault on the way to it.
 #[tactic(auto, unfolding(crate::specs::Connecting::network))]
@@ -38,23 +98,9 @@ fn network_of(alloc: Global, hier: &Hier, link: &Name, instr: &Name) -> Result<N
         pos: 0,
         inverted: false,
     };
-    let out = scan_from(&wiring, ends.exit_place, exit)?;
-    let parts = entries_of(alloc, Kind::Register, hier)?;
-    let regs = registers(alloc, &wiring, parts.as_slice())?;
-    let parts = entries_of(alloc, Kind::Mux, hier)?;
-    let muxes = muxes(alloc, &wiring, parts.as_slice())?;
-    let insts = instruments(alloc, &wiring)?;
-    let nodes = nodes_of(alloc, hier)?;
-    let parts = entries_of(alloc, Kind::Thing, hier)?;
-    let things = things(alloc, &wiring, parts.as_slice())?;
-    Ok(Net {
-        regs,
-        muxes,
-        insts,
-        out,
-        nodes,
-        things,
-    })
+    let net = network_from(alloc, &wiring, ends.exit_place, exit);
+    drop(wiring);
+    net
 }
 
 /// The flat network between the two ends of the interface that an instruction of an access link selects (IEEE 1687-2014, ICL:

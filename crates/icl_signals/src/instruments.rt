@@ -1,16 +1,17 @@
 // The instruments of a network.
 ghost use Rattle.std.specs.Prelude.{◌≡◌, ◌∷◌, [], map, filter, IfOk};
 ghost use Rattle.icl_values.specs.Faults.{each};
-ghost use Rattle.icl_elab.specs.WellFormed.{is_instrument};
+ghost use Rattle.icl_elab.specs.WellFormed.{is_data_out, is_instrument};
 ghost use Rattle.icl_references.specs.Roles.{seen_cell};
 ghost use Rattle.icl_signals.specs.Refusals.{Gives, behind};
 ghost use Rattle.icl_signals.specs.Wirings.{IsWiring, cells_of};
 ghost use Rattle.icl_signals.specs.Told.{seen_entry};
 ghost use Rattle.icl_signals.specs.Inside.{numbered};
 ghost use Rattle.icl_signals.specs.PlainNets.{seen_input, seen_output, seen_inst};
-ghost use Rattle.icl_signals.specs.Connecting.{input_from, input_of, output_of, instrument_of, instruments};
+ghost use Rattle.icl_signals.specs.Connecting.{input_from, input_of, output_of, instrument_of, instruments, parts_that};
 
 use crate::ConnectFault;
+use crate::beside::beside;
 use crate::ends::input_from;
 use crate::entries::{PartAt, entries_at, next, own_refs};
 use crate::parts::{Kind, is_instrument, width_of};
@@ -45,8 +46,9 @@ fn input_of(alloc: Global, wiring: &Wiring, cell: u32, e: PartAt) -> Result<Port
     ensures { Gives seen_input result (input_of (cells_of wiring.now) wiring.now.entry cell (numbered (seen_entry e.entry))) }
 {
     let refs = own_refs(alloc, cell, e.part, e.what)?;
-    let bits = input_bits(alloc, wiring, e.what.at, refs.as_slice())?;
-    let name = name_of(alloc, e.what.name.as_slice())?;
+    let bits = input_bits(alloc, wiring, e.what.at, refs.as_slice());
+    drop(refs);
+    let (bits, name) = beside(bits?, name_of(alloc, e.what.name.as_slice()))?;
     Ok(PortIn { name, bits })
 }
 
@@ -85,6 +87,16 @@ fn outputs(alloc: Global, parts: &[PartAt]) -> Result<List<PortOut>, OutOfMemory
     Ok(all)
 }
 
+/// The outputs of the instrument that a cell is.
+fn own_outputs(alloc: Global, number: u32, cell: &Cell) -> Result<List<PortOut>, OutOfMemory>
+    ensures { IfOk result (λ all. map seen_output all.items ≡ map output_of (parts_that is_data_out (seen_cell cell.now))) }
+{
+    let parts = entries_at(alloc, Kind::Output, number, cell)?;
+    let outs = outputs(alloc, parts.as_slice());
+    drop(parts);
+    outs
+}
+
 /// The instrument that a cell is.
 #[tactic(auto, unfolding(crate::specs::Connecting::instrument_of))]
 fn instrument_of(
@@ -96,10 +108,10 @@ fn instrument_of(
     requires { IsWiring wiring.now }
     ensures { Gives seen_inst result (instrument_of (cells_of wiring.now) wiring.now.entry (number, seen_cell cell.now)) }
 {
-    let data_in = entries_at(alloc, Kind::Input, number, cell)?;
-    let ins = inputs(alloc, wiring, number, data_in.as_slice())?;
-    let data_out = entries_at(alloc, Kind::Output, number, cell)?;
-    let outs = outputs(alloc, data_out.as_slice())?;
+    let parts = entries_at(alloc, Kind::Input, number, cell)?;
+    let ins = inputs(alloc, wiring, number, parts.as_slice());
+    drop(parts);
+    let (ins, outs) = beside(ins?, own_outputs(alloc, number, cell))?;
     Ok(Inst {
         node: number,
         ins,

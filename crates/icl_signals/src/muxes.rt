@@ -9,6 +9,7 @@ ghost use Rattle.icl_signals.specs.PlainNets.{seen_row, seen_mux};
 ghost use Rattle.icl_signals.specs.Connecting.{select_from, row_from, mux_of};
 
 use crate::ConnectFault;
+use crate::beside::beside;
 use crate::copies::values_copy;
 use crate::ends::{scan_from, select_from};
 use crate::entries::PartAt;
@@ -81,8 +82,10 @@ pub(crate) fn mux_of(alloc: Global, wiring: &Wiring, e: PartAt) -> Result<Mux, C
             rows: choices,
         } => {
             let select = select(alloc, wiring, part.at, refs.as_slice())?;
-            let rows = rows(alloc, wiring, part.at, choices.as_slice())?;
-            let name = name_of(alloc, part.name.as_slice())?;
+            let rows = rows(alloc, wiring, part.at, choices.as_slice());
+            let (select, rows) = beside(select, rows)?;
+            let name = beside(rows, name_of(alloc, part.name.as_slice()));
+            let (select, (rows, name)) = beside(select, name)?;
             Ok(Mux {
                 select,
                 rows,

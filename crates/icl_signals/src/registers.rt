@@ -13,6 +13,7 @@ ghost use Rattle.icl_signals.specs.PlainNets.{seen_reg};
 ghost use Rattle.icl_signals.specs.Connecting.{data_from, scan_source, captures, register_of, number_among};
 
 use crate::ConnectFault;
+use crate::beside::beside;
 use crate::copies::resets;
 use crate::ends::{data_from, scan_from};
 use crate::entries::PartAt;
@@ -107,7 +108,7 @@ pub(crate) fn register_of(alloc: Global, wiring: &Wiring, e: PartAt) -> Result<R
             let from = scan_source(wiring, part.at, *scan)?;
             let width = width_of(part)?;
             let capture = captures(alloc, wiring, part.at, width, capture)?;
-            let reset = resets(alloc, width, reset)?;
+            let (capture, reset) = beside(capture, resets(alloc, width, reset))?;
             Ok(Reg {
                 width,
                 from,

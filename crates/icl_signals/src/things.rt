@@ -7,6 +7,7 @@ ghost use Rattle.icl_signals.specs.Told.{seen_entry};
 ghost use Rattle.icl_signals.specs.PlainNets.{seen_thing};
 ghost use Rattle.icl_signals.specs.Connecting.{own_bits, spot_of, thing_of, number_among};
 
+use crate::beside::beside;
 use crate::copies::words_copy;
 use crate::ends::{constant, signal_from};
 use crate::entries::{PartAt, own_refs};
@@ -88,8 +89,9 @@ fn thing_of(alloc: Global, wiring: &Wiring, e: PartAt) -> Result<Thing, OutOfMem
         Body::Alias { refs } => named_spots(alloc, wiring, refs.as_slice())?,
         _ => own_spots(alloc, wiring, e)?,
     };
-    let name = name_of(alloc, part.name.as_slice())?;
-    let words = words_copy(alloc, part)?;
+    let (bits, name) = beside(bits, name_of(alloc, part.name.as_slice()))?;
+    let words = beside(name, words_copy(alloc, part));
+    let (bits, (name, words)) = beside(bits, words)?;
     Ok(Thing {
         node: e.cell,
         name,

@@ -2,8 +2,10 @@
 ghost use Rattle.std.specs.Prelude.{◌≡◌, ◌+◌, map, sum_by, IfOk};
 ghost use Rattle.icl_references.specs.Roles.{part_width, seen_part, seen_cell, seen_hier};
 ghost use Rattle.icl_signals.specs.Wirings.{IsWiring, cells_of};
+ghost use Rattle.icl_signals.specs.Kinds.{in_front, is_of, numbers_from};
 ghost use Rattle.icl_signals.specs.Traces.{signal_bits};
 
+use crate::beside::beside;
 use crate::found::Note;
 use crate::numbers::{instruments_of, numbers_of, outputs_of};
 use crate::parts::{Kind, instrument_flags, width};
@@ -72,6 +74,40 @@ fn count_bits(cells: &[Cell]) -> Result<u64, OutOfMemory>
     Ok(sum)
 }
 
+/// The numbers of parts.
+#[derive(Drop)]
+struct PartNumbers {
+    /// For each part of each cell how many registers stand in front of it.
+    registers: Vec<Vec<u32>>,
+    /// The same of multiplexers.
+    muxes: Vec<Vec<u32>>,
+    /// The same of what procedures may name.
+    things: Vec<Vec<u32>>,
+    /// For each part of each cell how many outputs stand in front of it in that cell.
+    outputs: Vec<Vec<u32>>,
+}
+
+/// The numbers of the parts of these cells.
+fn part_numbers(alloc: Global, cells: &[Cell]) -> Result<PartNumbers, OutOfMemory>
+    ensures registers { IfOk result (λ n. map (λ row. row.items) n.registers.items ≡ numbers_from Kind.Register 0 (map seen_cell cells.now)) }
+    ensures muxes { IfOk result (λ n. map (λ row. row.items) n.muxes.items ≡ numbers_from Kind.Mux 0 (map seen_cell cells.now)) }
+    ensures things { IfOk result (λ n. map (λ row. row.items) n.things.items ≡ numbers_from Kind.Thing 0 (map seen_cell cells.now)) }
+    ensures outputs { IfOk result (λ n. map (λ row. row.items) n.outputs.items ≡ map (λ c. in_front (is_of Kind.Output) 0 c.parts) (map seen_cell cells.now)) }
+{
+    let registers = numbers_of(alloc, Kind::Register, cells)?;
+    let (registers, muxes) = beside(registers, numbers_of(alloc, Kind::Mux, cells))?;
+    let things = beside(muxes, numbers_of(alloc, Kind::Thing, cells));
+    let (registers, (muxes, things)) = beside(registers, things)?;
+    let outputs = beside(things, outputs_of(alloc, cells));
+    let (registers, (muxes, (things, outputs))) = beside(registers, beside(muxes, outputs))?;
+    Ok(PartNumbers {
+        registers,
+        muxes,
+        things,
+        outputs,
+    })
+}
+
 /// What following a signal of a hierarchy looks at, where the network begins at `entry`. No trace is followed yet.
 pub(crate) fn wiring_of<'a>(
     alloc: Global,
@@ -83,24 +119,25 @@ pub(crate) fn wiring_of<'a>(
     ensures entry { IfOk result (λ g. g.entry ≡ entry) }
 {
     let cells = hier.cells.as_slice();
-    let instruments = instrument_flags(alloc, cells)?;
-    let instrument_numbers = instruments_of(alloc, instruments.as_slice())?;
-    let registers = numbers_of(alloc, Kind::Register, cells)?;
-    let muxes = numbers_of(alloc, Kind::Mux, cells)?;
-    let things = numbers_of(alloc, Kind::Thing, cells)?;
-    let outputs = outputs_of(alloc, cells)?;
     let looks = added(count_bits(cells)?, 1)?;
+    let instruments = instrument_flags(alloc, cells)?;
+    let numbers = instruments_of(alloc, instruments.as_slice());
+    let (instruments, numbers) = beside(instruments, numbers)?;
+    let parts = beside(numbers, part_numbers(alloc, cells));
+    let (instruments, (numbers, parts)) = beside(instruments, parts)?;
+    let places = beside(parts, places_of(alloc, cells));
+    let (instruments, (numbers, (parts, places))) = beside(instruments, beside(numbers, places))?;
     Ok(Wiring {
         hier,
         instruments,
-        instrument_numbers,
-        registers,
-        muxes,
-        things,
-        outputs,
+        instrument_numbers: numbers,
+        registers: parts.registers,
+        muxes: parts.muxes,
+        things: parts.things,
+        outputs: parts.outputs,
         entry,
         looks,
-        places: places_of(alloc, cells)?,
+        places,
         ends: Vec::new(alloc),
     })
 }

@@ -8,10 +8,10 @@ use Rattle.icl_syntax.specs.declared.tree.Sign.{Sign}
 use Rattle.icl_syntax.specs.declared.tree.Sign.TheVariants.{Plus, Minus, Times, Over, Rest}
 use Rattle.icl_syntax.specs.declared.words.Limit.{Limit}
 use Rattle.icl_syntax.specs.declared.words.Limit.TheVariants.{OfExpression}
-use Rattle.icl_syntax.specs.declared.words.Owner.{Owner}
-use Rattle.icl_syntax.specs.declared.words.Owner.TheVariants.{ScanIn, ScanOut, DataIn, DataOut, Control, Register, Alias}
-use Rattle.icl_syntax.specs.declared.words.PropWord.{PropWord}
-use Rattle.icl_syntax.specs.declared.words.PropWord.TheVariants.{Source, LaunchEdge, DefaultLoadValue, RefEnum, ActivePolarity, ScanInSource, CaptureSource, ResetValue, AccessTogether, Attribute}
+use Rattle.icl_syntax.specs.declared.words.BodyKind.{BodyKind}
+use Rattle.icl_syntax.specs.declared.words.BodyKind.TheVariants.{ScanIn, ScanOut, DataIn, DataOut, Control, Register, Alias}
+use Rattle.icl_syntax.specs.declared.words.PropKeyword.{PropKeyword}
+use Rattle.icl_syntax.specs.declared.words.PropKeyword.TheVariants.{Source, LaunchEdge, DefaultLoadValue, RefEnum, ActivePolarity, ScanInSource, CaptureSource, ResetValue, AccessTogether, Attribute}
 use Rattle.icl_lexer.specs.Seen.{SeenToken, if_word, is_mark, mark_at, word_at, name_at}
 use Rattle.icl_syntax.specs.Tokens.{decimal_of, decimal_at}
 use Rattle.icl_syntax.specs.Words.{prop_named}
@@ -218,7 +218,7 @@ sigs = parted 44 sig
 -- ---- properties
 
 -- which properties a body takes, attributes included
-abbrev pub takes : Owner → PropWord → Bool
+abbrev pub takes : BodyKind → PropKeyword → Bool
 takes ScanOut Source = true
 takes ScanOut LaunchEdge = true
 takes DataIn DefaultLoadValue = true
@@ -237,7 +237,7 @@ takes Alias AccessTogether = true
 takes owner Attribute = true
 takes owner w = false
 
-abbrev pub is_prop : PropWord → SeenProp → Bool
+abbrev pub is_prop : PropKeyword → SeenProp → Bool
 is_prop Source (ASource s) = true
 is_prop LaunchEdge (ALaunchEdge w) = true
 is_prop DefaultLoadValue (ALoadValue v) = true
@@ -250,19 +250,19 @@ is_prop AccessTogether ATogether = true
 is_prop w p = false
 
 -- whether a property of this kind stands in the body already; attributes aren't kept
-abbrev pub stands : PropWord → List SeenProp → Bool
+abbrev pub stands : PropKeyword → List SeenProp → Bool
 stands w [] = false
 stands w (p ∷ ps) = cond (is_prop w p) true (stands w ps)
 
 -- a property's word, where such a property may stand
-abbrev pub free_word : Owner → List SeenProp → Option PropWord → Option PropWord
+abbrev pub free_word : BodyKind → List SeenProp → Option PropKeyword → Option PropKeyword
 free_word owner ps None = None
 free_word owner ps (Some w) = cond (takes owner w && not (stands w ps)) (Some w) None
 
-abbrev pub prop_word_at : SeenToken → Option PropWord
+abbrev pub prop_word_at : SeenToken → Option PropKeyword
 prop_word_at t = if_word t.kind (prop_named t.text) None
 
-abbrev pub free_prop_at : Owner → List SeenProp → SeenToken → Option PropWord
+abbrev pub free_prop_at : BodyKind → List SeenProp → SeenToken → Option PropKeyword
 free_prop_at owner ps t = free_word owner ps (prop_word_at t)
 
 -- an attribute behind its word
@@ -280,7 +280,7 @@ abbrev pub decimal_token : SeenToken → Option ℕ
 decimal_token t = decimal_at t.kind t.text
 
 -- the source of a ScanOutPort is one signal
-abbrev pub sources : Owner → Of (List SeenSig)
+abbrev pub sources : BodyKind → Of (List SeenSig)
 sources ScanOut = sig >>= λ s. give (s ∷ [])
 sources ScanIn = sigs
 sources DataIn = sigs
@@ -290,7 +290,7 @@ sources Register = sigs
 sources Alias = sigs
 
 -- what stands behind the word of a property; an attribute isn't kept
-unfoldable pub prop_behind : Owner → PropWord → Of (Option SeenProp)
+unfoldable pub prop_behind : BodyKind → PropKeyword → Of (Option SeenProp)
 prop_behind owner Source = sources owner >>= λ s. give (Some (ASource s))
 prop_behind owner LaunchEdge = name >>= λ n. give (Some (ALaunchEdge n))
 prop_behind owner DefaultLoadValue = value >>= λ v. give (Some (ALoadValue v))
@@ -302,7 +302,7 @@ prop_behind owner ResetValue = value >>= λ v. give (Some (AResetValue v))
 prop_behind owner AccessTogether = give (Some ATogether)
 prop_behind owner Attribute = attribute_said >>= λ a. give None
 
-unfoldable pub property : Owner → List SeenProp → Of (Option SeenProp)
+unfoldable pub property : BodyKind → List SeenProp → Of (Option SeenProp)
 property owner ps = one (free_prop_at owner ps) >>= λ w. ended_by 59 (prop_behind owner w)
 
 abbrev pub with_property : List SeenProp → Option SeenProp → List SeenProp
@@ -310,7 +310,7 @@ with_property ps None = ps
 with_property ps (Some p) = ps ++ p ∷ []
 
 -- a register needs a ScanInSource
-abbrev pub lacks : Owner → List SeenProp → Bool
+abbrev pub lacks : BodyKind → List SeenProp → Bool
 lacks Register ps = not (stands ScanInSource ps)
 lacks ScanIn ps = false
 lacks ScanOut ps = false
@@ -320,8 +320,8 @@ lacks Control ps = false
 lacks Alias ps = false
 
 -- the end of a body, where nothing lacks
-abbrev pub body_end : Owner → List SeenProp → ℕ → Of (List SeenProp)
+abbrev pub body_end : BodyKind → List SeenProp → ℕ → Of (List SeenProp)
 body_end owner ps c = cond (lacks owner ps) none (mark c >>= λ e. give ps)
 
-unfoldable pub body : Owner → Of (List SeenProp)
+unfoldable pub body : BodyKind → Of (List SeenProp)
 body owner = body_end owner [] 59 <|> (mark 123 >>= λ o. repeat (property owner) with_property [] >>= λ ps. body_end owner ps 125)

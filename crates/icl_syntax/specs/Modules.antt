@@ -5,14 +5,14 @@ use Rattle.ij_text.specs.declared.Place.{Place}
 use Rattle.icl_syntax.specs.declared.tree.LinkKind.{LinkKind}
 use Rattle.icl_syntax.specs.declared.tree.PortKind.{PortKind}
 use Rattle.icl_syntax.specs.declared.tree.PortKind.TheVariants.{ScanInPort, ScanOutPort, DataInPort, DataOutPort}
-use Rattle.icl_syntax.specs.declared.words.ItemWord.{ItemWord}
-use Rattle.icl_syntax.specs.declared.words.ItemWord.TheVariants.{OfPort, OfRegister, OfMux, OfChild, OfAlias, OfEnum, OfParameter, OfAttribute, OfInterface, OfLink}
-use Rattle.icl_syntax.specs.declared.words.BindWord.{BindWord}
-use Rattle.icl_syntax.specs.declared.words.BindWord.TheVariants.{BindsPort, BindsParameter, BindsAttribute}
-use Rattle.icl_syntax.specs.declared.words.MemberWord.{MemberWord}
-use Rattle.icl_syntax.specs.declared.words.MemberWord.TheVariants.{MemberPort, MemberAttribute}
-use Rattle.icl_syntax.specs.declared.words.Owner.{Owner}
-use Rattle.icl_syntax.specs.declared.words.Owner.TheVariants.{ScanIn, ScanOut, DataIn, DataOut, Control, Register, Alias}
+use Rattle.icl_syntax.specs.declared.words.ItemKeyword.{ItemKeyword}
+use Rattle.icl_syntax.specs.declared.words.ItemKeyword.TheVariants.{OfPort, OfRegister, OfMux, OfChild, OfAlias, OfEnum, OfParameter, OfAttribute, OfInterface, OfLink}
+use Rattle.icl_syntax.specs.declared.words.BindKeyword.{BindKeyword}
+use Rattle.icl_syntax.specs.declared.words.BindKeyword.TheVariants.{BindsPort, BindsParameter, BindsAttribute}
+use Rattle.icl_syntax.specs.declared.words.MemberKeyword.{MemberKeyword}
+use Rattle.icl_syntax.specs.declared.words.MemberKeyword.TheVariants.{MemberPort, MemberAttribute}
+use Rattle.icl_syntax.specs.declared.words.BodyKind.{BodyKind}
+use Rattle.icl_syntax.specs.declared.words.BodyKind.TheVariants.{ScanIn, ScanOut, DataIn, DataOut, Control, Register, Alias}
 use Rattle.icl_lexer.specs.Seen.{SeenToken, if_word}
 use Rattle.icl_syntax.specs.Words.{item_named, bind_named, member_named, link_named}
 use Rattle.icl_syntax.specs.Values.{SeenRange, SeenRow, SeenBind, ABoundPort, ABoundParameter, ABoundAttribute, SeenEnumWord, SeenLinkInstr, SeenWhat, APort, ARegister, AMux, AChild, AnAlias, SomeWords, AParameter, AnInterface, ALink, AnAttribute, SeenItem, SeenModule}
@@ -20,7 +20,7 @@ use Rattle.icl_syntax.specs.Grammar.{Of, mark, word, name, expr_behind, value, p
 
 -- ---- ports
 
-abbrev pub owner_of : PortKind → Owner
+abbrev pub owner_of : PortKind → BodyKind
 owner_of ScanInPort = ScanIn
 owner_of ScanOutPort = ScanOut
 owner_of DataInPort = DataIn
@@ -28,7 +28,7 @@ owner_of DataOutPort = DataOut
 owner_of kind = Control
 
 -- scan ports have no range
-abbrev pub port_range : Owner → Of (Option SeenRange)
+abbrev pub port_range : BodyKind → Of (Option SeenRange)
 port_range ScanIn = give None
 port_range ScanOut = give None
 port_range DataIn = maybe range
@@ -96,14 +96,14 @@ mux = do
 
 -- ---- instances
 
-abbrev pub bind_word_at : SeenToken → Option BindWord
+abbrev pub bind_word_at : SeenToken → Option BindKeyword
 bind_word_at t = if_word t.kind (bind_named t.text) None
 
 pub record BindBegin : Type 0 where
   pub at : Place
-  pub word : BindWord
+  pub word : BindKeyword
 
-abbrev pub begun_by : Place → Option BindWord → Option BindBegin
+abbrev pub begun_by : Place → Option BindKeyword → Option BindBegin
 begun_by at None = None
 begun_by at (Some w) = Some (record { at = at; word = w })
 
@@ -127,7 +127,7 @@ bound_parameter at = do
 unfoldable pub bound_attribute : Of SeenBind
 bound_attribute = attribute_said >>= λ a. give (ABoundAttribute a.name a.value)
 
-abbrev pub bind_behind : Place → BindWord → Of SeenBind
+abbrev pub bind_behind : Place → BindKeyword → Of SeenBind
 bind_behind at BindsPort = bound_port at
 bind_behind at BindsParameter = bound_parameter at
 bind_behind at BindsAttribute = bound_attribute
@@ -161,11 +161,11 @@ enum_word = do
 unfoldable pub words : Of SeenWhat
 words = braced enum_word >>= λ ws. give (SomeWords ws)
 
-abbrev pub member_word_at : SeenToken → Option MemberWord
+abbrev pub member_word_at : SeenToken → Option MemberKeyword
 member_word_at t = if_word t.kind (member_named t.text) None
 
 -- a port's name; attributes of an interface are read and not kept
-abbrev pub member_behind : MemberWord → Of (Option (List ℕ))
+abbrev pub member_behind : MemberKeyword → Of (Option (List ℕ))
 member_behind MemberPort = name >>= λ n. give (Some n)
 member_behind MemberAttribute = attribute_said >>= λ a. give None
 
@@ -237,15 +237,15 @@ link = do
 
 -- ---- items
 
-abbrev pub item_word_at : SeenToken → Option ItemWord
+abbrev pub item_word_at : SeenToken → Option ItemKeyword
 item_word_at t = if_word t.kind (item_named t.text) None
 
 -- the word of an item at its place
 pub record ItemBegin : Type 0 where
   pub at : Place
-  pub word : ItemWord
+  pub word : ItemKeyword
 
-abbrev pub item_begun : Place → Option ItemWord → Option ItemBegin
+abbrev pub item_begun : Place → Option ItemKeyword → Option ItemBegin
 item_begun at None = None
 item_begun at (Some w) = Some (record { at = at; word = w })
 
@@ -253,7 +253,7 @@ abbrev pub item_begin_at : SeenToken → Option ItemBegin
 item_begin_at t = item_begun t.at (item_word_at t)
 
 -- what stands behind an item's word and name
-abbrev pub meaning_behind : ItemWord → Of SeenWhat
+abbrev pub meaning_behind : ItemKeyword → Of SeenWhat
 meaning_behind (OfPort kind) = port kind
 meaning_behind OfRegister = register
 meaning_behind OfMux = mux

@@ -5,14 +5,14 @@ use Rattle.icl_syntax.specs.declared.tree.PortKind.{PortKind}
 use Rattle.icl_syntax.specs.declared.tree.PortKind.TheVariants.{ScanInPort, ScanOutPort, DataInPort, DataOutPort, SelectPort, CaptureEnPort, ShiftEnPort, UpdateEnPort, ResetPort, TCKPort, TMSPort, TRSTPort, ClockPort, ToSelectPort, ToCaptureEnPort, ToShiftEnPort, ToUpdateEnPort, ToResetPort, ToTCKPort, ToTMSPort, ToTRSTPort, ToClockPort, ToIRSelectPort}
 use Rattle.icl_syntax.specs.declared.tree.LinkKind.{LinkKind}
 use Rattle.icl_syntax.specs.declared.tree.LinkKind.TheVariants.{Std2001, Std2013}
-use Rattle.icl_syntax.specs.declared.words.ItemWord.{ItemWord}
-use Rattle.icl_syntax.specs.declared.words.ItemWord.TheVariants.{OfPort, OfRegister, OfMux, OfChild, OfAlias, OfEnum, OfParameter, OfAttribute, OfInterface, OfLink}
-use Rattle.icl_syntax.specs.declared.words.PropWord.{PropWord}
-use Rattle.icl_syntax.specs.declared.words.PropWord.TheVariants.{Source, LaunchEdge, DefaultLoadValue, RefEnum, ActivePolarity, ScanInSource, CaptureSource, ResetValue, AccessTogether, Attribute}
-use Rattle.icl_syntax.specs.declared.words.BindWord.{BindWord}
-use Rattle.icl_syntax.specs.declared.words.BindWord.TheVariants.{BindsPort, BindsParameter, BindsAttribute}
-use Rattle.icl_syntax.specs.declared.words.MemberWord.{MemberWord}
-use Rattle.icl_syntax.specs.declared.words.MemberWord.TheVariants.{MemberPort, MemberAttribute}
+use Rattle.icl_syntax.specs.declared.words.ItemKeyword.{ItemKeyword}
+use Rattle.icl_syntax.specs.declared.words.ItemKeyword.TheVariants.{OfPort, OfRegister, OfMux, OfChild, OfAlias, OfEnum, OfParameter, OfAttribute, OfInterface, OfLink}
+use Rattle.icl_syntax.specs.declared.words.PropKeyword.{PropKeyword}
+use Rattle.icl_syntax.specs.declared.words.PropKeyword.TheVariants.{Source, LaunchEdge, DefaultLoadValue, RefEnum, ActivePolarity, ScanInSource, CaptureSource, ResetValue, AccessTogether, Attribute}
+use Rattle.icl_syntax.specs.declared.words.BindKeyword.{BindKeyword}
+use Rattle.icl_syntax.specs.declared.words.BindKeyword.TheVariants.{BindsPort, BindsParameter, BindsAttribute}
+use Rattle.icl_syntax.specs.declared.words.MemberKeyword.{MemberKeyword}
+use Rattle.icl_syntax.specs.declared.words.MemberKeyword.TheVariants.{MemberPort, MemberAttribute}
 
 -- the first of two answers that is one
 abbrev pub or_else : {A : Type 0} → Option A → Option A → Option A
@@ -64,26 +64,26 @@ to_port_named =
 unfoldable pub port_named : List ℕ → Option PortKind
 port_named text = or_else (data_port_named text) (or_else (control_port_named text) (to_port_named text))
 
-abbrev pub item_entry : List ℕ → ItemWord → Entry ItemWord
+abbrev pub item_entry : List ℕ → ItemKeyword → Entry ItemKeyword
 item_entry w i = record { word = w; meaning = i }
 
-unfoldable pub other_item_named : List ℕ → Option ItemWord
+unfoldable pub other_item_named : List ℕ → Option ItemKeyword
 other_item_named =
     found_in (item_entry (codes "ScanRegister") OfRegister ∷ item_entry (codes "ScanMux") OfMux ∷ item_entry (codes "Instance") OfChild
     ∷ item_entry (codes "Alias") OfAlias ∷ item_entry (codes "Enum") OfEnum ∷ item_entry (codes "Parameter") (OfParameter false)
     ∷ item_entry (codes "LocalParameter") (OfParameter true) ∷ item_entry (codes "Attribute") OfAttribute
     ∷ item_entry (codes "ScanInterface") OfInterface ∷ item_entry (codes "AccessLink") OfLink ∷ [])
 
-abbrev pub port_item : Option PortKind → Option ItemWord
+abbrev pub port_item : Option PortKind → Option ItemKeyword
 port_item None = None
 port_item (Some k) = Some (OfPort k)
 
 -- the items, by their first words
-unfoldable pub item_named : List ℕ → Option ItemWord
+unfoldable pub item_named : List ℕ → Option ItemKeyword
 item_named text = or_else (port_item (port_named text)) (other_item_named text)
 
 -- the word of a property
-abbrev pub prop_word : PropWord → List ℕ
+abbrev pub prop_word : PropKeyword → List ℕ
 prop_word Source = codes "Source"
 prop_word LaunchEdge = codes "LaunchEdge"
 prop_word DefaultLoadValue = codes "DefaultLoadValue"
@@ -95,24 +95,24 @@ prop_word ResetValue = codes "ResetValue"
 prop_word AccessTogether = codes "AccessTogether"
 prop_word Attribute = codes "Attribute"
 
-abbrev pub prop_entry : PropWord → Entry PropWord
+abbrev pub prop_entry : PropKeyword → Entry PropKeyword
 prop_entry w = record { word = prop_word w; meaning = w }
 
-unfoldable pub prop_named : List ℕ → Option PropWord
+unfoldable pub prop_named : List ℕ → Option PropKeyword
 prop_named =
     found_in (prop_entry Source ∷ prop_entry LaunchEdge ∷ prop_entry DefaultLoadValue ∷ prop_entry RefEnum ∷ prop_entry ActivePolarity
     ∷ prop_entry ScanInSource ∷ prop_entry CaptureSource ∷ prop_entry ResetValue ∷ prop_entry AccessTogether ∷ prop_entry Attribute ∷ [])
 
-abbrev pub bind_entry : List ℕ → BindWord → Entry BindWord
+abbrev pub bind_entry : List ℕ → BindKeyword → Entry BindKeyword
 bind_entry w b = record { word = w; meaning = b }
 
-unfoldable pub bind_named : List ℕ → Option BindWord
+unfoldable pub bind_named : List ℕ → Option BindKeyword
 bind_named = found_in (bind_entry (codes "InputPort") BindsPort ∷ bind_entry (codes "Parameter") BindsParameter ∷ bind_entry (codes "Attribute") BindsAttribute ∷ [])
 
-abbrev pub member_entry : List ℕ → MemberWord → Entry MemberWord
+abbrev pub member_entry : List ℕ → MemberKeyword → Entry MemberKeyword
 member_entry w m = record { word = w; meaning = m }
 
-unfoldable pub member_named : List ℕ → Option MemberWord
+unfoldable pub member_named : List ℕ → Option MemberKeyword
 member_named = found_in (member_entry (codes "Port") MemberPort ∷ member_entry (codes "Attribute") MemberAttribute ∷ [])
 
 -- the word of an access standard

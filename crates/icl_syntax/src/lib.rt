@@ -17,4 +17,4 @@ pub use tree::{
     Bind, Design, Ends, EnumWord, Expr, Item, LinkInstr, LinkKind, Module, MuxRow, PortKind, Prop,
     Range, Sig, SigWhat, Sign, What,
 };
-pub use words::{BindWord, ItemWord, Limit, MemberWord, Owner, PropWord};
+pub use words::{BindKeyword, BodyKind, ItemKeyword, Limit, MemberKeyword, PropKeyword};

@@ -10,7 +10,7 @@ pub enum Limit {
 
 /// The word by which an item of a module begins.
 #[derive(Clone, Copy, Debug, PartialEq, Eq)]
-pub enum ItemWord {
+pub enum ItemKeyword {
     /// The word of a kind of port.
     OfPort(PortKind),
     /// `ScanRegister`
@@ -35,7 +35,7 @@ pub enum ItemWord {
 
 /// What has a body.
 #[derive(Clone, Copy, Debug, PartialEq, Eq)]
-pub enum Owner {
+pub enum BodyKind {
     /// A `ScanInPort`.
     ScanIn,
     /// A `ScanOutPort`.
@@ -54,7 +54,7 @@ pub enum Owner {
 
 /// The word by which a property begins, each named as it is written.
 #[derive(Clone, Copy, Debug, PartialEq, Eq)]
-pub enum PropWord {
+pub enum PropKeyword {
     Source,
     LaunchEdge,
     DefaultLoadValue,
@@ -69,7 +69,7 @@ pub enum PropWord {
 
 /// The word by which a binding of an instance begins.
 #[derive(Clone, Copy, Debug, PartialEq, Eq)]
-pub enum BindWord {
+pub enum BindKeyword {
     /// `InputPort`
     BindsPort,
     /// `Parameter`
@@ -80,7 +80,7 @@ pub enum BindWord {
 
 /// The word by which a member of a scan interface begins.
 #[derive(Clone, Copy, Debug, PartialEq, Eq)]
-pub enum MemberWord {
+pub enum MemberKeyword {
     /// `Port`
     MemberPort,
     /// `Attribute`

@@ -1,5 +1,5 @@
 -- Digits and open bits, one more of them.
-use Rattle.std.proofs.Common.{◌≡◌, ◌+◌, ◌-◌, ◌*◌, ◌<◌, ◌≤◌, ◌==◌, ℕ, zero, suc, Bool, true, false, cond, List, [], ◌∷◌, ◌++◌, length, get_or, drop, Option, Some, None, is_some, refl, ap, ◌∙◌, arith, length-append}
+use Rattle.std.proofs.Common.{◌≡◌, ◌+◌, ◌-◌, ◌*◌, ◌≤◌, ◌==◌, ℕ, zero, suc, Bool, true, false, cond, List, [], ◌∷◌, ◌++◌, length, drop, Option, Some, None, is_some, refl, ap, ◌∙◌, arith, length-append}
 use mathlib.Core.Bool.{beq}
 use Rattle.std.specs.Option.{option_eq}
 use Rattle.ij_text.specs.declared.digits.Radix.{Radix}
@@ -26,12 +26,6 @@ fewer radix (b ∷ text) (suc k) =
     let others = fewer radix text k in
     let both = length-append (text_bits radix text) (cond (b == 95) [] (digit_bits radix b)) in
     omega (arith, others, both)
-
--- the bits behind a byte, and its own
-pub one_more : (radix : Radix) (text : List ℕ) (k : ℕ) → k < length text → text_bits radix (drop k text) ≡ text_bits radix (drop (suc k) text) ++ cond (get_or text k 0 == 95) [] (digit_bits radix (get_or text k 0))
-one_more radix [] k lt = absurd (omega (arith, lt))
-one_more radix (b ∷ text) zero lt = refl
-one_more radix (b ∷ text) (suc k) lt = one_more radix text k (omega (arith, lt))
 
 -- ---- open bits
 

@@ -79,13 +79,6 @@ all_ones [] n h = refl
 all_ones (x ∷ xs) zero h = absurd (omega (arith, h))
 all_ones (x ∷ xs) (suc n) h = ap (λ (l : List (Option Bool)). Some x ∷ l) (all_ones xs n (omega (arith, h)))
 
-pub zero_ones : (xs : List Bool) (n : ℕ) → length xs ≡ n → OpenIsZero xs (replicate n true)
-zero_ones xs n len k e =
-    elim (cases_lt k n) [
-      | inl low ↦ not_both (sym (get_or-replicate n k true false low) ∙ e)
-      | inr past ↦ get_or_past xs k false (omega (arith, len))
-    ]
-
 -- ---- a number in another width
 
 -- the bits of one list below n, and then others up to w

@@ -4,11 +4,11 @@
 //! Each command is a crate, and `specs/Order` of `ijtag_work` has the order of its work. Here the words choose among them.
 #![tactic(auto)]
 
-mod memory;
+mod in_memory;
 mod run;
 mod top;
 
 pub use ij_text::{SOURCE_LIMIT, SVF_LIMIT};
 pub use ijtag_work::{Status, own_texts_pass, works_are_decided};
-pub use memory::ijtag_in_memory;
+pub use in_memory::ijtag_in_memory;
 pub use top::ijtag;

@@ -3,7 +3,7 @@ use Rattle.std.specs.Prelude.{Option, None, Result, Ok, Err, codes}
 use Rattle.std.proofs.Common.{refl, ◌≡◌, ◌≢◌, ◌∙◌, sym, ap, ℕ, Some, List}
 use Rattle.icl_lexer.specs.Cutting.{AreTokens, tokens_from}
 use Rattle.icl_lexer.specs.Seen.{SeenToken, seen_tokens}
-use Rattle.icl_lexer.specs.Laws.{CuttingsAreOne, CutTextsHaveNoFault, FaultsAreOne}
+use Rattle.icl_lexer.specs.Laws.{TokenizationIsUnique, CutTextsHaveNoFault, FaultsAreOne}
 use Rattle.icl_lexer.specs.Token.{Token}
 use Rattle.icl_parser.specs.Laws.{DesignsAreOne, DesignsAreNotRefused, RefusalsAreOne, SeenFault, NoMemory, ALeftOut, AnExprLimit, ASyntax, seen_fault}
 use Rattle.icl_parser.specs.declared.fault.ParseFault.{ParseFault}
@@ -60,13 +60,13 @@ use Rattle.ijtag_stages.specs.Work.{IsDecided}
 use Rattle.ijtag_stages.specs.declared.refusal.Stage.TheVariants.{Icl, Svf}
 use Rattle.ijtag_stages.proofs.Turns.{give_decided, in_turn_decided}
 
-tokens_one : CuttingsAreOne → (text : List ℕ) (tokens others : List Token) → AreTokens text tokens → AreTokens text others → tokens ≡ others
+tokens_one : TokenizationIsUnique → (text : List ℕ) (tokens others : List Token) → AreTokens text tokens → AreTokens text others → tokens ≡ others
 tokens_one cuttings text tokens others a b = a.2 ∙ ap (tokens_from 0 first_place) (cuttings text a.0 b.0 a.1 b.1) ∙ sym b.2
 
 lex_alike : (fault other : LexFault) (r s : Refusal) → fault ≡ other → lex_refusal fault ≡ r → lex_refusal other ≡ s → r ≡ s
 lex_alike fault other r s same p q = cc
 
-tokens_decided : CuttingsAreOne → CutTextsHaveNoFault → FaultsAreOne → (text : List ℕ) → IsDecided (icl_tokens text)
+tokens_decided : TokenizationIsUnique → CutTextsHaveNoFault → FaultsAreOne → (text : List ℕ) → IsDecided (icl_tokens text)
 unfolding icl_tokens
 tokens_decided cuttings no_fault faults text =
     record { one = λ seen others p q. p.2 ∙ ap (seen_tokens text) (tokens_one cuttings text p.0 q.0 p.1 q.1) ∙ sym q.2; apart = λ seen r p q. no_fault text p.0 q.0 p.1 q.1; alike = λ r s p q. lex_alike p.0 q.0 r s (faults text p.0 q.0 p.1 q.1) p.2 q.2 }
@@ -232,7 +232,7 @@ procedure_decided procs network name =
 
 module _ (one_form : OneForm) (one_cause : OneCause) (lawful_none : LawfulHasNone)
     (procs_one : ProceduresAreOne) (procs_not_refused : ProceduresAreNotRefused) (pdl_refusals : PdlRefusalsAreOne)
-    (cuttings : CuttingsAreOne) (no_fault : CutTextsHaveNoFault) (faults : FaultsAreOne) (designs : DesignsAreOne) (not_refused : DesignsAreNotRefused) (refusals : RefusalsAreOne) where
+    (cuttings : TokenizationIsUnique) (no_fault : CutTextsHaveNoFault) (faults : FaultsAreOne) (designs : DesignsAreOne) (not_refused : DesignsAreNotRefused) (refusals : RefusalsAreOne) where
   nested_apart : (net : Net) (form : Items) (fault : NestFault) (r : Refusal) → IsNested net form → IsUnnested net fault → nest_refusal (seen_net net) fault ≡ Some r → ⊥
   nested_apart net form fault r is not told =
       let none = lawful_none net form fault is.well_formed is.describes is.lawful not.cause in cc

@@ -1,7 +1,7 @@
 // What follows from what the stages give and refuse.
 ghost use Rattle.ijtag_stages.specs.Laws.{StagesAreDecided, ReadCommandsArePlayable};
 
-use icl_lexer::{cuttings_are_one, texts_are_cut_or_at_fault};
+use icl_lexer::{texts_are_cut_or_at_fault, tokenization_is_unique};
 use icl_parser::{designs_are_one, refusals_are_one};
 use nest_check::one_form_law;
 use pdl_parser::procedures_are_one;
@@ -11,7 +11,7 @@ use pdl_parser::procedures_are_one;
 pub fn stages_are_decided()
     ensures { StagesAreDecided }
 {
-    cuttings_are_one();
+    tokenization_is_unique();
     texts_are_cut_or_at_fault();
     designs_are_one();
     refusals_are_one();

@@ -67,11 +67,6 @@ noted_both f g i es fs xs ys h k n e same =
     ∙ more_seen (logs xs) (logs ys) i es fs (omega (arith, a, b, n)) e same
     ∙ ap (filter is_change) (sym (noted g i fs zero i ys (omega arith) k))
 
-more_none : (ls : List (List Event)) (i : ℕ) → get_or (with_more ls i []) i [] ≡ get_or ls i []
-more_none [] i = refl
-more_none (l ∷ ls) zero = append-nil l
-more_none (l ∷ ls) (suc i) = more_none ls i
-
 more_other : (ls : List (List Event)) (i : ℕ) (es : List Event) → filter is_change es ≡ [] → seen_at (with_more ls i es) i ≡ seen_at ls i
 more_other [] i es none = refl
 more_other (l ∷ ls) zero es none = filter-append is_change l es ∙ ap (λ x. filter is_change l ++ x) none ∙ append-nil (filter is_change l)

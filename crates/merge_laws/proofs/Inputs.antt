@@ -1,9 +1,8 @@
 -- The numbers at an instrument's inputs depend on the register bits that feed them, and these on the writes of such bits alone.
-use Rattle.std.proofs.Common.{◌≡◌, ◌≢◌, ◌≤◌, ◌<◌, ◌⊎◌, inl, inr, ⊎_elim, ℕ, zero, suc, Bool, true, false, cond, List, [], ◌∷◌, length, refl, sym, ap, ◌∙◌, subst, arith}
-use Rattle.std.specs.Prelude.{map, get_or, filter, ◌||◌, ◌&&◌, ◌==◌, slice_set, nat_lt}
+use Rattle.std.proofs.Common.{◌≡◌, ◌≢◌, ◌≤◌, ◌<◌, ◌⊎◌, inl, inr, ⊎_elim, ℕ, zero, suc, Bool, true, false, cond, List, [], ◌∷◌, refl, sym, ap, ◌∙◌, subst, arith}
+use Rattle.std.specs.Prelude.{map, get_or, filter}
 use Rattle.std.specs.List.{list_any}
-use Rattle.std.proofs.lemmas.Bool.{cases_eq, true≢false}
-use Rattle.std.proofs.lemmas.Bool.Decides.{eqb_tells}
+use Rattle.std.proofs.lemmas.Bool.{cases_eq, true≢false, or_left, or_right}
 use Rattle.std.proofs.lemmas.List.{get_or_past}
 use Rattle.ij_bits.specs.BitLists.{number_of, flip_if}
 use Rattle.net_graph.specs.declared.net.BitId.{BitId}
@@ -14,19 +13,13 @@ use Rattle.net_graph.specs.declared.net.Sig.{Sig}
 use Rattle.net_graph.specs.declared.net.Sig.TheVariants.{Absent, Zero, One, Bit, Out}
 use Rattle.net_graph.specs.declared.step.WriteBit.{WriteBit}
 use Rattle.net_graph.specs.Held.{set_hold}
-use Rattle.net_graph.specs.Path.{same_place}
 use Rattle.net_graph.specs.Signals.{Holds, bits_at, hold_at, signal}
 use Rattle.net_graph.specs.Writes.{write_bit, write_all}
 use Rattle.net_graph.proofs.Shapes.{shape, length_at}
 use Rattle.net_graph.proofs.Writing.{IsHeld, same_bit_id, set_hold-at, set_hold-other, set_hold-shape}
+use Rattle.net_graph.proofs.Places.{place_self}
 use Rattle.instruments.specs.OnNetwork.{inputs_at, port_numbers}
 use Rattle.merge_laws.specs.Seeing.{feeds, inputs_of, is_bit}
-
-equal_self : (n : ℕ) → (n == n) ≡ true
-equal_self n = ⊎_elim (λ p. p.0) (λ p. absurd (p.1 refl)) (eqb_tells n n)
-
-same_self : (b : BitId) → same_place b b ≡ true
-same_self b = ap (λ t. t && (b.pos == b.pos)) (equal_self b.reg) ∙ equal_self b.pos
 
 module _ (test : BitId → Bool) where
   -- the bits that pass are alike
@@ -108,14 +101,6 @@ module _ (test : BitId → Bool) where
 
 -- ---- inputs
 
--- what passes one of two tests passes both together
-either_first : (a b : Bool) → a ≡ true → (a || b) ≡ true
-either_first a b e = ap (λ t. t || b) e
-
-either_second : (a b : Bool) → b ≡ true → (a || b) ≡ true
-either_second true b e = refl
-either_second false b e = e
-
 module _ (h k : Holds) where
   abbrev none : ℕ → ℕ → ℕ → Bool
   none i port pos = false
@@ -123,14 +108,14 @@ module _ (h k : Holds) where
   signals_same : (sigs : List Sig) → ((c : BitId) → list_any (is_bit c) sigs ≡ true → hold_at h c ≡ hold_at k c) → map (signal none h) sigs ≡ map (signal none k) sigs
   signals_same [] a = refl
   signals_same (s ∷ ss) a =
-      ap (λ v. v ∷ map (signal none h) ss) (one s (λ c is. a c (either_first (is_bit c s) (list_any (is_bit c) ss) is)))
-      ∙ ap (λ l. signal none k s ∷ l) (signals_same ss (λ c is. a c (either_second (is_bit c s) (list_any (is_bit c) ss) is)))
+      ap (λ v. v ∷ map (signal none h) ss) (one s (λ c is. a c (or_left (is_bit c s) (list_any (is_bit c) ss) is)))
+      ∙ ap (λ l. signal none k s ∷ l) (signals_same ss (λ c is. a c (or_right (is_bit c s) (list_any (is_bit c) ss) is)))
     where
       one : (s : Sig) → ((c : BitId) → is_bit c s ≡ true → hold_at h c ≡ hold_at k c) → signal none h s ≡ signal none k s
       one Absent a = refl
       one Zero a = refl
       one One a = refl
-      one (Bit b inverted) a = ap (flip_if inverted) (a b (same_self b))
+      one (Bit b inverted) a = ap (flip_if inverted) (a b (place_self b))
       one (Out inst port pos inverted) a = refl
 
   abbrev number : Holds → PortIn → ℕ
@@ -139,8 +124,8 @@ module _ (h k : Holds) where
   ports_same : (ports : List PortIn) → ((c : BitId) → list_any (λ port. list_any (is_bit c) port.bits.items) ports ≡ true → hold_at h c ≡ hold_at k c) → map (number h) ports ≡ map (number k) ports
   ports_same [] a = refl
   ports_same (p ∷ ps) a =
-      ap (λ n. number_of n ∷ map (number h) ps) (signals_same p.bits.items (λ c is. a c (either_first (list_any (is_bit c) p.bits.items) (list_any (λ port. list_any (is_bit c) port.bits.items) ps) is)))
-      ∙ ap (λ ns. number k p ∷ ns) (ports_same ps (λ c is. a c (either_second (list_any (is_bit c) p.bits.items) (list_any (λ port. list_any (is_bit c) port.bits.items) ps) is)))
+      ap (λ n. number_of n ∷ map (number h) ps) (signals_same p.bits.items (λ c is. a c (or_left (list_any (is_bit c) p.bits.items) (list_any (λ port. list_any (is_bit c) port.bits.items) ps) is)))
+      ∙ ap (λ ns. number k p ∷ ns) (ports_same ps (λ c is. a c (or_right (list_any (is_bit c) p.bits.items) (list_any (λ port. list_any (is_bit c) port.bits.items) ps) is)))
 
   at_ports : (x : Holds) (insts : List Inst) (i : ℕ) → get_or (map (port_numbers x) insts) i [] ≡ map (number x) (get_or (map (λ inst. inst.ins.items) insts) i [])
   at_ports x [] i = refl

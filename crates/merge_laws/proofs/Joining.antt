@@ -1,10 +1,10 @@
 -- Each iApply of a turn is done by a join.
-use Rattle.std.proofs.Common.{◌≡◌, ◌≤◌, ◌+◌, ◌⊎◌, inl, inr, ⊎_elim, ℕ, zero, suc, Bool, true, false, cond, List, [], ◌∷◌, ◌++◌, length, refl, arith}
+use Rattle.std.proofs.Common.{◌≡◌, ◌≤◌, ◌⊎◌, inl, inr, ℕ, zero, suc, Bool, true, false, cond, List, [], ◌∷◌, length, refl, arith}
 use Rattle.net_graph.specs.SeenSteps.{SeenGroup}
 use Rattle.pdl_targets.specs.Rounds.{Places}
 use Rattle.merge_order.specs.Merge.{all_joins, behind_first, both, first_join, joined, joins, joins_upto, unjoined, with_first}
 use Rattle.merge_order.proofs.Turning.{behind_few}
-use Rattle.merge_laws.specs.Order.{StandIn, DoesRound, DoRounds}
+use Rattle.merge_laws.specs.Order.{DoesRound, DoRounds}
 use Rattle.merge_laws.proofs.Standing.{stand_self, stand_front, stand_behind}
 
 pub does_itself : (g : SeenGroup) → DoesRound g g

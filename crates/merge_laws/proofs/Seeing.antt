@@ -1,5 +1,5 @@
 -- An instrument sees of a merge what one branch alone would show it.
-use Rattle.std.proofs.Common.{◌≡◌, ◌≤◌, ◌+◌, ◌⊎◌, ⊎_elim, ℕ, zero, suc, Bool, true, false, cond, List, [], ◌∷◌, ◌++◌, length, length-append, map, None, Some, refl, sym, ap, ◌∙◌, subst, arith}
+use Rattle.std.proofs.Common.{◌≡◌, ◌≤◌, ◌+◌, ⊎_elim, ℕ, zero, suc, Bool, true, false, cond, List, [], ◌∷◌, ◌++◌, length, length-append, map, None, Some, refl, sym, ap, ◌∙◌, arith}
 use Rattle.std.specs.Prelude.{filter, flat_map, ◌==◌}
 use Rattle.std.proofs.lemmas.List.Elements.{filter-append}
 use Rattle.net_graph.specs.declared.net.Net.{Net}
@@ -10,17 +10,16 @@ use Rattle.net_graph.specs.Writes.{write_all}
 use Rattle.net_graph.proofs.Shapes.{shape}
 use Rattle.net_graph.proofs.Writing.{write_all-shape}
 use Rattle.instruments.specs.Machine.{Event, Machine, Run as RunEvent, whole_log}
-use Rattle.instruments.specs.OnNetwork.{all_have, change_of, changes, each_from, happens, inputs_at, machine_at}
+use Rattle.instruments.specs.OnNetwork.{all_have, change_of, changes, happens, inputs_at, machine_at}
 use Rattle.instruments.proofs.Changing.{changes_none}
 use Rattle.pdl_meaning.specs.Direct.{Direct, do_all, do_group, do_rounds, do_step, run_cycles}
 use Rattle.pdl_targets.specs.Binding.{run_of}
 use Rattle.pdl_targets.specs.Laws.{rounds_of}
 use Rattle.pdl_targets.specs.Rounds.{Places}
-use Rattle.merge_order.specs.Laws.{AreTurns, writes_in}
 use Rattle.merge_order.specs.Merge.{Branch, all_joins, applies_in, firsts, if_any, later, longest, longest_run, merged, turn, turns}
 use Rattle.merge_laws.specs.Laws.{InstrumentsSeeTheirBranch}
-use Rattle.merge_laws.specs.Order.{StandIn, Does, DoBranch, DoesRound, DoRounds}
-use Rattle.merge_laws.specs.Seeing.{feeds, changes_seen}
+use Rattle.merge_laws.specs.Order.{StandIn, Does, DoBranch, DoRounds}
+use Rattle.merge_laws.specs.Seeing.{feeds}
 use Rattle.merge_laws.proofs.Alone.{branch_stands, counted_writes, do_one, parts_in, rounds_stand, step_stands, writes_are, writes_kept}
 use Rattle.merge_laws.proofs.Events.{Insts, changes_both, each_length, run_unseen, seen}
 use Rattle.merge_laws.proofs.Inputs.{Alike, inputs_same, written_alike}

@@ -1,12 +1,9 @@
 -- Lists that stand in lists, one element behind the other.
-use Rattle.std.proofs.Common.{◌≡◌, ◌≤◌, ◌+◌, ◌⊎◌, inl, inr, ⊎_elim, ℕ, suc, Bool, true, false, cond, List, [], ◌∷◌, ◌++◌, length, refl, sym, ap, ◌∙◌, subst, arith}
+use Rattle.std.proofs.Common.{◌≡◌, ◌≤◌, inl, inr, ⊎_elim, Bool, true, false, cond, List, [], ◌∷◌, ◌++◌, length, refl, sym, ap, ◌∙◌, subst, arith}
 use Rattle.std.specs.Prelude.{filter}
 use Rattle.merge_laws.specs.Order.{StandIn}
 
 module _ {X : Type 0} where
-  pub none_stand : (ys : List X) → StandIn [] ys
-  none_stand ys = tt
-
   pub stand_behind : (xs front ys : List X) → StandIn xs ys → StandIn xs (front ++ ys)
   stand_behind xs [] ys h = h
   stand_behind [] (f ∷ front) ys h = tt

@@ -1,12 +1,12 @@
 -- The branches of a merge have turns alone, whatever steps are taken in.
 use Rattle.std.proofs.Common.{◌≡◌, ◌+◌, ◌==◌, ℕ, Bool, true, false, cond, List, [], ◌∷◌, ◌++◌, length, Option, Some, None, refl, arith}
-use Rattle.std.specs.Prelude.{All, nat_lt}
+use Rattle.std.specs.Prelude.{nat_lt}
 use Rattle.std.proofs.lemmas.Bool.{eqb-false}
 use Rattle.std.proofs.lemmas.List.Elements.{All-append, All-cons, All-nil}
 use Rattle.ij_text.specs.declared.Place.{Place}
 use Rattle.ij_text.specs.Numbers.{InDecimal, InBits}
 use Rattle.net_graph.specs.declared.net.Net.{Net}
-use Rattle.net_graph.specs.SeenSteps.{SeenGroup, SeenStep, Apply, Run, Reset}
+use Rattle.net_graph.specs.SeenSteps.{SeenGroup, Run}
 use Rattle.pdl_parser.specs.Values.{AValue, ANumber, AWord, AnArgument}
 use Rattle.pdl_expand.specs.Values.{ADeed, Writes, Reads, Applies, Runs, Resets, BeginsMerge, EndsBranch, EndsMerge, AStep}
 use Rattle.pdl_targets.specs.Binding.{Answer, Queue, applied, apply, feed as bind, finish, nothing_done, run, run_of, run_value, with_reads, with_writes}
@@ -14,7 +14,7 @@ use Rattle.pdl_targets.specs.Laws.{OfFound}
 use Rattle.pdl_targets.specs.Rounds.{Places, groups}
 use Rattle.pdl_targets.specs.Targets.{AFault as TargetFault, Found, Is as IsBound, Fails as IsRefused, found_then, read_bits, write_bits}
 use Rattle.pdl_targets.proofs.Procedures.{unless_found}
-use Rattle.merge_order.specs.Feeding.{Fails, Fed, Is, Merging, State, answered, begin_merge, bind_step, end_branch, end_merge, feed, if_applied, reset}
+use Rattle.merge_order.specs.Feeding.{Merging, State, answered, begin_merge, end_branch, end_merge, feed, if_applied, reset}
 use Rattle.merge_order.specs.Laws.{AreTurns}
 use Rattle.merge_order.specs.Merge.{Branch, if_any}
 use Rattle.merge_laws.specs.Laws.{HasTurns, MergesHaveTurns, OfFed}

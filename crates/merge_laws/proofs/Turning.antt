@@ -1,5 +1,5 @@
 -- Each bit step of a branch is done in its turn.
-use Rattle.std.proofs.Common.{◌≡◌, ◌≤◌, ◌<◌, ◌+◌, ◌==◌, ◌⊎◌, inl, inr, ⊎_elim, ℕ, zero, suc, Bool, true, false, cond, List, [], ◌∷◌, ◌++◌, length, map, Some, None, refl, sym, ap, ◌∙◌, subst, arith}
+use Rattle.std.proofs.Common.{◌≡◌, ◌≤◌, ◌==◌, ◌⊎◌, inl, inr, ⊎_elim, ℕ, zero, suc, Bool, true, false, cond, List, [], ◌∷◌, ◌++◌, length, map, Some, None, refl, arith}
 use Rattle.std.specs.Prelude.{All, max}
 use Rattle.std.proofs.lemmas.Bool.{eqb-true}
 use Rattle.std.proofs.lemmas.List.Elements.{All-cons, All-nil}
@@ -7,9 +7,9 @@ use Rattle.net_graph.specs.SeenSteps.{SeenGroup, SeenStep, Apply, Run, Reset}
 use Rattle.pdl_targets.specs.Binding.{run_of}
 use Rattle.pdl_targets.specs.Rounds.{Places}
 use Rattle.merge_order.specs.Laws.{IsTurn, AreTurns}
-use Rattle.merge_order.specs.Merge.{Branch, all_joins, applies_in, cycles_of, firsts, if_any, later, longest, longest_run, merged, turn, turns}
+use Rattle.merge_order.specs.Merge.{Branch, all_joins, applies_in, firsts, if_any, later, longest, longest_run, merged, turn, turns}
 use Rattle.merge_order.proofs.Turning.{longest_later}
-use Rattle.merge_laws.specs.Order.{Does, DoBranch, DoRounds}
+use Rattle.merge_laws.specs.Order.{Does, DoBranch}
 use Rattle.merge_laws.specs.Laws.{MergesDoEachBranch}
 use Rattle.merge_laws.proofs.Joining.{Each, OneDoes, each_is_joined}
 

@@ -1,5 +1,5 @@
 -- What a branch of a merge finds of itself there (IEEE 1687-2014, PDL level 0: iMerge).
-use Rattle.std.specs.Prelude.{◌≡◌, ◌≤◌, ◌⊎◌, ℕ, List, [], ◌∷◌}
+use Rattle.std.specs.Prelude.{◌≡◌, ◌≤◌, ◌⊎◌, List, [], ◌∷◌}
 use Rattle.net_graph.specs.SeenSteps.{SeenGroup, SeenStep, Apply, Run, Reset}
 use Rattle.merge_order.specs.Merge.{Branch}
 

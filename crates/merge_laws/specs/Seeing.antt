@@ -8,7 +8,6 @@ use Rattle.net_graph.specs.declared.net.Sig.{Sig}
 use Rattle.net_graph.specs.declared.net.Sig.TheVariants.{Absent, Zero, One, Bit, Out}
 use Rattle.net_graph.specs.Path.{same_place}
 use Rattle.instruments.specs.Machine.{Event, Change, Run, Reset}
-use Rattle.instruments.specs.OnNetwork.{Running}
 use Rattle.pdl_meaning.specs.Direct.{Direct}
 
 -- a signal is a register bit, or its inverse

@@ -1,8 +1,8 @@
 -- The bit steps of a merge are of the network where those of its branches are.
-use Rattle.std.proofs.Common.{◌≡◌, ◌⊎◌, ◌==◌, zero, suc, Bool, true, false, List, [], ◌∷◌, ◌++◌, map, inl, inr, refl, sym, ap, subst, ◌∙◌, arith}
+use Rattle.std.proofs.Common.{◌≡◌, ◌⊎◌, zero, suc, Bool, true, false, List, [], ◌∷◌, ◌++◌, map, inl, inr, refl, sym, ap, subst, ◌∙◌, arith}
 use Rattle.std.specs.Prelude.{Contains, not, ◌&&◌}
 use Rattle.std.specs.List.{list_any}
-use Rattle.std.proofs.lemmas.Bool.{eq-eqb, or_parts}
+use Rattle.std.proofs.lemmas.Bool.{or_parts}
 use Rattle.std.proofs.lemmas.List.{map-append}
 use Rattle.std.proofs.lemmas.List.Elements.{All-nil, All-cons, All-head, All-append, Contains-append_cases}
 use Rattle.ij_bits.specs.Different.{AreDifferent}
@@ -12,6 +12,7 @@ use Rattle.net_graph.specs.Path.{same_place}
 use Rattle.net_graph.specs.SeenSteps.{SeenGroup, Apply}
 use Rattle.net_graph.specs.Signals.{capture_signal}
 use Rattle.net_graph.specs.Steps.{IsDataBit, IsGroup, IsReadable, IsStep}
+use Rattle.net_graph.proofs.Places.{place_self}
 use Rattle.pdl_targets.specs.Rounds.{Places}
 use Rattle.merge_order.specs.Laws.{MergedStepsAreOfTheNetwork}
 use Rattle.merge_order.specs.Merge.{both, can_join, names, part_ways, share_bit}
@@ -44,22 +45,19 @@ both_different {A} (x ∷ xs) ys d e apart = (λ h. by_place (Contains-append_ca
     by_place (inl k) = d.0 k
     by_place (inr k) = apart x (zero, omega arith, refl) k
 
-same_itself : (b : BitId) → same_place b b ≡ true
-same_itself b = ap (λ t. t && (b.pos == b.pos)) (eq-eqb b.reg b.reg refl) ∙ eq-eqb b.pos b.pos refl
-
 module _ (g h : SeenGroup) (apart : share_bit g h ≡ false) where
   no_common_write : (b : BitId) → Contains (map (λ w. w.bit) g.writes) b → Contains (map (λ w. w.bit) h.writes) b → ⊥
   no_common_write b k l =
       let none = none_has (λ w. w.bit) (names h) g.writes b (or_parts (list_any (λ w. names h w.bit) g.writes) (list_any (λ r. names h r.bit) g.reads) apart).0 k in
       let other = none_has (λ w. w.bit) (same_place b) h.writes b (or_parts (list_any (λ w. same_place b w.bit) h.writes) (list_any (λ r. same_place b r.bit) h.reads) none).0 l in
-      let same = same_itself b in
+      let same = place_self b in
       absurd cc
 
   no_common_read : (b : BitId) → Contains (map (λ r. r.bit) g.reads) b → Contains (map (λ r. r.bit) h.reads) b → ⊥
   no_common_read b k l =
       let none = none_has (λ r. r.bit) (names h) g.reads b (or_parts (list_any (λ w. names h w.bit) g.writes) (list_any (λ r. names h r.bit) g.reads) apart).1 k in
       let other = none_has (λ r. r.bit) (same_place b) h.reads b (or_parts (list_any (λ w. same_place b w.bit) h.writes) (list_any (λ r. same_place b r.bit) h.reads) none).1 l in
-      let same = same_itself b in
+      let same = place_self b in
       absurd cc
 
 -- ---- bit steps of a network

@@ -14,10 +14,6 @@ use Rattle.merge_order.specs.Tables.{SameRows, rows_around}
 
 -- ---- either one or the other
 
-or_none : (a : Bool) → (a || false) ≡ a
-or_none true = refl
-or_none false = refl
-
 or_turned : (a b : Bool) → (a || b) ≡ (b || a)
 or_turned true true = refl
 or_turned true false = refl

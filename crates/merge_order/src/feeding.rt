@@ -134,7 +134,7 @@ impl<'a> Feed<'a> {
             Some(_) => Err(FeedFault::MergeInside { at }),
             None => {
                 self.binder.finish()?;
-                self.merging = Some(Begun::new(self.alloc));
+                drop(self.merging.replace(Begun::new(self.alloc)));
                 Ok(())
             }
         }
@@ -177,7 +177,7 @@ impl<'a> Feed<'a> {
             )?;
             let mut steps = VecDeque::from(steps.into_vec());
             self.ready.append(&mut steps)?;
-            self.merging = None;
+            drop(self.merging.take());
         }
         Ok(())
     }

@@ -36,8 +36,8 @@ fn add_round(join: &mut [Group], round: &Group) -> Result<(), OutOfMemory>
 fn alone(alloc: Global, round: &Group) -> Result<Vec<Group>, OutOfMemory>
     ensures { IfOk result (λ j. seen_rounds j.items ≡ seen_group round.now ∷ []) }
 {
-    let mut join = Vec::new(alloc);
-    join.push(copied(alloc, round)?)?;
+    let mut join = Vec::with_capacity(alloc, 1)?;
+    join.push_reserved(copied(alloc, round)?);
     Ok(join)
 }
 
@@ -55,7 +55,9 @@ fn put_at(
         let join = &mut joins[place];
         add_round(join, round)?;
     } else {
-        joins.push(alone(alloc, round)?)?;
+        // The room comes first: no end of this function lets go of a join.
+        joins.reserve(1)?;
+        joins.push_reserved(alone(alloc, round)?);
     }
     Ok(())
 }

@@ -15,15 +15,23 @@ use net_tree::Tree;
 use std::alloc::Global;
 use std::cmp::max;
 
+/// Puts a bit step behind iApplys, each by its rounds, if it is one.
+fn add_apply<'a>(applies: &mut Vec<&'a [Group]>, step: &'a BitStep) -> Result<(), OutOfMemory>
+    ensures { OnOk result (seen_applies applies.new.items ≡ seen_applies applies.old.items ++ merge.applies_in (seen_step step.now ∷ [])) }
+{
+    if let BitStep::Apply(rounds) = step {
+        applies.push(rounds.as_slice())?;
+    }
+    Ok(())
+}
+
 /// The iApplys of a turn, each by its rounds.
 fn applies_in<'a>(alloc: Global, heads: &[&'a BitStep]) -> Result<Vec<&'a [Group]>, OutOfMemory>
     ensures { IfOk result (λ v. seen_applies v.items ≡ merge.applies_in (seen_heads heads.now)) }
 {
     let mut applies = Vec::new(alloc);
     for step in heads {
-        if let BitStep::Apply(rounds) = step {
-            applies.push(rounds.as_slice())?;
-        }
+        add_apply(&mut applies, step)?;
     }
     Ok(applies)
 }
@@ -50,41 +58,51 @@ fn longest_run(heads: &[&BitStep]) -> u32
 }
 
 /// Puts joins behind bit steps, each as one iApply.
-fn with_joins(joins: Vec<Vec<Group>>, steps: List<BitStep>) -> Result<List<BitStep>, OutOfMemory>
-    ensures { IfOk result (λ l. seen_steps l.items ≡ seen_steps steps.items ++ map Apply (seen_joins joins.items)) }
+fn put_joins(joins: Vec<Vec<Group>>, steps: &mut List<BitStep>) -> Result<(), OutOfMemory>
+    ensures { OnOk result (seen_steps steps.new.items ≡ seen_steps steps.old.items ++ map Apply (seen_joins joins.items)) }
 {
-    let mut steps = steps;
     for join in joins {
         steps.push(BitStep::Apply(List::from(join)))?;
     }
-    Ok(steps)
+    Ok(())
 }
 
 /// Puts a run behind bit steps, unless it has no cycle.
-fn with_run(steps: List<BitStep>, cycles: u32) -> Result<List<BitStep>, OutOfMemory>
-    ensures { IfOk result (λ l. seen_steps l.items ≡ seen_steps steps.items ++ merge.if_any (run_of cycles)) }
+fn put_run(cycles: u32, steps: &mut List<BitStep>) -> Result<(), OutOfMemory>
+    ensures { OnOk result (seen_steps steps.new.items ≡ seen_steps steps.old.items ++ merge.if_any (run_of cycles)) }
 {
-    let mut steps = steps;
     if cycles > 0 {
         steps.push(BitStep::Run(cycles))?;
     }
-    Ok(steps)
+    Ok(())
 }
 
-/// Puts a turn behind bit steps.
-fn with_turn(
+/// The joins of a turn.
+fn turn_joins(
     alloc: Global,
     tree: &Tree,
     named: &mut Named,
     heads: &[&BitStep],
-    steps: List<BitStep>,
-) -> Result<List<BitStep>, OutOfMemory>
-    ensures { IfOk result (λ l. seen_steps l.items ≡ seen_steps steps.items ++ merge.turn (places_in tree.now) (seen_heads heads.now)) }
+) -> Result<Vec<Vec<Group>>, OutOfMemory>
+    ensures { IfOk result (λ js. seen_joins js.items ≡ merge.all_joins (places_in tree.now) (merge.applies_in (seen_heads heads.now))) }
 {
     let applies = applies_in(alloc, heads)?;
-    let joins = all_joins(alloc, tree, named, &applies)?;
-    let steps = with_joins(joins, steps)?;
-    with_run(steps, longest_run(heads))
+    all_joins(alloc, tree, named, &applies)
+}
+
+/// Puts a turn behind bit steps.
+fn put_turn(
+    alloc: Global,
+    tree: &Tree,
+    named: &mut Named,
+    heads: &[&BitStep],
+    steps: &mut List<BitStep>,
+) -> Result<(), OutOfMemory>
+    ensures { OnOk result (seen_steps steps.new.items ≡ seen_steps steps.old.items ++ merge.turn (places_in tree.now) (seen_heads heads.now)) }
+{
+    let joins = turn_joins(alloc, tree, named, heads)?;
+    put_joins(joins, steps)?;
+    put_run(longest_run(heads), steps)
 }
 
 /// The bit steps of a turn, and what is left of the branches behind it.
@@ -137,6 +155,26 @@ fn branch_references<'a>(
     Ok(all)
 }
 
+/// Puts the bit steps of a merge of these branches behind none.
+fn put_merged(
+    alloc: Global,
+    tree: &Tree,
+    named: &mut Named,
+    branches: &[List<BitStep>],
+    steps: &mut List<BitStep>,
+) -> Result<(), OutOfMemory>
+    requires { steps.old.items ≡ [] }
+    ensures { OnOk result (seen_steps steps.new.items ≡ merge.merged (places_in tree.now) (seen_lists branches.now)) }
+{
+    let mut left = branch_references(alloc, branches)?;
+    while !left.is_empty() {
+        let turn = next_turn(alloc, &left)?;
+        put_turn(alloc, tree, named, &turn.heads, steps)?;
+        left = turn.left;
+    }
+    Ok(())
+}
+
 /// The bit steps of a merge of these branches. The tables may be those of an earlier merge.
 pub(crate) fn merged_by(
     alloc: Global,
@@ -147,13 +185,13 @@ pub(crate) fn merged_by(
     ensures { IfOk result (λ l. seen_steps l.items ≡ merge.merged (places_in tree.now) (seen_lists branches.now)) }
 {
     let mut steps = List::new(alloc);
-    let mut left = branch_references(alloc, branches)?;
-    while !left.is_empty() {
-        let turn = next_turn(alloc, &left)?;
-        steps = with_turn(alloc, tree, named, &turn.heads, steps)?;
-        left = turn.left;
+    match put_merged(alloc, tree, named, branches, &mut steps) {
+        Ok(()) => Ok(steps),
+        Err(fault) => {
+            drop(steps);
+            Err(fault)
+        }
     }
-    Ok(steps)
 }
 
 /// The bit steps of a merge of these branches.

@@ -1,8 +1,8 @@
 -- The flags of register bits tell what the bits are used for.
 use Rattle.std.proofs.Common.{◌≡◌, ◌≢◌, ℕ, zero, suc, ◌+◌, ◌<◌, ◌≤◌, Bool, true, false, List, [], ◌∷◌, length, get_or, refl, sym, ap, ◌∙◌, subst, arith}
-use Rattle.std.specs.Prelude.{All, cond, flat_map, map, replicate, IsFalse, ◌↔◌, ◌&&◌, ◌||◌, ◌==◌}
+use Rattle.std.specs.Prelude.{All, cond, flat_map, map, replicate, IsFalse, ◌↔◌, ◌||◌}
 use Rattle.std.specs.List.{count_by, list_any}
-use Rattle.std.proofs.lemmas.Bool.{true≢false, eq-eqb, eqb-true, and_parts}
+use Rattle.std.proofs.lemmas.Bool.{true≢false}
 use Rattle.std.proofs.lemmas.List.Elements.{All-append, All-head, All-tail, All-nil, All-weaker}
 use Rattle.std.proofs.lemmas.List.Folds.{list_any-append, list_any_none}
 use Rattle.std.proofs.lemmas.List.Sums.{sum_by-cons}
@@ -20,17 +20,11 @@ use Rattle.net_graph.specs.declared.net.Reg.{Reg}
 use Rattle.net_graph.specs.declared.net.Sig.{Sig}
 use Rattle.net_graph.specs.declared.net.Sig.TheVariants.{Absent, Zero, One, Bit, Out}
 use Rattle.net_graph.proofs.Shapes.{shape}
-use Rattle.net_graph.proofs.Writing.{IsHeld, same_bit_id, set_hold-at, set_hold-other, set_hold-shape}
+use Rattle.net_graph.proofs.Writing.{IsHeld, set_hold-at, set_hold-other, set_hold-shape}
+use Rattle.net_graph.proofs.Places.{place_is, place_self}
+use Rattle.net_graph.proofs.Widths.{zeros_held}
 use Rattle.net_tree.specs.Lawful.{is_signal, drives, IsUnshared, DrivesNone}
 use Rattle.nest_check.specs.Uses.{Selected, no_flags, noted, note, note_all, HaveFlags, driving, driving_all, inputs_of, inputs}
-
-one_place : (a b : BitId) → same_place a b ≡ true → a ≡ b
-one_place a b e =
-    let both = and_parts (a.reg == b.reg) (a.pos == b.pos) e in
-    same_bit_id a b (eqb-true a.reg b.reg both.0) (eqb-true a.pos b.pos both.1)
-
-place_self : (a : BitId) → same_place a a ≡ true
-place_self a = ap (λ b. b && (a.pos == a.pos)) (eq-eqb a.reg a.reg refl) ∙ eq-eqb a.pos a.pos refl
 
 other_place : (a b : BitId) → same_place a b ≡ false → a ≢ b
 other_place a b e s = true≢false (sym (place_self a) ∙ ap (same_place a) s ∙ e)
@@ -69,17 +63,6 @@ nothing_flagged net b = at net.regs.items b.reg
     at [] r = refl
     at (x ∷ regs) zero = no_bit x.width b.pos
     at (x ∷ regs) (suc r) = at regs r
-
-widths : (regs : List Reg) → map length (map (λ r. replicate r.width false) regs) ≡ map (λ reg. reg.width) regs
-widths [] = refl
-widths (r ∷ regs) = ap (λ n. n ∷ map length (map (λ x. replicate x.width false) regs)) (zeros r.width) ∙ ap (λ l. r.width ∷ l) (widths regs)
-  where
-    zeros : (n : ℕ) → length (replicate n false) ≡ n
-    zeros zero = refl
-    zeros (suc n) = ap suc (zeros n)
-
-pub zeros_fit : (net : Net) → AreHolds net (zero_holds net)
-zeros_fit net = widths net.regs.items
 
 -- ---- select bits
 
@@ -129,7 +112,7 @@ sees_more net x bits s b n h is k rest = by_place (same_place b x) refl
 
     by_place : (f : Bool) → same_place b x ≡ f → Sees (note_all (note s x) bits) b (n + count_by (same_place b) (x ∷ bits))
     by_place true e =
-        let same : b ≡ x = one_place b x e in
+        let same : b ≡ x = place_is b x e in
         let one : ◌≡◌ {A = ℕ} (cond (same_place b x) 1 0) 1 = ap (λ f. cond f 1 0) e in
         let now : Sees (note s x) b (suc n) = subst (λ c. Sees (note s x) c (suc n)) (sym same) (sees_again net s x n h is (subst (λ c. Sees s c n) same k)) in
         subst (Sees (note_all (note s x) bits) b) (omega (arith, count, one)) (rest (suc n) now)
@@ -154,14 +137,14 @@ selects_are_bits net n =
 -- the bits that were met twice are the shared ones
 pub shared_flags : (net : Net) (twice : Holds) (b : BitId) → IsNet net → twice ≡ (note_all (no_flags net) (select_bits net)).twice → IsFalse (hold_at twice b) ↔ IsUnshared net b
 shared_flags net twice b n e =
-    let all : Sees (note_all (no_flags net) (select_bits net)) b (count_by (same_place b) (select_bits net)) = subst (Sees (note_all (no_flags net) (select_bits net)) b) (omega arith) (sees_all net (select_bits net) (no_flags net) b 0 (zeros_fit net, zeros_fit net) (selects_are_bits net n) (nothing_flagged net b, nothing_flagged net b)) in
+    let all : Sees (note_all (no_flags net) (select_bits net)) b (count_by (same_place b) (select_bits net)) = subst (Sees (note_all (no_flags net) (select_bits net)) b) (omega arith) (sees_all net (select_bits net) (no_flags net) b 0 (zeros_held net, zeros_held net) (selects_are_bits net n) (nothing_flagged net b, nothing_flagged net b)) in
     let flag : hold_at twice b ≡ several (count_by (same_place b) (select_bits net)) = ap (λ h. hold_at h b) e ∙ all.1 in
     let told = few (count_by (same_place b) (select_bits net)) in
     ((λ f. told.0 (sym flag ∙ f)), (λ l. flag ∙ told.1 l))
 
 pub twice_fits : (net : Net) (twice : Holds) → twice ≡ (note_all (no_flags net) (select_bits net)).twice → AreHolds net twice
 twice_fits net twice e =
-    subst (AreHolds net) (sym e) (note_all_fits net (select_bits net) (no_flags net) (zeros_fit net, zeros_fit net)).1
+    subst (AreHolds net) (sym e) (note_all_fits net (select_bits net) (no_flags net) (zeros_held net, zeros_held net)).1
 
 -- ---- inputs of instruments
 
@@ -185,7 +168,7 @@ driving_at net flags (Bit c inverted) b h is = by_place (same_place b c) refl
   where
     by_place : (f : Bool) → same_place b c ≡ f → hold_at (set_hold flags c true) b ≡ (hold_at flags b || same_place b c)
     by_place true e =
-        let same : b ≡ c = one_place b c e in
+        let same : b ≡ c = place_is b c e in
         ap (hold_at (set_hold flags c true)) same ∙ set_hold-at flags c true (has_flag net flags c h is) ∙ sym (ap (λ f. hold_at flags b || f) e ∙ or_true (hold_at flags b))
     by_place false e =
         set_hold-other flags c b true (other_place b c e) ∙ sym (ap (λ f. hold_at flags b || f) e ∙ or_false (hold_at flags b))
@@ -237,8 +220,8 @@ all_inputs net n =
 -- the flagged bits are those that drive
 pub driver_flags : (net : Net) (flags : Holds) (b : BitId) → IsNet net → flags ≡ driving_all (zero_holds net) (inputs net) → IsFalse (hold_at flags b) ↔ DrivesNone net b
 driver_flags net flags b n e =
-    let at : hold_at flags b ≡ list_any (drives b) net.insts.items = ap (λ h. hold_at h b) e ∙ driving_all_at net (inputs net) (zero_holds net) b (zeros_fit net) (all_inputs net n) ∙ ap (λ f. f || list_any (is_signal b) (inputs net)) (nothing_flagged net b) ∙ drives_inputs net b in
+    let at : hold_at flags b ≡ list_any (drives b) net.insts.items = ap (λ h. hold_at h b) e ∙ driving_all_at net (inputs net) (zero_holds net) b (zeros_held net) (all_inputs net n) ∙ ap (λ f. f || list_any (is_signal b) (inputs net)) (nothing_flagged net b) ∙ drives_inputs net b in
     ((λ f. none_of (drives b) net.insts.items (sym at ∙ f)), (λ a. at ∙ list_any_none (drives b) net.insts.items a))
 
 pub drivers_fit : (net : Net) (flags : Holds) → flags ≡ driving_all (zero_holds net) (inputs net) → AreHolds net flags
-drivers_fit net flags e = subst (AreHolds net) (sym e) (driving_all_fits net (inputs net) (zero_holds net) (zeros_fit net))
+drivers_fit net flags e = subst (AreHolds net) (sym e) (driving_all_fits net (inputs net) (zero_holds net) (zeros_held net))

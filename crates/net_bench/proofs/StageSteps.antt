@@ -1,7 +1,6 @@
 -- Steps of the loops over a stage, bit by bit.
 use Rattle.std.proofs.Common.{◌≡◌, ℕ, zero, suc, ◌+◌, ◌-◌, ◌<◌, ◌/◌, ◌%◌, ◌==◌, Bool, true, false, List, [], ◌∷◌, ◌++◌, length, take, drop, refl, sym, ap, ◌∙◌, arith, append_assoc}
-use Rattle.std.specs.Prelude.{slice_set, get_or, ◌&&◌, not, replicate}
-use mathlib.Core.Bool.{beq}
+use Rattle.std.specs.Prelude.{slice_set, get_or, ◌&&◌, replicate}
 use Rattle.std.proofs.lemmas.List.{take_more_set, drop_more}
 use Rattle.ij_bits.specs.BitLists.{bits_of, bits_eq, same_bit}
 use Rattle.net_bench.specs.Instruction.{capture_ir}
@@ -19,18 +18,6 @@ pub eq_step : (xs : List Bool) (i rest : ℕ) → i < length xs → bits_eq (dro
 eq_step xs i rest h =
     ap (λ ys. bits_eq ys (bits_of (length xs - i) rest)) (drop_more xs i false h)
     ∙ ap (λ k. bits_eq (get_or xs i false ∷ drop (i + 1) xs) (bits_of k rest)) (one_less (length xs) i h)
-
-pub differ : (a b : Bool) → not (beq a b) ≡ true → same_bit a b ≡ false
-differ true true e = absurd (cc)
-differ true false e = refl
-differ false true e = refl
-differ false false e = absurd (cc)
-
-pub agree : (a b : Bool) → not (beq a b) ≡ false → same_bit a b ≡ true
-agree true true e = refl
-agree true false e = absurd (cc)
-agree false true e = absurd (cc)
-agree false false e = refl
 
 -- a number's bits
 no_bits : (n : ℕ) → bits_of n 0 ≡ replicate n false

@@ -58,14 +58,14 @@ module _ (width : ℕ) (some : 1 ≤ width) (few : width ≤ 64) where
 
   reg_fits : IsReg net (plain_register 0 width Entry)
   reg_fits =
-      record { some_bits = some; source = tt; captures = length-map (bits_from 0 0 width) (λ b. Bit b false) ∙ length-bits_from 0 0 width; signals = bits_have (λ b. Bit b false) (IsSignalOf net) 0 width (λ p l. l) 0 width (omega arith); resets = length-replicate width false; thing = omega arith }
+      record { at_least_one_bit = some; source = tt; captures = length-map (bits_from 0 0 width) (λ b. Bit b false) ∙ length-bits_from 0 0 width; signals = bits_have (λ b. Bit b false) (IsSignalOf net) 0 width (λ p l. l) 0 width (omega arith); resets = length-replicate width false; thing = omega arith }
 
   thing_long : length (map Held (bits_from 0 0 width)) ≡ width
   thing_long = length-map (bits_from 0 0 width) Held ∙ length-bits_from 0 0 width
 
   thing_fits : IsThing net (plain_thing width)
   thing_fits =
-      record { node = omega arith; named = refl; wide = omega (arith, thing_long, some); few_bits = omega (arith, thing_long, few); spots = bits_have Held (IsSpotOf net) 0 width (λ p l. l) 0 width (omega arith); words = All-nil _; word_names = tt }
+      record { node = omega arith; named = refl; wide = omega (arith, thing_long, some); bits_within_limit = omega (arith, thing_long, few); spots = bits_have Held (IsSpotOf net) 0 width (λ p l. l) 0 width (omega arith); words = All-nil _; word_names = tt }
 
   reg_things : HaveThings net
   reg_things zero l = refl
@@ -73,4 +73,4 @@ module _ (width : ℕ) (some : 1 ≤ width) (few : width ≤ 64) where
 
   pub plain_net_is_net : IsNet net
   plain_net_is_net =
-      record { regs = All-cons (IsReg net) (plain_register 0 width Entry) [] reg_fits (All-nil (IsReg net)); muxes = All-nil (IsMux net); insts = All-nil (IsInst net); output = omega arith; things = All-cons (IsThing net) (plain_thing width) [] thing_fits (All-nil (IsThing net)); top = omega arith; top_path = refl; node_paths = (λ c. some_path _ (first_of _ _ c), (nothing_in _, tt)); inst_nodes = tt; thing_names = (nothing_in _, tt); path_names = All-cons HasNames plain_top (plain_instance ∷ []) (All-nil IsNamed) (All-cons HasNames plain_instance [] named_instance (All-nil HasNames)); reg_things = reg_things; few_bits = omega (arith, few); few_muxes = omega arith; few_insts = omega arith; few_nodes = omega arith; few_levels = All-cons IsNear plain_top (plain_instance ∷ []) (omega arith) (All-cons IsNear plain_instance [] (omega arith) (All-nil IsNear)) }
+      record { regs = All-cons (IsReg net) (plain_register 0 width Entry) [] reg_fits (All-nil (IsReg net)); muxes = All-nil (IsMux net); insts = All-nil (IsInst net); output = omega arith; things = All-cons (IsThing net) (plain_thing width) [] thing_fits (All-nil (IsThing net)); top = omega arith; top_path = refl; node_paths = (λ c. some_path _ (first_of _ _ c), (nothing_in _, tt)); inst_nodes = tt; thing_names = (nothing_in _, tt); path_names = All-cons HasNames plain_top (plain_instance ∷ []) (All-nil IsNamed) (All-cons HasNames plain_instance [] named_instance (All-nil HasNames)); reg_things = reg_things; bits_within_limit = omega (arith, few); few_muxes = omega arith; few_insts = omega arith; few_nodes = omega arith; few_levels = All-cons IsNear plain_top (plain_instance ∷ []) (omega arith) (All-cons IsNear plain_instance [] (omega arith) (All-nil IsNear)) }

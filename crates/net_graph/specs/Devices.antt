@@ -16,6 +16,6 @@ IsIdentity ir link (Some identity) = (identity.0 < 2 ^ 32) × IsOpcode ir identi
 
 pub record IsDevice (device : Device) : Type 0 where
   pub two_bits : 2 ≤ device.ir
-  pub few_bits : device.ir ≤ 64
+  pub bits_within_limit : device.ir ≤ 64
   pub link : IsOpcode device.ir device.opcode
   pub identity : IsIdentity device.ir device.opcode device.idcode

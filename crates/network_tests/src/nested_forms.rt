@@ -47,7 +47,7 @@ fn places_of(alloc: Global, source: &str, parts: &str) -> Result<String, Fail> {
 }
 
 /// The registers on the active path at power-up, as the tree is walked.
-#[tactic(auto, using(crate::proofs::Holding::started_held))]
+#[tactic(auto, using(net_graph::proofs::Widths::started_held))]
 fn route_at_power_up(alloc: Global, source: &str, parts: &str) -> Result<String, Fail> {
     let net = network_of(alloc, source, parts)?;
     let Ok(tree) = nest(alloc, &net) else {

@@ -35,7 +35,7 @@ fn is_there(net: &Net, bit: BitId) -> bool
 }
 
 /// A bit that is held, if the network has it.
-#[tactic(auto, using(crate::proofs::Holding::held_bit))]
+#[tactic(auto, using(net_graph::proofs::Selecting::is_held))]
 fn held(net: &Net, holds: &Holds, bit: BitId) -> Option<bool>
     requires held { AreHolds net.now holds.now }
 {
@@ -47,7 +47,7 @@ fn held(net: &Net, holds: &Holds, bit: BitId) -> Option<bool>
 }
 
 /// Gives a bit a value, if the network has it.
-#[tactic(auto, using(crate::proofs::Holding::held_bit, crate::proofs::Holding::set_held))]
+#[tactic(auto, using(net_graph::proofs::Selecting::is_held, crate::proofs::Holding::set_held))]
 fn put(net: &Net, holds: &mut Holds, bit: BitId, value: bool)
     requires held { AreHolds net.now holds.old }
     ensures held { AreHolds net.now holds.new }
@@ -72,7 +72,7 @@ fn put_all(net: &Net, holds: &mut Holds, bits: &[(u32, u32, bool)])
 }
 
 /// A reset of the network.
-#[tactic(auto, using(crate::proofs::Holding::reset_held))]
+#[tactic(auto, using(net_graph::proofs::Widths::reset_held))]
 fn reset(net: &Net, holds: &mut Holds)
     requires held { AreHolds net.now holds.old }
     ensures held { AreHolds net.now holds.new }

@@ -117,6 +117,6 @@ module _ (net : Net) (form : Items) (g : SeenGroup) where
     fewer_left o t = omega (arith, one_more, not_deep now (length plans) c o t)
 
   -- the group itself comes last
-  pub last_plan : (first now : Holds) (path p regs : List ℕ) (t : Bool) (plans more : List ScanPlan) (plan : ScanPlan) → ¬ IsEmpty g → scan_path net now ≡ Some path → p ≡ path → regs ≡ add_registers [] (registers_of g) → t ≡ list_all (is_on p) regs → t ≡ true → ((p : SeenGroup) (ps : List SeenGroup) → ArePlans net form g now (p ∷ ps) → ArePlans net form g first (map seen_plan plans ++ p ∷ ps)) → seen_plan plan ≡ g → more ≡ plans ++ plan ∷ [] → ArePlans net form g first (map seen_plan more)
-  last_plan first now path p regs t plans more plan some e f n a o h i j =
-      subst (ArePlans net form g first) (sym (ap (map seen_plan) j ∙ map-append seen_plan plans (plan ∷ []))) (h (seen_plan plan) [] (some, i, asked_on now path p regs t e f n a ∙ o))
+  pub last_plan : (first now : Holds) (path p regs : List ℕ) (t : Bool) (plans more : List ScanPlan) → ¬ IsEmpty g → scan_path net now ≡ Some path → p ≡ path → regs ≡ add_registers [] (registers_of g) → t ≡ list_all (is_on p) regs → t ≡ true → ((p : SeenGroup) (ps : List SeenGroup) → ArePlans net form g now (p ∷ ps) → ArePlans net form g first (map seen_plan plans ++ p ∷ ps)) → map seen_plan more ≡ map seen_plan plans ++ g ∷ [] → ArePlans net form g first (map seen_plan more)
+  last_plan first now path p regs t plans more some e f n a o h j =
+      subst (ArePlans net form g first) (sym j) (h g [] (some, refl, asked_on now path p regs t e f n a ∙ o))

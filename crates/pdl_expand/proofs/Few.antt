@@ -4,8 +4,8 @@ use Rattle.std.specs.Prelude.{nat_lt}
 use Rattle.std.proofs.lemmas.Bool.{ltb-true}
 use Rattle.ij_text.specs.declared.Place.{Place}
 use Rattle.pdl_parser.specs.Values.{AValue, Command, APrefix, ACall, AWrite, ARead, AnApply, ARunLoop, AReset, ANote, AMergeBegin, AMergeEnd, ALine, AProc}
-use Rattle.pdl_expand.specs.Values.{AStep, ACell, EndsBranch}
-use Rattle.pdl_expand.specs.Expansion.{AFault, IsTooManySteps, IsArgCount, Way, LeadsTo, EndsAt, but_last, last, way, find_proc, cell, put_in, bound_to, Frame, fresh, Trace, nothing, one_step, refused, followed, and_then, branch_end, after, Doing, enter, call_of, call_along, do_command, do_line, do_lines, calls, nowhere, start, expansion}
+use Rattle.pdl_expand.specs.Values.{ACell}
+use Rattle.pdl_expand.specs.Expansion.{AFault, IsTooManySteps, IsArgCount, Way, LeadsTo, EndsAt, but_last, last, way, find_proc, cell, put_in, bound_to, Frame, fresh, Trace, refused, followed, and_then, branch_end, after, Doing, enter, call_of, call_along, do_command, do_line, do_lines, calls, nowhere, start, expansion}
 use Rattle.pdl_expand.specs.Laws.{StepsAreFew}
 
 -- no more steps than commands, so many having been executed before
@@ -34,9 +34,6 @@ ended_few n t b at node h = by_fault t.fault
         let behind = branch_few b at node t.count h.1 in
         (omega (arith, h.0, behind.0, behind.1, length-append t.steps (branch_end b at node t.count).steps), omega (arith, h.1, behind.1))
     by_fault (Some f) = (omega (arith, h.0), h.1)
-
-none_few : (f : AFault) (n : ℕ) → n ≤ 100000 → Few n (refused f n)
-none_few f n h = (omega arith, h)
 
 -- what calls do
 abbrev AllFew : Doing → Type 0

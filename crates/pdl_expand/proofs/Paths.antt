@@ -4,6 +4,7 @@ use Rattle.std.specs.Prelude.{◌==◌, ◌&&◌, ◌||◌, IsTrue, All, Contain
 use Rattle.std.specs.Char.{is_ascii_digit}
 use Rattle.std.specs.List.{list_all}
 use Rattle.std.proofs.lemmas.Bool.{eqb-true, and_parts}
+use Rattle.std.proofs.lemmas.List.{length-map}
 use Rattle.std.proofs.lemmas.List.Elements.{All-map, All-head, All-tail, All-get_or, Contains-get_or}
 use Rattle.ij_bits.specs.Different.{AreDifferent}
 use Rattle.ij_text.specs.Numbering.{AreDistinct}
@@ -87,3 +88,7 @@ paths_differ net is_net i j h k e =
     let k2 : j < length (map path_of nodes) = omega (arith, k, long) in
     let same : dotted (get_or (map path_of nodes) i []) ≡ dotted (get_or (map path_of nodes) j []) = sym (dotted_at nodes i) ∙ e ∙ dotted_at nodes j in
     at_most_once (map path_of nodes) [] i j is_net.node_paths h2 k2 (dotted_once (get_or (map path_of nodes) i []) (get_or (map path_of nodes) j []) (names_at net is_net i h2) (names_at net is_net j k2) same)
+
+-- the top module's cell is among those of the index
+pub top_is_there : (net : Net) (paths : List (List ℕ)) → IsNet net → paths ≡ dotted_paths (cells_of net) → 0 < length paths
+top_is_there net paths is_net e = subst (λ ps. 0 < length ps) (sym e) (subst (λ n. 0 < n) (sym (length-map (cells_of net) (λ cell. dotted cell.path) ∙ length-map net.nodes.items cell_of)) is_net.top)

@@ -1,7 +1,7 @@
 -- Update stages keep the widths of their registers.
-use Rattle.std.proofs.Common.{◌≡◌, ◌⊎◌, inl, inr, ℕ, zero, suc, ◌<◌, ◌≤◌, false, List, [], ◌∷◌, length, refl, ap, ◌∙◌, arith}
-use Rattle.std.specs.Prelude.{map, replicate, All}
-use Rattle.std.proofs.lemmas.List.{get_or_past, length-map, length-replicate}
+use Rattle.std.proofs.Common.{◌≡◌, ◌⊎◌, inl, inr, ℕ, zero, suc, ◌<◌, ◌≤◌, List, length, ap, ◌∙◌, arith}
+use Rattle.std.specs.Prelude.{map, All}
+use Rattle.std.proofs.lemmas.List.{get_or_past, length-map}
 use Rattle.std.proofs.lemmas.List.Elements.{All-weaker}
 use Rattle.net_graph.specs.declared.net.BitId.{BitId}
 use Rattle.net_graph.specs.declared.net.Net.{Net}
@@ -9,24 +9,10 @@ use Rattle.net_graph.specs.declared.net.Reg.{Reg}
 use Rattle.net_graph.specs.declared.step.WriteBit.{WriteBit}
 use Rattle.net_graph.specs.Held.{AreHolds, IsHeld}
 use Rattle.net_graph.specs.Named.{IsBitOf}
-use Rattle.net_graph.specs.Resets.{reset_holds, start_holds, zero_holds}
 use Rattle.net_graph.specs.Signals.{Holds}
 use Rattle.net_graph.specs.Writes.{write_all}
 use Rattle.net_graph.proofs.Selecting.{is_held}
-use Rattle.net_graph.proofs.Shapes.{reset-shape}
 use Rattle.net_graph.proofs.Writing.{write_all-shape}
-
-zeros_wide : (rs : List Reg) → map length (map (λ r. replicate r.width false) rs) ≡ map (λ r. r.width) rs
-zeros_wide [] = refl
-zeros_wide (r ∷ rs) =
-    ap (λ (n : ℕ). n ∷ map length (map (λ r. replicate r.width false) rs)) (length-replicate r.width false)
-    ∙ ap (λ (ns : List ℕ). r.width ∷ ns) (zeros_wide rs)
-
-pub start_held : (net : Net) (holds : Holds) → holds ≡ start_holds net → AreHolds net holds
-start_held net holds e = ap (map length) e ∙ reset-shape net (zero_holds net) ∙ zeros_wide net.regs.items
-
-pub reset_held : (net : Net) (holds after : Holds) → AreHolds net holds → after ≡ reset_holds net holds → AreHolds net after
-reset_held net holds after h e = ap (map length) e ∙ reset-shape net holds ∙ h
 
 pub write_held : (net : Net) (holds after : Holds) (ws : List WriteBit) → AreHolds net holds → after ≡ write_all holds ws → AreHolds net after
 write_held net holds after ws h e = ap (map length) e ∙ write_all-shape ws holds ∙ h

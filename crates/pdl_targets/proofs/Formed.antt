@@ -22,10 +22,10 @@ thing_formed net is_net node path t e = subst (OfOption (IsThing net)) (sym e) (
 
 few_of : (net : Net) (regs : List Reg) → All (IsReg net) regs → length regs ≤ sum (map (λ reg. reg.width) regs)
 few_of net [] h = omega arith
-few_of net (r ∷ rs) h = let one = All-head (IsReg net) r rs h in let e : sum (map (λ reg. reg.width) (r ∷ rs)) ≡ r.width + sum (map (λ reg. reg.width) rs) = sum_by-cons (λ x. x) r.width (map (λ reg. reg.width) rs) in omega (arith, e, one.some_bits, few_of net rs (All-tail (IsReg net) r rs h))
+few_of net (r ∷ rs) h = let one = All-head (IsReg net) r rs h in let e : sum (map (λ reg. reg.width) (r ∷ rs)) ≡ r.width + sum (map (λ reg. reg.width) rs) = sum_by-cons (λ x. x) r.width (map (λ reg. reg.width) rs) in omega (arith, e, one.at_least_one_bit, few_of net rs (All-tail (IsReg net) r rs h))
 
 pub few_regs : (net : Net) → IsNet net → length net.regs.items < 2 ^ 32
-few_regs net is_net = omega (arith, few_of net net.regs.items is_net.regs, is_net.few_bits)
+few_regs net is_net = omega (arith, few_of net net.regs.items is_net.regs, is_net.bits_within_limit)
 
 short_of : (net : Net) (regs : List Reg) → All (IsReg net) regs → sum (map (λ reg. reg.width) regs) ≤ 4096 → All (λ reg. length reg.capture.items < 2 ^ 32) regs
 short_of net [] h s = all_nil (λ reg. length reg.capture.items < 2 ^ 32)
@@ -35,7 +35,7 @@ short_of net (r ∷ rs) h s =
     all_cons (λ reg. length reg.capture.items < 2 ^ 32) r rs (omega (arith, e, one.captures, s)) (short_of net rs (All-tail (IsReg net) r rs h) (omega (arith, s)))
 
 pub short_regs : (net : Net) → IsNet net → All (λ reg. length reg.capture.items < 2 ^ 32) net.regs.items
-short_regs net is_net = short_of net net.regs.items is_net.regs is_net.few_bits
+short_regs net is_net = short_of net net.regs.items is_net.regs is_net.bits_within_limit
 
 -- ---- dotted paths
 

@@ -7,10 +7,10 @@ use Rattle.net_graph.specs.declared.net.BitId.{BitId}
 use Rattle.net_graph.specs.declared.step.WriteBit.{WriteBit}
 use Rattle.net_graph.specs.declared.step.ReadBit.{ReadBit}
 use Rattle.net_graph.specs.Path.{same_place}
+use Rattle.net_graph.proofs.Places.{place_self, place_is}
 use Rattle.pdl_targets.specs.Rounds.{is_in, mention, put_write, put_writes, put_read, put_reads}
 use Rattle.pdl_targets.specs.Laws.{AreItsRegisters, AreOnce, AreReadOnce, written_at, read_at}
 use Rattle.pdl_targets.proofs.Apart.{all_nil, all_cons}
-use Rattle.pdl_targets.proofs.Lasting.{itself, place_is}
 use Rattle.pdl_targets.proofs.Mentioned.{mentions_are_once, each_is_mentioned, or_more}
 
 -- ---- what holds of each write and read
@@ -130,7 +130,7 @@ writes_differ p (w ∷ ws) h = by_test (p w) (writes_differ p ws h.1)
     other i =
         let off : same_place w.bit w.bit ≡ false = All-contains (λ c. same_place c w.bit ≡ false) (map (λ (w : WriteBit). w.bit) (filter p ws)) w.bit
         (All-map (λ c. same_place c w.bit ≡ false) (λ (w : WriteBit). w.bit) (filter p ws) (All-filter p (λ v. same_place v.bit w.bit ≡ false) ws (others_written ws w.bit h.0))) i in
-        let on = itself w.bit in absurd cc
+        let on = place_self w.bit in absurd cc
 
     by_test : (t : Bool) → AreDifferent (map (λ (w : WriteBit). w.bit) (filter p ws)) → AreDifferent (map (λ (w : WriteBit). w.bit) (cond t (w ∷ filter p ws) (filter p ws)))
     by_test true ih = (other, ih)
@@ -152,7 +152,7 @@ reads_differ p (w ∷ ws) h = by_test (p w) (reads_differ p ws h.1)
     other i =
         let off : same_place w.bit w.bit ≡ false = All-contains (λ c. same_place c w.bit ≡ false) (map (λ (w : ReadBit). w.bit) (filter p ws)) w.bit
         (All-map (λ c. same_place c w.bit ≡ false) (λ (w : ReadBit). w.bit) (filter p ws) (All-filter p (λ v. same_place v.bit w.bit ≡ false) ws (others_read ws w.bit h.0))) i in
-        let on = itself w.bit in absurd cc
+        let on = place_self w.bit in absurd cc
 
     by_test : (t : Bool) → AreDifferent (map (λ (w : ReadBit). w.bit) (filter p ws)) → AreDifferent (map (λ (w : ReadBit). w.bit) (cond t (w ∷ filter p ws) (filter p ws)))
     by_test true ih = (other, ih)

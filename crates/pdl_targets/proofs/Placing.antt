@@ -2,7 +2,7 @@
 use Rattle.std.proofs.Common.{◌≡◌, ◌≤◌, ◌<◌, ℕ, zero, suc, Bool, true, false, cond, List, [], ◌∷◌, ◌++◌, length, get_or, set, map, Some, None, refl, sym, ap, ◌∙◌, arith}
 use Rattle.std.specs.Prelude.{◌||◌, filter, Result, Ok, Err, OnOk}
 use Rattle.std.proofs.lemmas.List.Elements.{filter-append}
-use Rattle.ij_bits.specs.declared.memory.OutOfMemory.{OutOfMemory}
+use Rattle.ij_bits.specs.declared.out_of_memory.OutOfMemory.{OutOfMemory}
 use Rattle.net_graph.specs.declared.step.WriteBit.{WriteBit}
 use Rattle.net_graph.specs.declared.step.ReadBit.{ReadBit}
 use Rattle.net_graph.specs.declared.step.Group.{Group}

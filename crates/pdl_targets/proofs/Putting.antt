@@ -1,14 +1,13 @@
 -- Where the queue puts a write or a read: in place of one of the same bit, or at the end.
-use Rattle.std.proofs.Common.{◌≡◌, ℕ, zero, suc, ◌<◌, ◌≤◌, Bool, true, false, cond, List, [], ◌∷◌, ◌++◌, length, get_or, set, Option, Some, None, refl, sym, ap, ◌∙◌, arith}
-use Rattle.std.specs.Prelude.{nat_lt}
-use Rattle.std.specs.List.{position, position_or_len}
+use Rattle.std.proofs.Common.{◌≡◌, ℕ, zero, suc, ◌<◌, Bool, true, false, cond, List, [], ◌∷◌, ◌++◌, length, get_or, set, Option, Some, None, refl, sym, ap, ◌∙◌, arith}
+use Rattle.std.specs.List.{position}
 use Rattle.std.proofs.lemmas.List.Quantifiers.{position-Some}
 use Rattle.std.proofs.lemmas.List.Sums.{fails_before_first}
-use Rattle.std.proofs.lemmas.Bool.{ltb-false}
 use Rattle.net_graph.specs.declared.step.WriteBit.{WriteBit}
 use Rattle.net_graph.specs.declared.step.ReadBit.{ReadBit}
 use Rattle.net_graph.specs.Path.{same_place}
 use Rattle.pdl_targets.specs.Rounds.{put_write, put_read}
+use Rattle.bit_marks.proofs.Numbering.{no_position}
 
 -- an item in place of the one at an index, or at the end
 abbrev pub placed_at : {A : Type 0} → Option ℕ → List A → A → List A
@@ -31,13 +30,6 @@ put_none p [] x f = refl
 put_none p (v ∷ vs) x f =
     ap (λ b. cond b (x ∷ vs) (v ∷ put p vs x)) (f 0 (omega arith))
     ∙ ap (λ l. v ∷ l) (put_none p vs x (λ k l. f (suc k) (omega (arith, l))))
-
-pub no_position : {A : Type 0} (p : A → Bool) (xs : List A) → None ≡ position p xs → length xs ≤ position_or_len p xs
-no_position p xs e = by_test (nat_lt (position_or_len p xs) (length xs)) refl e
-  where
-    by_test : (t : Bool) → nat_lt (position_or_len p xs) (length xs) ≡ t → None ≡ cond t (Some (position_or_len p xs)) None → length xs ≤ position_or_len p xs
-    by_test true h e = absurd cc
-    by_test false h e = ltb-false (position_or_len p xs) (length xs) h
 
 put_found : {A : Type 0} (p : A → Bool) (xs : List A) (x : A) (o : Option ℕ) → o ≡ position p xs → put p xs x ≡ placed_at o xs x
 put_found p xs x None e =

@@ -56,7 +56,7 @@ any_false f [] e = all_nil (λ x. f x ≡ false)
 any_false f (x ∷ xs) e = let parts = or_parts (f x) (list_any f xs) e in all_cons (λ x. f x ≡ false) x xs parts.0 (any_false f xs parts.1)
 
 module _ (places : Places) where
-  clash_back : (q r : ℕ) → clash places q r ≡ clash places r q
+  pub clash_back : (q r : ℕ) → clash places q r ≡ clash places r q
   clash_back q r =
       any_swapped exclude (places q) (places r)
       ∙ any_same (λ b. list_any (λ a. exclude a b) (places q)) (λ b. list_any (exclude b) (places q)) (λ b. any_same (λ a. exclude a b) (exclude b) (λ a. exclude_back a b) (places q)) (places r)
@@ -107,7 +107,7 @@ module _ (places : Places) where
       let none : list_any (exclude a) (places r) ≡ false = All-contains (λ a. list_any (exclude a) (places r) ≡ false) (places q) a (any_false (λ a. list_any (exclude a) (places r)) (places q) off) i in
       one_row a b (All-contains (λ b. exclude a b ≡ false) (places r) b (any_false (exclude a) (places r) none) j) e
 
-  group_rows : (g : SeenGroup) → ((r : ℕ) → HaveOneRow (places r)) → AreTogether places g → HaveOneRow (flat_map places (registers_of g))
+  pub group_rows : (g : SeenGroup) → ((r : ℕ) → HaveOneRow (places r)) → AreTogether places g → HaveOneRow (flat_map places (registers_of g))
   group_rows g alone h a b i j e =
       let at = behind_flat (registers_of g) a i in
       let bt = behind_flat (registers_of g) b j in

@@ -4,7 +4,9 @@ use Rattle.std.proofs.Math.Seq.{drop-cons}
 use Rattle.ij_bits.specs.declared.tern.Tern.{Tern}
 use Rattle.ij_text.specs.declared.Place.{Place}
 use Rattle.ij_bits.specs.BitLists.{bits_of}
-use Rattle.ij_text.specs.Numbers.{Written, InDecimal, InBits, bits_in, open_bits, tern_bits}
+use Rattle.ij_text.specs.Numbers.{Written, InDecimal, InBits, bits_in, tern_bits}
+use Rattle.ij_text.proofs.Widths.{open_get, read_bit as as_read}
+use Rattle.ij_text.proofs.Numbers.{open_length}
 use Rattle.std.proofs.lemmas.List.{length-map}
 use Rattle.std.proofs.lemmas.List.FromFn.{length-map-range_with_len}
 use Rattle.net_graph.specs.declared.net.Net.{Net}
@@ -18,24 +20,9 @@ use Rattle.pdl_targets.specs.Seen.{Refuses}
 use Rattle.pdl_targets.specs.Targets.{Found, Is, Fails, IsValueWide, compared, fitted, found_then, is_wide, one_read, one_write, or_skip, read_bit, reads_of, write_bit, writes_of, written}
 use Rattle.pdl_targets.proofs.Finding.{behind, behind_more, refused_as, refused_more}
 
-open_get : (vs cs : List Bool) (i : ℕ) → length vs ≡ length cs → i < length vs → get_or (open_bits vs cs) i (Some false) ≡ cond (get_or cs i false) (Some (get_or vs i false)) None
-open_get [] cs i h lt = absurd (omega (arith, lt))
-open_get (v ∷ vs) [] i h lt = absurd (omega (arith, h))
-open_get (v ∷ vs) (c ∷ cs) zero h lt = refl
-open_get (v ∷ vs) (c ∷ cs) (suc i) h lt = open_get vs cs i (omega (arith, h)) (omega (arith, lt))
-
-as_read : (result : Option Bool) (v c : Bool) → (c ≡ true → result ≡ Some v) → (c ≡ false → result ≡ None) → result ≡ cond c (Some v) None
-as_read result v true h k = h refl
-as_read result v false h k = k refl
-
 pub value_read : (t : Tern) (i : ℕ) (result : Option Bool) → i < length t.value.items → (get_or t.care.items i false ≡ true → result ≡ Some (get_or t.value.items i false)) → (get_or t.care.items i false ≡ false → result ≡ None)
     → result ≡ get_or (tern_bits t) i (Some false)
 value_read t i result h counts free = as_read result (get_or t.value.items i false) (get_or t.care.items i false) counts free ∙ sym (open_get t.value.items t.care.items i t.same_length h)
-
-open_length : (vs cs : List Bool) → length vs ≡ length cs → length (open_bits vs cs) ≡ length vs
-open_length [] cs h = refl
-open_length (v ∷ vs) [] h = absurd (omega (arith, h))
-open_length (v ∷ vs) (c ∷ cs) h = ap suc (open_length vs cs (omega (arith, h)))
 
 pub as_many : (t : Tern) → length (tern_bits t) ≡ length t.value.items
 as_many t = open_length t.value.items t.care.items t.same_length

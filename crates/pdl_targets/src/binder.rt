@@ -1,5 +1,5 @@
 // Steps bound to register bits, one after the other.
-ghost use Rattle.std.specs.Prelude.{◌≡◌, ◌<◌, ◌+◌, ◌^◌, IfOk, IfErr, OnErr};
+ghost use Rattle.std.specs.Prelude.{◌≡◌, ◌<◌, ◌+◌, ◌^◌, Some, IfOk, IfErr, OnErr};
 ghost use Rattle.std.specs.Option.{option_map, IfSome};
 ghost use Rattle.net_graph.specs.Nets.{IsNet};
 ghost use Rattle.net_graph.specs.SeenSteps as bit_steps;
@@ -141,6 +141,13 @@ fn made_or_new(alloc: Global, net: &Net, made: Option<Made>) -> Result<Made, Out
     }
 }
 
+/// Puts back what a binder has. What stood there is let go of here, apart from what the caller has in hand.
+fn put_back(place: &mut Option<Made>, made: Made)
+    ensures { place.new ≡ Some made }
+{
+    *place = Some(made);
+}
+
 /// Binds the steps of a procedure to single register bits (IEEE 1687-2014, PDL level 0: iWrite, iRead, iApply, iRunLoop,
 /// iReset).
 ///
@@ -213,7 +220,7 @@ impl<'a> Binder<'a> {
             &mut made.gathered,
             step,
         );
-        self.made = Some(made);
+        put_back(&mut self.made, made);
         answer
     }
 

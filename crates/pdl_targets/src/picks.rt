@@ -7,7 +7,7 @@ ghost use Rattle.pdl_targets.specs.Marked.{AreSelects};
 ghost use Rattle.pdl_targets.specs.Targets.{held_if_captured, is_inverted, same_source, select_compared, written};
 
 use bit_marks::{BitMarks, is_select};
-use net_graph::{BitId, Net, Sig, Spot};
+use net_graph::{BitId, Net, Sig, Spot, same_place};
 
 /// A register bit, and whether a bit of a target is its inverse.
 #[derive(Clone, Copy, Drop)]
@@ -23,13 +23,6 @@ pub(crate) fn flip_if(flip: bool, bit: bool) -> bool
     ensures { result ≡ flip_if flip bit }
 {
     if flip { !bit } else { bit }
-}
-
-/// Whether two register bits are one.
-pub(crate) fn same_place(a: BitId, b: BitId) -> bool
-    ensures { result ≡ same_place a b }
-{
-    a.reg == b.reg && a.pos == b.pos
 }
 
 /// The register bit that a write sets.

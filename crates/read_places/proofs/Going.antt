@@ -18,10 +18,11 @@ use Rattle.group_scans.specs.Retargeting.{PlannedGroup, holds_after_rounds, IsPl
 use Rattle.retargeter.specs.Plans.{ArePlansOf, AreRoundsOf}
 use Rattle.retargeter.specs.Scanning.{CanScanAll}
 use Rattle.retargeter.specs.Writing.{IsAfterGroup}
+use Rattle.retargeter.proofs.Going.{NextRound, at_round}
+use Rattle.retargeter.proofs.Plans.{scannable}
 use Rattle.read_places.specs.Noting.{NotesGroup, ScansGroup, NotesRounds, ScansRounds, HoldsRounds}
 use Rattle.read_places.specs.Places.{scan_places, plans_places, rounds_places, scans_after_rounds}
 use Rattle.read_places.specs.declared.place.ReadPlace.{ReadPlace}
-use Rattle.read_places.proofs.Planning.{NextRound, at_round}
 
 -- ---- plans
 
@@ -33,10 +34,6 @@ pub record Goes (net : Net) (first : Holds) (ps : List ScanPlan) (start : ℕ) (
   pub count : scan ≡ start + i
   pub holds : holds_after now (map seen_plan (drop i ps)) ≡ holds_after first (map seen_plan ps)
   pub can : CanScanAll net now (map seen_plan (drop i ps))
-
-pub scannable : (net : Net) (holds : Holds) (ps : List ScanPlan) → CanScanAll net holds (map seen_plan ps) → IsScannable net holds
-scannable net holds [] c = c
-scannable net holds (p ∷ ps) c = c.0
 
 module _ (net : Net) (first : Holds) (ps : List ScanPlan) (start : ℕ) (old : List ReadPlace) where
   pub begin_plans : CanScanAll net first (map seen_plan ps) → Goes net first ps start old 0 first start old

@@ -5,13 +5,14 @@ use Rattle.std.proofs.lemmas.Bool.{true≢false}
 use Rattle.net_graph.specs.declared.net.Net.{Net}
 use Rattle.net_graph.specs.Groups.{IsEmpty}
 use Rattle.net_graph.specs.Resets.{reset_holds, start_holds}
-use Rattle.net_graph.specs.SeenSteps.{SeenGroup, SeenStep, Apply, Run, Reset}
+use Rattle.net_graph.specs.SeenSteps.{SeenGroup}
 use Rattle.net_graph.specs.Signals.{Holds}
 use Rattle.net_graph.specs.Writes.{write_all}
 use Rattle.net_tree.specs.Form.{Items}
 use Rattle.path_planner.specs.Plans.{ArePlans, Settles}
 use Rattle.group_scans.specs.Scans.{holds_after}
 use Rattle.group_scans.specs.Retargeting.{PlannedGroup, PlannedStep, Applies, Runs, Resets, seen_of, holds_after_rounds, GroupsArePlanned, StepsArePlanned}
+use Rattle.group_scans.proofs.StepKinds.{kind, groups, head_same, no_head}
 use Rattle.read_places.specs.Laws.{PlacesAreOne}
 use Rattle.read_places.specs.Places.{scan_places, plans_places, rounds_places, steps_places, scans_after_rounds}
 
@@ -43,11 +44,6 @@ module _ (net : Net) (form : Items) (g : SeenGroup) where
         holds = rest.holds ∙ ap (λ k. holds_after k (t ∷ qs)) next;
       }
 
-no_head : {X : Type 0} (x : X) (xs : List X) → [] ≡ x ∷ xs → ⊥
-no_head x xs e =
-    let l = ap length e in
-    omega (arith, l)
-
 module _ (net : Net) (form : Items) where
   record AreSameRounds (h : Holds) (n : ℕ) (ps qs : List PlannedGroup) : Type 0 where
     pub places : rounds_places net h n ps ≡ rounds_places net h n qs
@@ -70,20 +66,6 @@ module _ (net : Net) (form : Items) where
         scans = later.scans ∙ ap (λ n. scans_after_rounds n qs) mid;
         holds = later.holds ∙ ap (λ k. holds_after_rounds k qs) one.holds;
       }
-
-  -- which kind of step it is, and its parts
-  abbrev kind : SeenStep → ℕ
-  kind (Apply gs) = 0
-  kind (Run n) = 1
-  kind Reset = 2
-
-  abbrev groups : SeenStep → List SeenGroup
-  groups (Apply gs) = gs
-  groups (Run n) = []
-  groups Reset = []
-
-  head_same : (x y : PlannedStep) (xs ys : List PlannedStep) → map seen_of (x ∷ xs) ≡ map seen_of (y ∷ ys) → seen_of x ≡ seen_of y
-  head_same x y xs ys e = ap (λ ss. get_or ss 0 (seen_of x)) e
 
   steps_same : (xs ys : List PlannedStep) (h : Holds) (scans : ℕ) → StepsArePlanned net form h xs → StepsArePlanned net form h ys → map seen_of xs ≡ map seen_of ys → steps_places net h scans xs ≡ steps_places net h scans ys
   steps_same [] [] h scans a b e = refl

@@ -18,6 +18,7 @@ use Rattle.net_graph.specs.Signals.{Holds}
 use Rattle.net_tree.specs.Form.{Items}
 use Rattle.pdl_targets.specs.Laws.{rounds_in}
 use Rattle.group_scans.specs.Retargeting.{PlannedStep, seen_of, holds_after_step}
+use Rattle.group_scans.proofs.StepKinds.{no_head}
 use Rattle.retargeter.specs.Plans.{AreStepsOf}
 use Rattle.retargeter.specs.Writing.{round_count}
 use Rattle.read_places.specs.Noting.{NotesStep, ScansStep, HoldsStep}
@@ -34,11 +35,6 @@ pub rounds_first : (step : SeenStep) (later : List SeenStep) → rounds_in (step
 rounds_first (Apply gs) later = refl
 rounds_first (Run n) later = refl
 rounds_first Reset later = refl
-
-no_head : {X : Type 0} (x : X) (xs : List X) → [] ≡ x ∷ xs → ⊥
-no_head x xs e =
-    let l = ap length e in
-    omega (arith, l)
 
 module _ (net : Net) (form : Items) where
   -- before the first step

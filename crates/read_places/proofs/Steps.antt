@@ -9,7 +9,7 @@ use Rattle.group_scans.specs.Retargeting.{holds_after_step}
 use Rattle.read_places.specs.Noting.{NotesRounds, ScansRounds, HoldsRounds, NotesStep, ScansStep, HoldsStep}
 use Rattle.read_places.specs.Places.{step_places, scans_after_step}
 use Rattle.read_places.specs.declared.place.ReadPlace.{ReadPlace}
-use Rattle.read_places.proofs.Planning.{of_apply, of_run, of_reset}
+use Rattle.retargeter.proofs.Steps.{of_apply, of_run, of_reset}
 
 module _ (net : Net) (form : Items) (holds : Holds) where
   module _ (gs : List SeenGroup) (scans : ℕ) where
@@ -31,13 +31,13 @@ module _ (net : Net) (form : Items) (holds : Holds) where
   module _ (n scans : ℕ) where
     pub run_noted : (old : List ReadPlace) → NotesStep net form holds (Run n) scans old old
     run_noted old x p =
-        sym (append-nil old) ∙ ap (λ y. old ++ step_places net holds scans y) (sym (of_run net form holds n x p).1)
+        sym (append-nil old) ∙ ap (λ y. old ++ step_places net holds scans y) (sym (of_run net form holds n x p))
 
     pub run_counted : ScansStep net form holds (Run n) scans scans
-    run_counted x p = ap (scans_after_step scans) (sym (of_run net form holds n x p).1)
+    run_counted x p = ap (scans_after_step scans) (sym (of_run net form holds n x p))
 
     pub run_held : HoldsStep net form holds (Run n) holds
-    run_held x p = ap (holds_after_step net holds) (sym (of_run net form holds n x p).1)
+    run_held x p = ap (holds_after_step net holds) (sym (of_run net form holds n x p))
 
   module _ (scans : ℕ) where
     pub reset_noted : (old : List ReadPlace) → NotesStep net form holds Reset scans old old

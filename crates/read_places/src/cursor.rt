@@ -83,12 +83,15 @@ impl<'a> Cursor<'a> {
         ensures cursor { IfOk result (IsCursor net.now tree.now (bit_steps (map seen_proc procs.now) net.now tree.now name.now).steps) }
         ensures first { IfOk result (λ c. c.first ≡ 0) }
     {
+        let holds = Holds::power_up(alloc, net)?;
+        let route = Route::new(alloc, net)?;
+        // The bit steps are made last: no end of this function lets go of them.
         Ok(Cursor {
             steps: steps_of(alloc, procs, net, tree, name)?,
-            holds: Holds::power_up(alloc, net)?,
+            holds,
             first: 0,
             scans: 1,
-            route: Route::new(alloc, net)?,
+            route,
             places: List::new(alloc),
         })
     }

@@ -112,9 +112,17 @@ impl<'a> ReadNames for ReadPlaces<'a> {
         let mut cursor = cursor_for(
             self.alloc, self.procs, self.net, self.tree, self.name, before, scan,
         )?;
-        cursor.reach(self.alloc, self.net, self.tree, scan)?;
-        let read = cursor.find(scan, bit);
-        self.cursor = Some(cursor);
-        Ok(read)
+        // What is let go of is let go of by a call: the prover goes through its parts once.
+        match cursor.reach(self.alloc, self.net, self.tree, scan) {
+            Ok(()) => {
+                let read = cursor.find(scan, bit);
+                drop(self.cursor.replace(cursor));
+                Ok(read)
+            }
+            Err(fault) => {
+                drop(cursor);
+                Err(fault)
+            }
+        }
     }
 }

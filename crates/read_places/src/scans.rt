@@ -19,8 +19,7 @@ use crate::place::{ReadPlace, note_reads};
 use ij_bits::{List, OutOfMemory};
 use net_graph::{BitStep, Group, Holds, Net};
 use net_tree::{Route, ScanPlan, Tree};
-use path_planner::plan::advance;
-use path_planner::planner::plan_group;
+use path_planner::{advance, plan_group};
 use std::alloc::Global;
 
 /// Notes the reads of one plan.

@@ -9,7 +9,7 @@ ghost use Rattle.report.specs.Registers.{bit_digit, register_digits, register_te
 
 use crate::path::put_thing_path;
 use ij_io::{Sink, StoreFault};
-use net_graph::{BitId, Holds, Net, is_select};
+use net_graph::{BitId, Holds, Net, is_select, register_count};
 
 /// The digit of a bit, or an s where it selects.
 fn digit_of(net: &Net, holds: &Holds, bit: BitId) -> u8
@@ -96,15 +96,6 @@ pub fn put_register<K: Sink>(
     Ok(())
 }
 
-/// The number of registers.
-#[tactic(auto, using(net_graph::proofs::Tracing::reg_count))]
-fn count_of(net: &Net) -> u32
-    requires { IsNet net.now }
-    ensures { result ≡ length net.now.regs.items }
-{
-    net.regs.len() as u32
-}
-
 /// Writes the line of each register, in the network's order. It takes no memory itself.
 ///
 /// # Errors
@@ -117,7 +108,7 @@ pub fn put_registers<K: Sink>(net: &Net, holds: &Holds, k: &mut K) -> Result<(),
     ensures part { OnErr result (AddsPart (K.taken k.old) (K.taken k.new) (registers_text net.now holds.now)) }
     ensures cause { HasCause (K.faults k.old) (K.faults k.new) result StoreFault.Failed }
 {
-    let count = count_of(net);
+    let count = register_count(net);
     for reg in 0..count {
         put_register(net, holds, reg, k)?;
     }

@@ -2,7 +2,7 @@
 ghost use Rattle.std.specs.Prelude.{◌++◌, OnOk, OnErr};
 ghost use Rattle.ij_io.specs.Bytes.{Adds, AddsPart};
 ghost use Rattle.ij_io.specs.Causes.{HasCause};
-ghost use Rattle.report.specs.Totalled.{totals_text, play_text, direct_text, counted, size_text};
+ghost use Rattle.report.specs.Totalled.{totals_text, play_text, direct_text, size_text};
 
 use ij_io::{Sink, StoreFault, Word, put_words};
 
@@ -72,17 +72,8 @@ fn put_direct<K: Sink>(reads: u64, differs: u64, k: &mut K) -> Result<(), StoreF
     )
 }
 
-/// Writes a text and a number.
-#[tactic(auto, unfolding(ij_io::specs::Words::words_text))]
-fn put_counted<K: Sink>(text: &[u8], n: u32, k: &mut K) -> Result<(), StoreFault>
-    ensures whole { OnOk result (Adds (K.taken k.old) (K.taken k.new) (counted text.now n)) }
-    ensures part { OnErr result (AddsPart (K.taken k.old) (K.taken k.new) (counted text.now n)) }
-    ensures cause { HasCause (K.faults k.old) (K.faults k.new) result StoreFault.Failed }
-{
-    put_words(k, &[Word::Text(text), Word::Number(u64::from(n))])
-}
-
 /// Writes the size of a made design.
+#[tactic(auto, unfolding(ij_io::specs::Words::words_text))]
 fn put_size<K: Sink>(
     registers: u32,
     muxes: u32,
@@ -94,12 +85,20 @@ fn put_size<K: Sink>(
     ensures part { OnErr result (AddsPart (K.taken k.old) (K.taken k.new) (size_text registers muxes instruments groups)) }
     ensures cause { HasCause (K.faults k.old) (K.faults k.new) result StoreFault.Failed }
 {
-    put_counted(b"made registers ", registers, k)?;
-    put_counted(b" muxes ", muxes, k)?;
-    put_counted(b" instruments ", instruments, k)?;
-    put_counted(b" groups ", groups, k)?;
-    k.write(b" ")?;
-    Ok(())
+    put_words(
+        k,
+        &[
+            Word::Text(b"made registers "),
+            Word::Number(u64::from(registers)),
+            Word::Text(b" muxes "),
+            Word::Number(u64::from(muxes)),
+            Word::Text(b" instruments "),
+            Word::Number(u64::from(instruments)),
+            Word::Text(b" groups "),
+            Word::Number(u64::from(groups)),
+            Word::Text(b" "),
+        ],
+    )
 }
 
 /// Writes the line of a made design.

@@ -24,7 +24,7 @@ pub record NextRound (rounds : List PlannedGroup) (g : Group) (i : ℕ) : Type 0
   pub is_next : drop i rounds ≡ round ∷ drop (suc i) rounds
   pub of_group : round.group ≡ seen_group g
 
-at_round : (rounds : List PlannedGroup) (gs : List Group) (g : Group) (i : ℕ) → map (λ p. p.group) rounds ≡ map seen_group gs → i < length gs → g ≡ get_or gs i g → NextRound rounds g i
+pub at_round : (rounds : List PlannedGroup) (gs : List Group) (g : Group) (i : ℕ) → map (λ p. p.group) rounds ≡ map seen_group gs → i < length gs → g ≡ get_or gs i g → NextRound rounds g i
 at_round rounds gs g i e l is =
     let none : PlannedGroup = record { group = seen_group g; plans = [] } in
     let within : i < length rounds = omega (arith, l, ap length e, length-map rounds (λ (p : PlannedGroup). p.group), length-map gs seen_group) in

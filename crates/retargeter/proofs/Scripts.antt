@@ -20,6 +20,7 @@ use Rattle.pdl_targets.specs.Laws.{rounds_in, cycles_in}
 use Rattle.headline.specs.Script.{ScannedStep, Applied, Ran, WasReset, step_text, steps_text, script_text, applies_after}
 use Rattle.group_scans.specs.Retargeting.{PlannedGroup, PlannedStep, Applies, Runs, Resets, seen_of, scanned_of, script_of, holds_after_step, StepsArePlanned, IsRetargetable, IsRetargeted, IsWithinLimits, groups_in, cycles_of, PlansAreRight}
 use Rattle.group_scans.specs.Rounds.{StepIsPlannable}
+use Rattle.group_scans.proofs.StepKinds.{no_head}
 use Rattle.retargeter.specs.Plans.{IsPlanOf, AreStepsOf}
 use Rattle.retargeter.specs.Scripts.{WritesSteps, WritesStepsPart, WritesScript, WritesScriptPart, AreFew, HasScript, ScriptIsRight}
 use Rattle.retargeter.specs.Session.{Session}
@@ -29,12 +30,12 @@ use Rattle.retargeter.proofs.Found.{step_listed, step_planned}
 -- ---- the first of some planned steps, and those behind it
 
 module _ (net : Net) (form : Items) where
-  first_planned : (x : PlannedStep) (xs : List PlannedStep) (holds : Holds) → StepsArePlanned net form holds (x ∷ xs) → StepsArePlanned net form holds (x ∷ [])
+  pub first_planned : (x : PlannedStep) (xs : List PlannedStep) (holds : Holds) → StepsArePlanned net form holds (x ∷ xs) → StepsArePlanned net form holds (x ∷ [])
   first_planned (Applies rounds) xs holds a = (a.0, a.1, tt)
   first_planned (Runs n) xs holds a = (a.0, tt)
   first_planned Resets xs holds a = tt
 
-  others_planned : (x : PlannedStep) (xs : List PlannedStep) (holds : Holds) → StepsArePlanned net form holds (x ∷ xs) → StepsArePlanned net form (holds_after_step net holds x) xs
+  pub others_planned : (x : PlannedStep) (xs : List PlannedStep) (holds : Holds) → StepsArePlanned net form holds (x ∷ xs) → StepsArePlanned net form (holds_after_step net holds x) xs
   others_planned (Applies rounds) xs holds a = a.2
   others_planned (Runs n) xs holds a = a.1
   others_planned Resets xs holds a = a
@@ -54,11 +55,6 @@ module _ (net : Net) (form : Items) where
         (x ∷ xs, record { of_steps = ap (λ z. z ∷ map seen_of xs) p.of_step ∙ ap (λ zs. step ∷ zs) q.of_steps; planned = both_planned x xs holds p.planned q.planned })
 
 -- ---- steps, one after the other
-
-no_head : {X : Type 0} (x : X) (xs : List X) → [] ≡ x ∷ xs → ⊥
-no_head x xs e =
-    let l = ap length e in
-    omega (arith, l)
 
 -- the text of planned steps
 abbrev text : Session → List PlannedStep → List ℕ

@@ -1,50 +1,35 @@
 -- What is written of each kind of bit step.
-use Rattle.std.proofs.Common.{◌≡◌, ℕ, suc, Option, List, [], refl, sym, ap, ◌∙◌, subst, arith, append-nil}
+use Rattle.std.proofs.Common.{◌≡◌, ℕ, suc, Option, List, refl, sym, ap, ◌∙◌, subst, arith, append-nil}
 use Rattle.ij_io.specs.Bytes.{Adds, AddsPart}
 use Rattle.net_graph.specs.declared.net.Net.{Net}
 use Rattle.net_graph.specs.Resets.{reset_holds}
-use Rattle.net_graph.specs.SeenSteps.{SeenGroup, SeenStep, Apply, Run, Reset}
+use Rattle.net_graph.specs.SeenSteps.{SeenGroup, Apply, Run, Reset}
 use Rattle.net_graph.specs.Signals.{Holds}
 use Rattle.net_tree.specs.Form.{Items}
 use Rattle.svf_writer.specs.SeenCommands.{Run as RunTest}
 use Rattle.svf_writer.specs.Written.{text_of, texts_of, preface_commands}
 use Rattle.headline.specs.Script.{step_text, applies_after}
 use Rattle.group_scans.specs.Retargeting.{PlannedGroup, PlannedStep, Applies, Runs, Resets, scanned_of, holds_after_step}
+use Rattle.group_scans.proofs.StepKinds.{kind, groups, cycles}
 use Rattle.retargeter.specs.Plans.{AreRoundsOf, IsPlanOf}
 use Rattle.retargeter.specs.Session.{Session}
 use Rattle.retargeter.specs.Writing.{WritesRounds, WritesRoundsPart, IsAfterRounds, WritesStep, WritesStepPart, IsAfterStep}
 
--- which kind of step it is, and its parts
-abbrev kind : SeenStep → ℕ
-kind (Apply gs) = 0
-kind (Run n) = 1
-kind Reset = 2
-
-abbrev groups : SeenStep → List SeenGroup
-groups (Apply gs) = gs
-groups (Run n) = []
-groups Reset = []
-
-abbrev cycles : SeenStep → ℕ
-cycles (Apply gs) = 0
-cycles (Run n) = n
-cycles Reset = 0
-
 module _ (net : Net) (form : Items) (holds : Holds) where
-  abbrev RoundsOf : List SeenGroup → PlannedStep → Type 0
+  abbrev pub RoundsOf : List SeenGroup → PlannedStep → Type 0
   RoundsOf gs x = (rounds : List PlannedGroup) × (x ≡ Applies rounds) × AreRoundsOf net form holds gs rounds
 
-  of_apply : (gs : List SeenGroup) (x : PlannedStep) → IsPlanOf net form holds (Apply gs) x → RoundsOf gs x
+  pub of_apply : (gs : List SeenGroup) (x : PlannedStep) → IsPlanOf net form holds (Apply gs) x → RoundsOf gs x
   of_apply gs (Applies rounds) p = (rounds, refl, record { groups = ap groups p.of_step; planned = p.planned.1 })
   of_apply gs (Runs k) p = let e : 1 ≡ 0 = ap kind p.of_step in absurd (omega (arith, e))
   of_apply gs Resets p = let e : 2 ≡ 0 = ap kind p.of_step in absurd (omega (arith, e))
 
-  of_run : (n : ℕ) (x : PlannedStep) → IsPlanOf net form holds (Run n) x → x ≡ Runs n
+  pub of_run : (n : ℕ) (x : PlannedStep) → IsPlanOf net form holds (Run n) x → x ≡ Runs n
   of_run n (Applies rounds) p = let e : 0 ≡ 1 = ap kind p.of_step in absurd (omega (arith, e))
   of_run n (Runs k) p = ap Runs (ap cycles p.of_step)
   of_run n Resets p = let e : 2 ≡ 1 = ap kind p.of_step in absurd (omega (arith, e))
 
-  of_reset : (x : PlannedStep) → IsPlanOf net form holds Reset x → x ≡ Resets
+  pub of_reset : (x : PlannedStep) → IsPlanOf net form holds Reset x → x ≡ Resets
   of_reset (Applies rounds) p = let e : 0 ≡ 2 = ap kind p.of_step in absurd (omega (arith, e))
   of_reset (Runs k) p = let e : 1 ≡ 2 = ap kind p.of_step in absurd (omega (arith, e))
   of_reset Resets p = refl

@@ -19,7 +19,7 @@ use ij_bits::Bits;
 use ij_io::{Sink, StoreFault, Word, put_words};
 use net_graph::{Holds, Net};
 use net_tree::{ScanPlan, Tree};
-use scan_packer::pack::pack;
+use scan_packer::pack;
 
 /// Writes a part of a scan, its word in front.
 #[tactic(auto, unfolding(ij_io::specs::Words::words_text))]

@@ -21,8 +21,7 @@ use crate::scan::put_plan;
 use ij_io::{Sink, StoreFault};
 use net_graph::{Group, Holds, Net};
 use net_tree::{ScanPlan, Tree};
-use path_planner::plan::advance;
-use path_planner::planner::plan_group;
+use path_planner::{advance, plan_group};
 use std::alloc::Global;
 
 /// Writes the scans of plans, one after the other. Takes no memory. After each scan the update stages are those that it

@@ -3,6 +3,7 @@ use Rattle.std.proofs.Common.{◌≡◌, ◌≢◌, zero, suc, Bool, true, false
 use Rattle.std.specs.Prelude.{◌↔◌, Contains, filter, map, Result, Ok}
 use Rattle.std.proofs.lemmas.Bool.{true≢false}
 use Rattle.ij_bits.specs.BitLists.{same_bit}
+use Rattle.ij_bits.proofs.SameBits.{same_bits}
 use Rattle.instruments.specs.After.{machine_of}
 use Rattle.instruments.specs.declared.Counts.{Counts}
 use Rattle.instruments.specs.Machine.{whole_log}
@@ -25,12 +26,6 @@ use Rattle.run_law.specs.Laws.{RunsDifferAlike}
 use Rattle.run_law.proofs.Counted.{meanings_are_counted}
 
 -- ---- bits that are the same
-
-same_is : (a b : Bool) → same_bit a b ≡ true → a ≡ b
-same_is true true e = refl
-same_is true false e = sym e
-same_is false true e = e
-same_is false false e = refl
 
 other_is : (a b : Bool) → same_bit a b ≡ false → a ≢ b
 other_is true true e = λ z. true≢false e

@@ -1,5 +1,5 @@
 -- Compares of reads at their places, and which read is named at each.
-use Rattle.std.proofs.Common.{◌≡◌, ◌≢◌, ◌⊎◌, inl, inr, ⊎_elim, ℕ, zero, suc, ◌==◌, ◌&&◌, Bool, true, false, cond, List, [], ◌∷◌, ◌++◌, length, drop, Some, refl, sym, ap, ◌∙◌, subst, arith, append_assoc}
+use Rattle.std.proofs.Common.{◌≡◌, ◌≢◌, ◌⊎◌, inl, inr, ⊎_elim, ℕ, zero, suc, ◌==◌, ◌&&◌, Bool, true, false, cond, List, [], ◌∷◌, ◌++◌, drop, Some, refl, sym, ap, ◌∙◌, subst, arith, append_assoc}
 use Rattle.std.specs.Prelude.{Contains, map}
 use Rattle.std.proofs.lemmas.Bool.Decides.{eqb_tells}
 use Rattle.std.proofs.lemmas.List.{append-nil, map-append}
@@ -11,6 +11,7 @@ use Rattle.headline.proofs.Comparing.{is_mapped, none_here}
 use Rattle.read_places.specs.Places.{read_at}
 use Rattle.read_places.specs.declared.place.ReadPlace.{ReadPlace}
 use Rattle.run_law.specs.Naming.{compare_at, compares_at, IsNamed}
+use Rattle.group_scans.proofs.StepKinds.{no_head}
 
 abbrev pub Read : Type 0
 Read = ReadBit × Bool
@@ -20,11 +21,6 @@ reads_placed ps = map (λ p. p.read) ps
 
 abbrev pub reads_found : List Read → List ReadBit
 reads_found rs = map (λ r. r.0) rs
-
-no_head : {X : Type 0} (x : X) (xs : List X) → [] ≡ x ∷ xs → ⊥
-no_head x xs e =
-    let l = ap length e in
-    omega (arith, l)
 
 first_is : (r t : ReadBit) (rs ts : List ReadBit) → r ∷ rs ≡ t ∷ ts → r ≡ t
 first_is r t rs ts e = cc

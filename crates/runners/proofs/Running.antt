@@ -6,7 +6,7 @@ use Rattle.std.proofs.lemmas.List.{get_or-set_same, get_or-set_other, get_or-tak
 use Rattle.std.proofs.lemmas.Bool.{true≢false}
 use Rattle.std.specs.Int.{bit_at}
 use Rattle.instruments.specs.Arrays.{StandFor}
-use Rattle.instruments.specs.Machine.{Inputs, Inner, Event, Change, Reset, blank, still, up, counted, count_log}
+use Rattle.instruments.specs.Machine.{Inputs, InstrumentState, Event, Change, Reset, blank, idle_machine, saturating_up, counted, count_log}
 use Rattle.instruments.specs.declared.Counts.{Counts}
 use Rattle.instruments.specs.After.{machine_of, output_number}
 use Rattle.instruments.specs.Seen.{seen_model}
@@ -61,7 +61,7 @@ stand_more xs ys i n h g e s port =
 
 pub output_in : (models : List Model) (runners : List Runner) (i port pos : ℕ) (m : Model) (r : Runner) → i < length models → length runners ≡ length models → m ≡ get_or models i m → r ≡ get_or runners i r → outputs (machines_of models) (insts_of runners) i port pos ≡ (bit_at (output_number (seen_model m) r.machine port) pos == 1)
 output_in models runners i port pos m r h count e f =
-    ap (λ x. x.output (inner_at (insts_of runners) i) port pos) (get_or-map (λ m. machine_of (seen_model m)) models i m still h)
+    ap (λ x. x.output (inner_at (insts_of runners) i) port pos) (get_or-map (λ m. machine_of (seen_model m)) models i m idle_machine h)
     ∙ ap (λ x. bit_at (output_number (seen_model x) (inner_at (insts_of runners) i) port) pos == 1) (sym e)
     ∙ ap (λ s. bit_at (output_number (seen_model m) s port) pos == 1) (inner runners i r (omega (arith, h, count)) f)
   where
@@ -73,17 +73,17 @@ output_in models runners i port pos m r h count e f =
 
 pub output_past : (models : List Model) (runners : List Runner) (i port pos : ℕ) → length models ≤ i → outputs (machines_of models) (insts_of runners) i port pos ≡ false
 output_past models runners i port pos h =
-    ap (λ x. x.output (inner_at (insts_of runners) i) port pos) (get_or_past (machines_of models) i still (omega (arith, h, length-map models (λ m. machine_of (seen_model m)))))
+    ap (λ x. x.output (inner_at (insts_of runners) i) port pos) (get_or_past (machines_of models) i idle_machine (omega (arith, h, length-map models (λ m. machine_of (seen_model m)))))
 
 -- ---- events
 
-pub state_is : (a b : Inner) (x y : Counts) → a ≡ b → x ≡ y → ◌≡◌ {A = Running Counts} (record { inner = a; log = x }) (record { inner = b; log = y })
+pub state_is : (a b : InstrumentState) (x y : Counts) → a ≡ b → x ≡ y → ◌≡◌ {A = Running Counts} (record { inner = a; log = x }) (record { inner = b; log = y })
 state_is a b x y e f = cc
 
-pub one_reset : (c : Counts) (n : ℕ) → n ≡ up c.resets → ◌≡◌ {A = Counts} (record { changes = c.changes; runs = c.runs; resets = n }) (counted c Reset)
+pub one_reset : (c : Counts) (n : ℕ) → n ≡ saturating_up c.resets → ◌≡◌ {A = Counts} (record { changes = c.changes; runs = c.runs; resets = n }) (counted c Reset)
 one_reset c n e = ap (λ (k : ℕ). record c { resets = k }) e
 
-pub one_change : (c : Counts) (n : ℕ) (before after : Inputs) → n ≡ up c.changes → ◌≡◌ {A = Counts} (record { changes = n; runs = c.runs; resets = c.resets }) (counted c (Change before after))
+pub one_change : (c : Counts) (n : ℕ) (before after : Inputs) → n ≡ saturating_up c.changes → ◌≡◌ {A = Counts} (record { changes = n; runs = c.runs; resets = c.resets }) (counted c (Change before after))
 one_change c n before after e = ap (λ (k : ℕ). record c { changes = k }) e
 
 same_refl : (xs : Inputs) → same_numbers xs xs ≡ true
@@ -156,7 +156,7 @@ had net models e holds i x = happens count_log (machine_at (machines_of models) 
 
 pub machine_is : (models : List Model) (i : ℕ) (m : Model) → i < length models → m ≡ get_or models i m → machine_at (machines_of models) i ≡ machine_of (seen_model m)
 machine_is models i m h e =
-    get_or-map (λ m. machine_of (seen_model m)) models i m still h ∙ ap (λ x. machine_of (seen_model x)) (sym e)
+    get_or-map (λ m. machine_of (seen_model m)) models i m idle_machine h ∙ ap (λ x. machine_of (seen_model x)) (sym e)
 
 pub inputs_are : (net : Net) (holds : Holds) (i : ℕ) (inst : Inst) → i < length net.insts.items → inst ≡ get_or net.insts.items i inst → inputs_at net holds i ≡ port_numbers holds inst
 inputs_are net holds i inst h e =

@@ -15,8 +15,9 @@ use Rattle.net_graph.specs.Held.{set_hold}
 use Rattle.net_graph.specs.Writes.{write_bit, write_all}
 use Rattle.net_graph.proofs.Shapes.{shape, length_at}
 use Rattle.net_graph.proofs.Writing.{IsHeld, within, write_all-shape}
+use Rattle.net_graph.proofs.Widths.{zero-shape}
 use Rattle.scan_packer.specs.Packed.{IsWritten}
-use Rattle.scan_packer.proofs.Bits.{zero-shape, same_width, pop}
+use Rattle.scan_packer.proofs.Bits.{same_width, pop}
 
 chain_apart : (p : List ℕ) (s : Holds) (r : ℕ) (v : List Bool) → NotIn r p → chain p (slice_set s r v) ≡ chain p s
 chain_apart [] s r v h = refl

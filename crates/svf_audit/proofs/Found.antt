@@ -13,11 +13,12 @@ use Rattle.net_graph.specs.Signals.{Holds, hold_at}
 use Rattle.net_graph.proofs.Chains.{chain-put_chain}
 use Rattle.net_graph.proofs.Selecting.{is_held}
 use Rattle.net_graph.proofs.Shapes.{put_chain-shape}
+use Rattle.net_graph.proofs.Widths.{chain_fits}
 use Rattle.svf_audit.specs.Audit.{bits_on, has_row, path_of}
 use Rattle.svf_audit.specs.Registers.{differing, differs, path_in, to_move, AreFound, AreRegisters, AreShifted, IsTurned}
 use Rattle.svf_audit.specs.declared.registers.Registers.{Registers}
 use Rattle.svf_audit.proofs.Moving.{bits_kept, moved_is, select_stays, stays, OthersSame}
-use Rattle.svf_audit.proofs.Paths.{bits_of_net, chain_fits, length-bits_on, route_in}
+use Rattle.svf_audit.proofs.Paths.{bits_of_net, length-bits_on, route_in}
 use Rattle.svf_audit.proofs.Places.{first}
 use Rattle.svf_audit.proofs.Steering.{path_same, rows_same}
 use Rattle.svf_audit.proofs.Turning.{all_taken, none_left, set_on, take_both}
@@ -27,7 +28,7 @@ holds_route r k = route_in r.net.now r.holds r.holds k.net k.holds
 
 pub path_few : (r : Registers) → AreRegisters r → length (chain (path_in r) r.holds) ≤ 4096
 path_few r k =
-    omega (arith, chain_fits r.net.now (path_in r) r.holds k.holds (holds_route r k), k.net.few_bits)
+    omega (arith, chain_fits r.net.now (path_in r) r.holds k.holds (holds_route r k), k.net.bits_within_limit)
 
 pub bits_count : (r : Registers) → AreFound r → length r.bits.items ≡ length (chain (path_in r) r.holds)
 bits_count r f = ap length f.bits ∙ length-bits_on r.holds (path_in r)

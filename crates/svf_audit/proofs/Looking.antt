@@ -128,18 +128,6 @@ eq_end xs len i rest e l =
     let none : len - i ≡ 0 = omega arith in
     ap (λ ys. bits_eq ys (bits_of (len - i) rest)) (drop_all i xs (omega (arith, e, l))) ∙ ap (λ k. bits_eq [] (bits_of k rest)) none
 
-pub differ : (a b : Bool) → not (beq a b) ≡ true → same_bit a b ≡ false
-differ true true e = absurd (cc)
-differ true false e = refl
-differ false true e = refl
-differ false false e = absurd (cc)
-
-pub agree : (a b : Bool) → not (beq a b) ≡ false → same_bit a b ≡ true
-agree true true e = refl
-agree true false e = absurd (cc)
-agree false true e = absurd (cc)
-agree false false e = refl
-
 -- ---- bits that were compared
 
 pub equal : (a b : Bool) → beq a b ≡ true → a ≡ b

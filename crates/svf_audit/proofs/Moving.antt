@@ -14,9 +14,10 @@ use Rattle.net_graph.specs.Signals.{Holds, bits_at, hold_at}
 use Rattle.net_graph.proofs.Chains.{chain-put_chain, put_chain_off}
 use Rattle.net_graph.proofs.Shapes.{length_at, put_chain-shape}
 use Rattle.net_graph.proofs.Writing.{set_hold-at, set_hold-other, set_hold-shape}
+use Rattle.net_graph.proofs.Places.{place_is}
 use Rattle.svf_audit.specs.Audit.{bits_on}
 use Rattle.svf_audit.specs.Registers.{differing, differs}
-use Rattle.svf_audit.proofs.Places.{bits_on_same, chain_is, filtered, first, holds_same, off_path, passes, place_is, place_of}
+use Rattle.svf_audit.proofs.Places.{bits_on_same, chain_is, filtered, first, holds_same, off_path, passes, place_of}
 use Rattle.svf_audit.proofs.Turning.{differing_is}
 
 same_values : (a b : Bool) → not (same_bit a b) ≡ false → a ≡ b

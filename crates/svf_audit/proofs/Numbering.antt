@@ -4,7 +4,7 @@ use Rattle.std.specs.Prelude.{All, ◌||◌, ◌&&◌, ◌==◌, not, map, sum}
 use Rattle.std.specs.Cmp.{IsEquivalence}
 use Rattle.std.specs.List.{AllByRecursion, IsDistinct, list_all, list_any, position, position_or_len}
 use Rattle.std.specs.Option.{is_some}
-use Rattle.std.proofs.lemmas.Bool.{cases_lt, false≢true}
+use Rattle.std.proofs.lemmas.Bool.{cases_lt, false≢true, or_left, or_right}
 use Rattle.std.proofs.lemmas.List.{get_or-map, length-map, length-take-le, take_all, take_more}
 use Rattle.std.proofs.lemmas.List.Elements.{All-cons, All-head, All-map, All-nil, All-tail, All-weaker}
 use Rattle.std.proofs.lemmas.List.Folds.{list_any-append, list_any_at, list_any_none}
@@ -24,12 +24,13 @@ use Rattle.net_graph.specs.Path.{same_place}
 use Rattle.net_graph.specs.SeenSteps.{SeenGroup}
 use Rattle.net_graph.specs.Steps.{IsDataBit, IsGroup}
 use Rattle.net_graph.proofs.PlainNet.{length-bits_from}
+use Rattle.net_graph.proofs.Places.{place_is}
 use Rattle.bit_marks.specs.Marks.{HasMark, Marks}
 use Rattle.bit_marks.specs.Numbered.{AreNumbered, HaveMarks, bits_compared, bits_written, first_bit, first_bits}
 use Rattle.bit_marks.proofs.Numbering.{no_position}
 use Rattle.svf_audit.specs.Audit.{expected_of, same_expects}
 use Rattle.svf_audit.specs.Numbers.{AreCountable}
-use Rattle.svf_audit.proofs.Places.{or_first, or_second, place_is, place_of}
+use Rattle.svf_audit.proofs.Places.{place_of}
 use Rattle.svf_audit.proofs.Turning.{any_default}
 
 -- ---- one bit after the other
@@ -106,18 +107,18 @@ in_register : (c : BitId) (r k n : ℕ) → c.reg ≡ r → k ≤ c.pos → c.po
 in_register c r k zero e low high = absurd (omega (arith, low, high))
 in_register c r k (suc n) e low high =
     elim (cases_lt k c.pos) [
-      | inl later ↦ or_second (same_place c (record { reg = r; pos = k })) (list_any (same_place c) (bits_from r (suc k) n)) (in_register c r (suc k) n e (omega (arith, later)) (omega (arith, high)))
-      | inr here ↦ or_first (same_place c (record { reg = r; pos = k })) (list_any (same_place c) (bits_from r (suc k) n)) (place_of c (record { reg = r; pos = k }) e (omega (arith, here, low)))
+      | inl later ↦ or_right (same_place c (record { reg = r; pos = k })) (list_any (same_place c) (bits_from r (suc k) n)) (in_register c r (suc k) n e (omega (arith, later)) (omega (arith, high)))
+      | inr here ↦ or_left (same_place c (record { reg = r; pos = k })) (list_any (same_place c) (bits_from r (suc k) n)) (place_of c (record { reg = r; pos = k }) e (omega (arith, here, low)))
     ]
 
 in_some : (c : BitId) (r k : ℕ) (ws : List ℕ) → c.reg ≡ r + k → c.pos < get_or ws k 0 → list_any (same_place c) (all_of r ws) ≡ true
 in_some c r k [] e h = absurd (omega (arith, h))
 in_some c r zero (w ∷ ws) e h =
     list_any-append (same_place c) (bits_from r 0 w) (all_of (suc r) ws)
-    ∙ or_first (list_any (same_place c) (bits_from r 0 w)) (list_any (same_place c) (all_of (suc r) ws)) (in_register c r 0 w (omega (arith, e)) (omega arith) (omega (arith, h)))
+    ∙ or_left (list_any (same_place c) (bits_from r 0 w)) (list_any (same_place c) (all_of (suc r) ws)) (in_register c r 0 w (omega (arith, e)) (omega arith) (omega (arith, h)))
 in_some c r (suc k) (w ∷ ws) e h =
     list_any-append (same_place c) (bits_from r 0 w) (all_of (suc r) ws)
-    ∙ or_second (list_any (same_place c) (bits_from r 0 w)) (list_any (same_place c) (all_of (suc r) ws)) (in_some c (suc r) k ws (omega (arith, e)) h)
+    ∙ or_right (list_any (same_place c) (bits_from r 0 w)) (list_any (same_place c) (all_of (suc r) ws)) (in_some c (suc r) k ws (omega (arith, e)) h)
 
 in_net : (net : Net) (bits : List BitId) → All (IsBitOf net) bits → (q : BitId) → list_any (same_place q) bits ≡ true → IsBitOf net q
 in_net net [] h q e = absurd (false≢true e)
@@ -132,7 +133,7 @@ bits_few net bits n there once =
     let ws = map (λ (reg : Reg). reg.width) net.regs.items in
     let all : (q : BitId) → list_any (same_place q) bits ≡ true → list_any (same_place q) (all_of 0 ws) ≡ true = λ q e. in_some q 0 q.reg ws (omega arith) (in_net net bits there q e) in
     let short : length bits ≤ length (all_of 0 ws) = length-le_from_is_member same_places bits (all_of 0 ws) (distinct bits once) all in
-    omega (arith, short, all_long 0 ws, n.few_bits)
+    omega (arith, short, all_long 0 ws, n.bits_within_limit)
 
 countable : (net : Net) (bits : List BitId) → IsNet net → All (IsBitOf net) bits → AreDifferent bits → AreCountable net bits
 countable net bits n there once =
@@ -177,7 +178,7 @@ firsts_differ n (r ∷ rs) h = (not_first r rs h.1, firsts_differ n rs h.2)
 
 some_width : (net : Net) (regs : List Reg) (r : ℕ) → All (IsReg net) regs → r < length regs → 0 < get_or (map (λ (reg : Reg). reg.width) regs) r 0
 some_width net [] r h l = absurd (omega (arith, l))
-some_width net (g ∷ gs) zero h l = let k = (All-head (IsReg net) g gs h).some_bits in omega (arith, k)
+some_width net (g ∷ gs) zero h l = let k = (All-head (IsReg net) g gs h).at_least_one_bit in omega (arith, k)
 some_width net (g ∷ gs) (suc r) h l = some_width net gs r (All-tail (IsReg net) g gs h) (omega (arith, l))
 
 firsts_there : (net : Net) (path : List ℕ) → IsNet net → IsRoute (length net.regs.items) path → All (IsBitOf net) (first_bits path)

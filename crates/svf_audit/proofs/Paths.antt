@@ -1,23 +1,22 @@
 -- The active path and its bits: its registers take the bits of one list, and every path has room.
-use Rattle.std.proofs.Common.{◌≡◌, ℕ, zero, suc, ◌+◌, ◌-◌, ◌<◌, ◌≤◌, Bool, false, get_or, List, [], ◌∷◌, ◌++◌, length, take, drop, Option, Some, None, refl, sym, ap, ◌∙◌, subst, arith, length-append, append_assoc, add-one}
-use Rattle.std.specs.Prelude.{All, replicate, map, unwrap_or, slice_range, slice_set, sum}
-use Rattle.std.proofs.lemmas.List.{append-nil, length-map, length-set, drop_more, get_or-set_other, length-replicate, length-take-le, take_all, take-append-drop}
+use Rattle.std.proofs.Common.{◌≡◌, ℕ, zero, suc, ◌+◌, ◌-◌, ◌<◌, ◌≤◌, Bool, get_or, List, [], ◌∷◌, ◌++◌, length, take, drop, Option, Some, None, refl, sym, ap, ◌∙◌, subst, arith, length-append, append_assoc, add-one}
+use Rattle.std.specs.Prelude.{All, map, unwrap_or, slice_range}
+use Rattle.std.proofs.lemmas.List.{append-nil, drop_more, length-take-le, take_all, take-append-drop}
 use Rattle.std.proofs.lemmas.List.Elements.{All-append, All-cons, All-nil}
-use Rattle.std.proofs.lemmas.List.Sums.{sum_by-cons}
 use Rattle.std.proofs.Math.Seq.{drop-append_seam, drop-append-add, take-append_seam, take-append-add}
-use Rattle.net_graph.specs.Chain.{NotIn, IsRoute, chain}
+use Rattle.net_graph.specs.Chain.{IsRoute, chain}
 use Rattle.net_graph.specs.Held.{AreHolds}
 use Rattle.net_graph.specs.Named.{bits_from, width_of, IsBitOf}
 use Rattle.net_graph.specs.Nets.{IsNet}
 use Rattle.net_graph.specs.Path.{active}
-use Rattle.net_graph.specs.Resets.{reset_holds, start_holds, zero_holds}
+use Rattle.net_graph.specs.Resets.{start_holds}
 use Rattle.net_graph.specs.Signals.{Holds, bits_at}
 use Rattle.net_graph.specs.declared.net.BitId.{BitId}
 use Rattle.net_graph.specs.declared.net.Net.{Net}
-use Rattle.net_graph.specs.declared.net.Reg.{Reg}
 use Rattle.net_graph.proofs.PlainNet.{length-bits_from}
-use Rattle.net_graph.proofs.Shapes.{length_at, total, reset-shape, length-chain}
+use Rattle.net_graph.proofs.Shapes.{length_at}
 use Rattle.net_graph.proofs.Tracing.{trace_route}
+use Rattle.net_graph.proofs.Widths.{as_many_held, chain_fits, started_held}
 use Rattle.svf_audit.specs.Audit.{bits_on, path_of}
 
 -- the active path has different registers of the network
@@ -28,54 +27,12 @@ route_is net holds w = by (active net holds) refl
     by None e = tt
     by (Some met) e = trace_route net holds w (length net.regs.items + length net.muxes.items) net.out met w.output e
 
-pub count_of : (net : Net) (s : Holds) → AreHolds net s → length s ≡ length net.regs.items
-count_of net s h = sym (length-map s length) ∙ ap length h ∙ length-map net.regs.items (λ reg. reg.width)
-
 pub route_in : (net : Net) (holds s : Holds) → IsNet net → AreHolds net s → IsRoute (length s) (path_of net holds)
-route_in net holds s w h = subst (λ n. IsRoute n (path_of net holds)) (sym (count_of net s h)) (route_is net holds w)
+route_in net holds s w h = subst (λ n. IsRoute n (path_of net holds)) (sym (as_many_held net s h)) (route_is net holds w)
 
 -- ---- every path has room
 
-sum-set : (ns : List ℕ) (r : ℕ) → r < length ns → sum (slice_set ns r 0) + get_or ns r 0 ≡ sum ns
-sum-set [] r h = absurd (omega (arith, h))
-sum-set (n ∷ ns) zero h = omega (arith, sum_by-cons (λ k. k) n ns, sum_by-cons (λ k. k) 0 ns)
-sum-set (n ∷ ns) (suc r) h =
-    omega (arith, sum_by-cons (λ k. k) n ns, sum_by-cons (λ k. k) n (slice_set ns r 0), sum-set ns r (omega (arith, h)))
-
-total-set : (p ns : List ℕ) (r : ℕ) → NotIn r p → total p (slice_set ns r 0) ≡ total p ns
-total-set [] ns r h = refl
-total-set (x ∷ xs) ns r h = omega (arith, get_or-set_other ns r x 0 0 h.0, total-set xs ns r h.1)
-
-total_fits : (p ns : List ℕ) → IsRoute (length ns) p → total p ns ≤ sum ns
-total_fits [] ns h = omega arith
-total_fits (r ∷ rs) ns h =
-    let rest : total rs (slice_set ns r 0) ≤ sum (slice_set ns r 0) =
-    total_fits rs (slice_set ns r 0) (subst (λ n. IsRoute n rs) (sym (length-set ns r 0)) h.2) in
-    omega (arith, rest, total-set rs ns r h.1, sum-set ns r h.0)
-
--- the bits of a path are some of the network's
-pub chain_fits : (net : Net) (p : List ℕ) (s : Holds) → AreHolds net s → IsRoute (length s) p → length (chain p s) ≤ sum (map (λ reg. reg.width) net.regs.items)
-chain_fits net p s h r =
-    let fits : total p (map length s) ≤ sum (map length s) =
-    total_fits p (map length s) (subst (λ n. IsRoute n p) (sym (length-map s length)) r) in
-    omega (arith, length-chain p s, fits, ap sum h)
-
-pub turn_register : (n : ℕ) (path : List ℕ) (i : ℕ) → i < length path → IsRoute n (drop i path) → (get_or path i 0 < n) × IsRoute n (drop (i + 1) path)
-turn_register n path i h r =
-    let k : IsRoute n (get_or path i 0 ∷ drop (i + 1) path) = subst (IsRoute n) (drop_more path i 0 h) r in (k.0, k.2)
-
 -- ---- at power-up
-
-zero_widths : (regs : List Reg) → map length (map (λ r. replicate r.width false) regs) ≡ map (λ reg. reg.width) regs
-zero_widths [] = refl
-zero_widths (r ∷ regs) =
-    ap (λ n. n ∷ map length (map (λ r. replicate r.width false) regs)) (length-replicate r.width false) ∙ ap (λ ns. r.width ∷ ns) (zero_widths regs)
-
-pub start_shape : (net : Net) (s : Holds) → s ≡ start_holds net → AreHolds net s
-start_shape net s e = ap (map length) e ∙ reset-shape net (zero_holds net) ∙ zero_widths net.regs.items
-
-pub reset_shape : (net : Net) (holds into : Holds) → AreHolds net holds → into ≡ reset_holds net holds → AreHolds net into
-reset_shape net holds into h is = ap (map length) is ∙ reset-shape net holds ∙ h
 
 -- ---- the bits of a path
 
@@ -87,7 +44,7 @@ same_bits s t (r ∷ rs) e =
     ap (λ n. bits_from r 0 n ++ bits_on s rs) wide ∙ ap (λ bs. bits_from r 0 (length (bits_at t r)) ++ bs) (same_bits s t rs e)
 
 pub bits_at_start : (net : Net) (holds : Holds) (path : List ℕ) → AreHolds net holds → bits_on (start_holds net) path ≡ bits_on holds path
-bits_at_start net holds path h = same_bits (start_holds net) holds path (start_shape net (start_holds net) refl ∙ sym h)
+bits_at_start net holds path h = same_bits (start_holds net) holds path (started_held net (start_holds net) refl ∙ sym h)
 
 pub length-bits_on : (holds : Holds) (path : List ℕ) → length (bits_on holds path) ≡ length (chain path holds)
 length-bits_on holds [] = refl
@@ -160,7 +117,7 @@ both_next holds bits whole path old i k w l m e wide within last was =
 -- the bits of the active path are few
 pub bits_fit : (net : Net) (holds : Holds) (path : List ℕ) → IsNet net → AreHolds net holds → path ≡ path_of net holds → length (bits_on holds path) ≤ 4096
 bits_fit net holds path w h e =
-    omega (arith, length-bits_on holds path, chain_fits net path holds h (subst (IsRoute (length holds)) (sym e) (route_in net holds holds w h)), w.few_bits)
+    omega (arith, length-bits_on holds path, chain_fits net path holds h (subst (IsRoute (length holds)) (sym e) (route_in net holds holds w h)), w.bits_within_limit)
 
 -- each is a bit of the network
 bits_below : (P : BitId → Type 0) (r k n : ℕ) → ((p : ℕ) → p < k + n → P (record { reg = r; pos = p })) → All P (bits_from r k n)
@@ -184,7 +141,3 @@ pub chain_next : (holds : Holds) (path : List ℕ) (i : ℕ) (done now whole : L
 chain_next holds path i done now whole l is was =
     let rest = chain (drop (i + 1) path) holds in
     ap (λ x. x ++ rest) is ∙ append_assoc done (bits_at holds (get_or path i 0)) rest ∙ ap (λ p. done ++ chain p holds) (sym (drop_more path i 0 l)) ∙ was
-
-pub chain_length : (holds : Holds) (path : List ℕ) (i : ℕ) → i < length path → length (chain (drop i path) holds) ≡ length (bits_at holds (get_or path i 0)) + length (chain (drop (i + 1) path) holds)
-chain_length holds path i l =
-    ap (λ p. length (chain p holds)) (drop_more path i 0 l) ∙ length-append (bits_at holds (get_or path i 0)) (chain (drop (i + 1) path) holds)

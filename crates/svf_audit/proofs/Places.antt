@@ -2,7 +2,7 @@
 use Rattle.std.proofs.Common.{◌≡◌, ℕ, zero, suc, ◌+◌, ◌<◌, ◌≤◌, ◌==◌, inl, inr, Bool, true, false, List, [], ◌∷◌, ◌++◌, length, get_or, drop, map, refl, sym, ap, ◌∙◌, subst, arith}
 use Rattle.std.specs.Prelude.{◌&&◌, ◌||◌, filter, cond}
 use Rattle.std.specs.List.{list_any}
-use Rattle.std.proofs.lemmas.Bool.{cases_lt, eqb-true, eq-eqb, false≢true}
+use Rattle.std.proofs.lemmas.Bool.{cases_lt, eq-eqb, false≢true, or_left, or_right}
 use Rattle.std.proofs.lemmas.List.{get_or_append_left, get_or-append-add, map-append}
 use Rattle.std.proofs.lemmas.List.Folds.{list_any-append}
 use Rattle.net_graph.specs.declared.net.BitId.{BitId}
@@ -11,17 +11,8 @@ use Rattle.net_graph.specs.Named.{bits_from}
 use Rattle.net_graph.specs.Path.{same_place}
 use Rattle.net_graph.specs.Signals.{Holds, bits_at, hold_at}
 use Rattle.net_graph.proofs.PlainNet.{length-bits_from}
+use Rattle.net_graph.proofs.Places.{place_is}
 use Rattle.svf_audit.specs.Audit.{bits_on}
-
-both : (a b : Bool) → (a && b) ≡ true → (a ≡ true) × (b ≡ true)
-both true b e = (refl, e)
-both false b e = absurd (false≢true e)
-
-pub place_is : (a b : BitId) → same_place a b ≡ true → a ≡ b
-place_is a b e =
-    let parts = both (a.reg == b.reg) (a.pos == b.pos) e in
-    let with_reg : a ≡ record { reg = b.reg; pos = a.pos } = ap (λ (r : ℕ). record { reg = r; pos = a.pos }) (eqb-true a.reg b.reg parts.0) in
-    with_reg ∙ ap (λ (p : ℕ). record { reg = b.reg; pos = p }) (eqb-true a.pos b.pos parts.1)
 
 pub place_of : (a b : BitId) → a.reg ≡ b.reg → a.pos ≡ b.pos → same_place a b ≡ true
 place_of a b r p = ap (λ t. t && (a.pos == b.pos)) (eq-eqb a.reg b.reg r) ∙ eq-eqb a.pos b.pos p
@@ -29,13 +20,6 @@ place_of a b r p = ap (λ t. t && (a.pos == b.pos)) (eq-eqb a.reg b.reg r) ∙ e
 pub or_none : (a b : Bool) → (a || b) ≡ false → (a ≡ false) × (b ≡ false)
 or_none true b e = absurd (false≢true (sym e))
 or_none false b e = (refl, e)
-
-pub or_first : (a b : Bool) → a ≡ true → (a || b) ≡ true
-or_first a b e = ap (λ t. t || b) e
-
-pub or_second : (a b : Bool) → b ≡ true → (a || b) ≡ true
-or_second true b e = refl
-or_second false b e = e
 
 -- any bit
 abbrev pub first : BitId
@@ -69,8 +53,8 @@ in_register : (b : BitId) (r k n : ℕ) → r ≡ b.reg → k ≤ b.pos → b.po
 in_register b r k zero e l u = absurd (omega (arith, l, u))
 in_register b r k (suc n) e l u =
     elim (cases_lt k b.pos) [
-      | inl below ↦ or_second (same_place b (record { reg = r; pos = k })) (list_any (same_place b) (bits_from r (suc k) n)) (in_register b r (suc k) n e (omega (arith, below)) (omega (arith, u)))
-      | inr here ↦ or_first (same_place b (record { reg = r; pos = k })) (list_any (same_place b) (bits_from r (suc k) n)) (place_of b (record { reg = r; pos = k }) (sym e) (omega (arith, l, here)))
+      | inl below ↦ or_right (same_place b (record { reg = r; pos = k })) (list_any (same_place b) (bits_from r (suc k) n)) (in_register b r (suc k) n e (omega (arith, below)) (omega (arith, u)))
+      | inr here ↦ or_left (same_place b (record { reg = r; pos = k })) (list_any (same_place b) (bits_from r (suc k) n)) (place_of b (record { reg = r; pos = k }) (sym e) (omega (arith, l, here)))
     ]
 
 -- a bit that is not has a register off the path

@@ -3,7 +3,7 @@ use Rattle.std.proofs.Common.{◌≡◌, ℕ, zero, suc, true, ◌+◌, List, []
 use Rattle.std.specs.Prelude.{◌&&◌, flat_map, option_map, unwrap_or}
 use Rattle.std.specs.List.{list_all, list_any}
 use Rattle.std.specs.Option.{option_and_then}
-use Rattle.std.proofs.lemmas.Bool.{false≢true}
+use Rattle.std.proofs.lemmas.Bool.{false≢true, or_left, or_right}
 use Rattle.std.proofs.lemmas.List.Folds.{list_any-append}
 use Rattle.net_graph.specs.declared.net.BitId.{BitId}
 use Rattle.net_graph.specs.declared.net.Mux.{Mux}
@@ -13,7 +13,7 @@ use Rattle.net_graph.specs.declared.net.Point.TheVariants.{Entry, Reg, Mux as Fr
 use Rattle.net_graph.specs.Path.{is_select, mux_source, reg_source, rows_of, same_place, trace}
 use Rattle.net_graph.specs.Signals.{Holds, hold_at, row_point, some_matches}
 use Rattle.svf_audit.specs.Audit.{has_row, path_of}
-use Rattle.svf_audit.proofs.Places.{or_first, or_second, place_of}
+use Rattle.svf_audit.proofs.Places.{place_of}
 
 -- two holds have these bits alike
 abbrev pub Alike : Holds → Holds → List BitId → Type 0
@@ -26,16 +26,16 @@ module _ (s t : Holds) where
   values_alike : (bits : List BitId) → Alike s t bits → map (hold_at s) bits ≡ map (hold_at t) bits
   values_alike [] e = refl
   values_alike (b ∷ bs) e =
-      ap (λ v. v ∷ map (hold_at s) bs) (e b (or_first (same_place b b) (list_any (same_place b) bs) (place_of b b refl refl)))
-      ∙ ap (λ vs. hold_at t b ∷ vs) (values_alike bs (λ c h. e c (or_second (same_place c b) (list_any (same_place c) bs) h)))
+      ap (λ v. v ∷ map (hold_at s) bs) (e b (or_left (same_place b b) (list_any (same_place b) bs) (place_of b b refl refl)))
+      ∙ ap (λ vs. hold_at t b ∷ vs) (values_alike bs (λ c h. e c (or_right (same_place c b) (list_any (same_place c) bs) h)))
 
   alike_first : (mux : Mux) (muxes : List Mux) → Alike s t (flat_map selects (mux ∷ muxes)) → Alike s t mux.select.items
   alike_first mux muxes e b h =
-      e b (list_any-append (same_place b) mux.select.items (flat_map selects muxes) ∙ or_first (list_any (same_place b) mux.select.items) (list_any (same_place b) (flat_map selects muxes)) h)
+      e b (list_any-append (same_place b) mux.select.items (flat_map selects muxes) ∙ or_left (list_any (same_place b) mux.select.items) (list_any (same_place b) (flat_map selects muxes)) h)
 
   alike_rest : (mux : Mux) (muxes : List Mux) → Alike s t (flat_map selects (mux ∷ muxes)) → Alike s t (flat_map selects muxes)
   alike_rest mux muxes e b h =
-      e b (list_any-append (same_place b) mux.select.items (flat_map selects muxes) ∙ or_second (list_any (same_place b) mux.select.items) (list_any (same_place b) (flat_map selects muxes)) h)
+      e b (list_any-append (same_place b) mux.select.items (flat_map selects muxes) ∙ or_right (list_any (same_place b) mux.select.items) (list_any (same_place b) (flat_map selects muxes)) h)
 
   alike_at : (muxes : List Mux) (m : ℕ) → Alike s t (flat_map selects muxes) → Alike s t (get_or (map selects muxes) m [])
   alike_at [] m e b h = absurd (false≢true h)

@@ -5,6 +5,7 @@ use Rattle.std.proofs.lemmas.Bool.{cases_lt}
 use Rattle.std.proofs.lemmas.List.{get_or-set_same, get_or-set_other, set-set, set_comm, drop-set-lt, drop-set-add, take-set-le, drop_more, drop-drop, drop_all, take_all, take_more, take_more_set, length-drop, length-take}
 use Rattle.std.proofs.Math.Seq.{take-set-lt}
 use Rattle.ij_bits.specs.BitLists.{number_of, same_bit}
+use Rattle.ij_bits.proofs.SameBits.{same_self}
 use Rattle.net_graph.specs.declared.net.BitId.{BitId}
 use Rattle.net_graph.specs.Chain.{NotIn, IsRoute, chain, put_chain}
 use Rattle.net_graph.specs.Held.{set_hold}
@@ -96,10 +97,6 @@ pub any_default : {A : Type 0} (xs : List A) (k : ℕ) (d e : A) → k < length 
 any_default [] k d e l = absurd (omega (arith, l))
 any_default (x ∷ xs) zero d e l = refl
 any_default (x ∷ xs) (suc k) d e l = any_default xs k d e (omega (arith, l))
-
-same_self : (a : Bool) → same_bit a a ≡ true
-same_self true = refl
-same_self false = refl
 
 -- where nothing changes over some positions
 pub skips_all : (n : ℕ) (bits : List BitId) (before now : List Bool) → take n before ≡ take n now → n ≤ length bits → n ≤ length before → n ≤ length now → differing bits before now ≡ differing (drop n bits) (drop n before) (drop n now)

@@ -1,18 +1,21 @@
 // Whether SVF does what bit steps ask for.
-ghost use Rattle.std.specs.Prelude.{◌≡◌, ◌<◌, ◌^◌, ◌∷◌, [], All, map, IfOk};
+ghost use Rattle.std.specs.Prelude.{◌≡◌, ◌+◌, ◌<◌, ◌^◌, ◌∷◌, [], All, map, IfErr, IfOk, OnOk};
 ghost use Rattle.net_graph.specs.Nets.{IsNet};
 ghost use Rattle.net_graph.specs.SeenSteps.{seen_step};
 ghost use Rattle.net_graph.specs.Steps.{IsStep};
+ghost use Rattle.svf_writer.specs.Fits.{AreFitAfter};
 ghost use Rattle.svf_writer.specs.SeenCommands.{seen_command};
 ghost use Rattle.tap_machine.specs.Play.{scans_in};
-ghost use Rattle.svf_audit.specs.Audit.{Says, audit};
-ghost use Rattle.svf_audit.specs.Auditing.{Ends, IsAuditor, IsNo};
+ghost use Rattle.svf_audit.specs.Audit.{Says, audit, audit_from};
+ghost use Rattle.svf_audit.specs.Auditing.{AreNoted, Ends, IsAuditor, IsNo, state_of};
+ghost use Rattle.svf_audit.specs.Kept.{last_length};
 
 use crate::answer::{Audit, Cause};
 use crate::auditor::{Auditor, Halt};
 use ij_bits::{List, OutOfMemory};
 use net_graph::{BitStep, Device, Net};
 use std::alloc::Global;
+use std::mem::swap;
 use svf_writer::{Command, Commands};
 
 /// How many scans a command is.
@@ -27,13 +30,14 @@ fn scans_of(command: &Command) -> u32
 }
 
 /// What comes of the audit behind all commands.
-fn end(auditor: Auditor<'_>) -> Audit
-    requires { IsAuditor auditor }
-    ensures { Ends result auditor.entry }
+fn end(alloc: Global, auditor: &mut Auditor<'_>) -> Audit
+    requires { IsAuditor auditor.old }
+    ensures { Ends result auditor.old }
 {
-    let mut auditor = auditor;
     if auditor.is_done() {
-        Audit::Yes(auditor.readings)
+        let mut readings = List::new(alloc);
+        swap(&mut readings, &mut auditor.readings);
+        Audit::Yes(readings)
     } else {
         Audit::No {
             scan: auditor.scans,
@@ -49,6 +53,53 @@ fn stopped(halt: Halt, scan: u32) -> Result<Audit, OutOfMemory>
     match halt {
         Halt::OutOfMemory => Err(OutOfMemory),
         Halt::Cause(cause) => Ok(Audit::No { scan, cause }),
+    }
+}
+
+/// Why an audit goes no further, and how many scans there are up to there.
+#[derive(Clone, Copy, Drop)]
+pub(crate) struct Stop {
+    pub halt: Halt,
+    pub scan: u32,
+}
+
+/// Takes all commands, one after the other, as far as the audit goes.
+fn step_all<'a>(auditor: &mut Auditor<'a>, commands: &'a Commands) -> Result<(), Stop>
+    requires sound { IsAuditor auditor.old }
+    requires noted { AreNoted auditor.old [] }
+    requires fit { AreFitAfter (last_length auditor.old.ir) (last_length auditor.old.dr) commands.now }
+    requires few { auditor.old.scans + scans_in commands.now < 2 ^ 32 }
+    ensures sound { OnOk result (IsAuditor auditor.new) }
+    ensures ok { OnOk result ((answer : Audit) → Ends answer auditor.new → Says answer (audit_from auditor.old.registers.net.now auditor.old.device.now (state_of auditor.old []) commands.now)) }
+    ensures err { IfErr result (λ s. (answer : Audit) → IsNo s.halt s.scan answer → Says answer (audit_from auditor.old.registers.net.now auditor.old.device.now (state_of auditor.old []) commands.now)) }
+{
+    for i in 0..commands.len() {
+        let command = commands.get(i);
+        if let Err(halt) = auditor.step(command) {
+            return Err(Stop {
+                halt,
+                scan: auditor.scans + scans_of(command),
+            });
+        }
+    }
+    Ok(())
+}
+
+/// Takes all commands, and answers what comes of the audit.
+fn audited<'a>(
+    alloc: Global,
+    auditor: &mut Auditor<'a>,
+    commands: &'a Commands,
+) -> Result<Audit, OutOfMemory>
+    requires sound { IsAuditor auditor.old }
+    requires noted { AreNoted auditor.old [] }
+    requires fit { AreFitAfter (last_length auditor.old.ir) (last_length auditor.old.dr) commands.now }
+    requires few { auditor.old.scans + scans_in commands.now < 2 ^ 32 }
+    ensures { IfOk result (λ answer. Says answer (audit_from auditor.old.registers.net.now auditor.old.device.now (state_of auditor.old []) commands.now)) }
+{
+    match step_all(auditor, commands) {
+        Ok(()) => Ok(end(alloc, auditor)),
+        Err(stop) => stopped(stop.halt, stop.scan),
     }
 }
 
@@ -73,11 +124,8 @@ pub fn audit_svf(
     // Its contract says that the commands can be played.
     let _count = commands.len();
     let mut auditor = Auditor::new(alloc, net, device, steps)?;
-    for i in 0..commands.len() {
-        let command = commands.get(i);
-        if let Err(halt) = auditor.step(command) {
-            return stopped(halt, auditor.scans + scans_of(command));
-        }
-    }
-    Ok(end(auditor))
+    let answer = audited(alloc, &mut auditor, commands);
+    // What is let go of is let go of by a call: the prover goes through its parts once.
+    drop(auditor);
+    answer
 }

@@ -132,8 +132,8 @@ impl<'a> Auditor<'a> {
         ensures ir { IfOk result (λ a. last_length a.ir ≡ None) }
         ensures dr { IfOk result (λ a. last_length a.dr ≡ None) }
     {
-        let registers = Registers::new(alloc, net)?;
         let marks = blank_marks(alloc, net)?;
+        let registers = Registers::new(alloc, net)?;
         Ok(Auditor {
             device,
             registers,

@@ -148,6 +148,63 @@ fn room_for_bits(alloc: Global) -> Result<List<BitId>, OutOfMemory>
     Ok(bits)
 }
 
+/// What the registers hold at power-up, twice.
+#[derive(Drop)]
+struct TwoHolds {
+    first: Holds,
+    second: Holds,
+}
+
+/// What the registers of a network hold at power-up, twice.
+fn power_up(alloc: Global, net: &Net) -> Result<TwoHolds, OutOfMemory>
+    requires { IsNet net.now }
+    ensures first { IfOk result (λ h. h.first ≡ start_holds net.now) }
+    ensures second { IfOk result (λ h. h.second ≡ start_holds net.now) }
+{
+    let first = Holds::power_up(alloc, net)?;
+    match Holds::power_up(alloc, net) {
+        Ok(second) => Ok(TwoHolds { first, second }),
+        Err(fault) => {
+            drop(first);
+            Err(fault)
+        }
+    }
+}
+
+/// Room for two paths, and for the bits of every path.
+#[derive(Drop)]
+struct Rooms {
+    path: List<u32>,
+    next: List<u32>,
+    bits: Vec<BitId>,
+    chain: Bits,
+    moved: List<BitId>,
+}
+
+/// Room for two paths of so many registers, and for the bits of every path.
+fn room_for_all(alloc: Global, n: usize) -> Result<Rooms, OutOfMemory>
+    ensures path { IfOk result (λ r. n ≤ length r.path.items + r.path.spare) }
+    ensures no_path { IfOk result (λ r. r.path.items ≡ []) }
+    ensures next { IfOk result (λ r. n ≤ length r.next.items + r.next.spare) }
+    ensures bits { IfOk result (λ r. 4096 ≤ vec_capacity r.bits) }
+    ensures no_bits { IfOk result (λ r. r.bits.items ≡ []) }
+    ensures chain { IfOk result (λ r. 4096 ≤ length r.chain.items + r.chain.spare) }
+    ensures moved { IfOk result (λ r. 4096 ≤ length r.moved.items + r.moved.spare) }
+{
+    let path = room_for_path(alloc, n)?;
+    let next = room_for_path(alloc, n)?;
+    let bits = Vec::with_capacity(alloc, MOST_BITS as usize)?;
+    let chain = Bits::with_room(alloc, MOST_BITS)?;
+    let moved = room_for_bits(alloc)?;
+    Ok(Rooms {
+        path,
+        next,
+        bits,
+        chain,
+        moved,
+    })
+}
+
 impl<'a> Registers<'a> {
     /// The registers at power-up.
     pub fn new(alloc: Global, net: &'a Net) -> Result<Registers<'a>, OutOfMemory>
@@ -158,25 +215,20 @@ impl<'a> Registers<'a> {
         ensures still { IfOk result AreStill }
     {
         let selects = selects_of(alloc, net)?;
-        let holds = Holds::power_up(alloc, net)?;
-        let path = room_for_path(alloc, net.regs.len())?;
-        let next = room_for_path(alloc, net.regs.len())?;
-        let bits = Vec::with_capacity(alloc, MOST_BITS as usize)?;
-        let chain = Bits::with_room(alloc, MOST_BITS)?;
-        let after = Holds::power_up(alloc, net)?;
-        let moved = room_for_bits(alloc)?;
+        let holds = power_up(alloc, net)?;
+        let rooms = room_for_all(alloc, net.regs.len())?;
         Ok(Registers {
             net,
             selects,
-            holds,
-            path,
-            next,
-            bits,
-            chain,
+            holds: holds.first,
+            path: rooms.path,
+            next: rooms.next,
+            bits: rooms.bits,
+            chain: rooms.chain,
             found: false,
             listed: false,
-            after,
-            moved,
+            after: holds.second,
+            moved: rooms.moved,
         })
     }
 

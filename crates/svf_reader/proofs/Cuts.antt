@@ -52,9 +52,6 @@ shown false b rest t =
     let other : (b == 59) ≡ false = grind (arith, nat_tests) in
     ap (λ k. cond k ([] ∷ texts rest) (in_front b (texts rest))) other
 
-Cut : Bool → List ℕ → ℕ → Type 0
-Cut inside text n = texts (plain_from inside text) ≡ plain_from inside (take n text) ∷ texts (plain (drop (suc n) text))
-
 cut_at : (inside : Bool) (b : ℕ) (bs : List ℕ) (h t : Bool) (n : ℕ) → in_comment inside b (first bs) ≡ h → (h || not (b == 59)) ≡ t → cond t (suc (run_length Command h bs)) 0 ≡ n → n < suc (length bs)
     → ((m : ℕ) → run_length Command h bs ≡ m → m < length bs → texts (plain_from h bs) ≡ plain_from h (take m bs) ∷ texts (plain (drop (suc m) bs)))
     → texts (cond h 32 b ∷ plain_from h bs) ≡ plain_from inside (take n (b ∷ bs)) ∷ texts (plain (drop (suc n) (b ∷ bs)))

@@ -9,7 +9,7 @@ use Rattle.svf_reader.specs.Commands.{SeenParsed, Scans, ToReset, ToIdle, Runs, 
 use Rattle.svf_reader.specs.Texts.{words, behind_word, texts, plain, blanks}
 use Rattle.svf_writer.specs.Clocks.{clocks_from}
 use Rattle.svf_reader.specs.Meaning.{Cause, SvfLimit, SvfSyntax, HexWide, TdiMissing, LeftOut, Refusal, Step, at_first, with_length, last_length, with_leaving_clock, scan_clocks, within_clock_limit, any_wide, tdi_missing, scan_with, scan_command, scanned, effect_of, if_parsed, unless_left_out, read_command, listed, in_front_of, at_end, and_then, read_from, svf}
-use Rattle.svf_reader.specs.Scripts.{ReadCommandsAreFew}
+use Rattle.svf_reader.specs.Scripts.{ReadCommandsAreWithinLimits}
 
 -- ---- one command
 
@@ -132,6 +132,6 @@ read_few (t ∷ []) kept at cs few e = end_few kept (words t) (read_command kept
 read_few (t ∷ (u ∷ us)) kept at cs few e =
     then_few kept (read_command kept true t) (at + blanks t) (λ next. read_from next (suc (at + length t)) (u ∷ us)) cs few (λ step is. comes_counts kept true t step is) (λ k ds less is. read_few (u ∷ us) k (suc (at + length t)) ds less is) e
 
-pub read_commands_are_few : ReadCommandsAreFew
+pub read_commands_are_within_limits : ReadCommandsAreWithinLimits
 unfolding svf
-read_commands_are_few src cs e = let all = read_few (texts (plain src)) at_first 0 cs (omega arith) e in omega (arith, all)
+read_commands_are_within_limits src cs e = let all = read_few (texts (plain src)) at_first 0 cs (omega arith) e in omega (arith, all)

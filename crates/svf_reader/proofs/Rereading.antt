@@ -292,15 +292,15 @@ module _ (name : List ℕ) (register : Register)
       let s : SeenScan = record { len = len; tdi = Some a; tdo = None; mask = None; smask = None } in
       record {
         parsed_is = Scans register len (written_parts (Some a) None None);
-        spelled = scan_spelled name register first reads scans quiet_name starts s (written_parts (Some a) None None) h.some_bits h.few_bits refl (one_part_read len a h.some_bits h.tdi);
-        does = λ kept. scan_done kept register len a None None h.few_bits h.tdi tt tt ∙ same kept s;
+        spelled = scan_spelled name register first reads scans quiet_name starts s (written_parts (Some a) None None) h.at_least_one_bit h.bits_within_limit refl (one_part_read len a h.at_least_one_bit h.tdi);
+        does = λ kept. scan_done kept register len a None None h.bits_within_limit h.tdi tt tt ∙ same kept s;
       }
   scan_read len (Some a) (Some o) (Some m) None h =
       let s : SeenScan = record { len = len; tdi = Some a; tdo = Some o; mask = Some m; smask = None } in
       record {
         parsed_is = Scans register len (written_parts (Some a) (Some o) (Some m));
-        spelled = scan_spelled name register first reads scans quiet_name starts s (written_parts (Some a) (Some o) (Some m)) h.some_bits h.few_bits refl (three_parts_read len a o m h.some_bits h.tdi h.tdo h.mask);
-        does = λ kept. scan_done kept register len a (Some o) (Some m) h.few_bits h.tdi h.tdo h.mask ∙ same kept s;
+        spelled = scan_spelled name register first reads scans quiet_name starts s (written_parts (Some a) (Some o) (Some m)) h.at_least_one_bit h.bits_within_limit refl (three_parts_read len a o m h.at_least_one_bit h.tdi h.tdo h.mask);
+        does = λ kept. scan_done kept register len a (Some o) (Some m) h.bits_within_limit h.tdi h.tdo h.mask ∙ same kept s;
       }
 
 pub command_read : (c : SeenCommand) → IsWrittenCommand c → ReadAs (text_of c) c

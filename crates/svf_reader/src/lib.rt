@@ -16,6 +16,7 @@ mod words;
 
 pub use fault::SvfFault;
 pub use laws::{
-    commands_are_read_again, read_commands_are_few, read_commands_fit, scripts_are_read_again,
+    commands_are_read_again, read_commands_are_within_limits, read_commands_fit,
+    scripts_are_read_again,
 };
 pub use reading::read_svf;

@@ -125,9 +125,10 @@ fn within_clock_limit(
 {
     let clocks = u64::from(kept.clocks) + n;
     if clocks > u64::from(CLOCK_LIMIT) {
+        drop(command);
         return Err(SvfCause::SvfLimit);
     }
-    *out = Some(command);
+    drop(out.replace(command));
     let clocks = clocks as u32;
     Ok(ReadSoFar {
         in_reset,
@@ -154,6 +155,7 @@ fn scanned(
     let len = len as u32;
     let scan = scan_with(alloc, len, parts)?;
     if tdi_missing(last_length(register, kept), len, parts) {
+        drop(scan);
         return Err(SvfCause::TdiMissing);
     }
     let clocks = with_leaving_clock(kept, scan_clocks(register, len));
@@ -215,7 +217,7 @@ fn effect_of(
         }
         Parsed::Run(cycles) => run(kept, cycles, out),
         Parsed::Nothing => {
-            *out = None;
+            drop(out.take());
             Ok(kept)
         }
     }

@@ -67,6 +67,48 @@ fn add(commands: &mut Commands, out: &mut Option<Command>) -> Result<(), OutOfMe
     Ok(())
 }
 
+/// Adds the commands of a text to none, or answers its refusal. Each command comes by way of `command`.
+fn read_into(
+    alloc: Global,
+    src: &[u8],
+    commands: &mut Commands,
+    command: &mut Option<Command>,
+) -> Result<(), SvfFault>
+    requires short { length src.now ≤ SVF_LIMIT }
+    requires none { commands.old ≡ [] }
+    ensures ok { OnOk result (svf src.now ≡ Ok commands.new) }
+    ensures fault { IfErr result (λ fault. Refuses src.now fault) }
+{
+    let mut kept = ReadSoFar {
+        ir: None,
+        dr: None,
+        in_reset: true,
+        clocks: 0,
+    };
+    let mut rest = src;
+    while let Some(next) = next_text(rest) {
+        kept = match read_command(alloc, kept, true, next.piece, command) {
+            Ok(kept) => kept,
+            Err(refused) => {
+                let at = command_place(src, rest.len(), next.piece);
+                return Err(refused_at(refused, at));
+            }
+        };
+        add(commands, command)?;
+        rest = next.rest;
+    }
+    match next_word(rest) {
+        None => Ok(()),
+        Some(_) => match read_command(alloc, kept, false, rest, command) {
+            Ok(_) => Ok(()),
+            Err(refused) => {
+                let at = command_place(src, rest.len(), rest);
+                Err(refused_at(refused, at))
+            }
+        },
+    }
+}
+
 /// The commands of a text, or its refusal.
 fn read(alloc: Global, src: &[u8]) -> Result<Commands, SvfFault>
     requires { length src.now ≤ SVF_LIMIT }
@@ -74,34 +116,15 @@ fn read(alloc: Global, src: &[u8]) -> Result<Commands, SvfFault>
     ensures fault { IfErr result (λ fault. Refuses src.now fault) }
 {
     let mut commands = Commands::new(alloc);
-    let mut kept = ReadSoFar {
-        ir: None,
-        dr: None,
-        in_reset: true,
-        clocks: 0,
-    };
     let mut command = None;
-    let mut rest = src;
-    while let Some(next) = next_text(rest) {
-        kept = match read_command(alloc, kept, true, next.piece, &mut command) {
-            Ok(kept) => kept,
-            Err(refused) => {
-                let at = command_place(src, rest.len(), next.piece);
-                return Err(refused_at(refused, at));
-            }
-        };
-        add(&mut commands, &mut command)?;
-        rest = next.rest;
-    }
-    match next_word(rest) {
-        None => Ok(commands),
-        Some(_) => match read_command(alloc, kept, false, rest, &mut command) {
-            Ok(_) => Ok(commands),
-            Err(refused) => {
-                let at = command_place(src, rest.len(), rest);
-                Err(refused_at(refused, at))
-            }
-        },
+    let read = read_into(alloc, src, &mut commands, &mut command);
+    drop(command);
+    match read {
+        Ok(()) => Ok(commands),
+        Err(fault) => {
+            drop(commands);
+            Err(fault)
+        }
     }
 }
 

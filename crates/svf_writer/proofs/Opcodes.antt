@@ -10,7 +10,7 @@ use Rattle.svf_writer.specs.Written.{hex_lines}
 half_again : (n d : ℕ) → n / 2 / 2 ^ d ≡ n / 2 ^ suc d
 half_again n d = let one : 1 + d ≡ suc d = omega arith in shr-shr n 1 d ∙ ap (λ k. n / 2 ^ k) one
 
-half_fits : (n w : ℕ) → n < 2 ^ suc w → n / 2 < 2 ^ w
+pub half_fits : (n w : ℕ) → n < 2 ^ suc w → n / 2 < 2 ^ w
 half_fits n w fits = omega (arith, pow-suc 2 w)
 
 -- the bits from d on are those of the number without its lowest d bits
@@ -40,7 +40,7 @@ pub bits_of-length : (width n : ℕ) → length (bits_of width n) ≡ width
 bits_of-length zero n = refl
 bits_of-length (suc width) n = ap suc (bits_of-length width (n / 2))
 
-low_bit : (n : ℕ) (bits : List Bool) → number_of (((n % 2) == 1) ∷ bits) ≡ n % 2 + 2 * number_of bits
+pub low_bit : (n : ℕ) (bits : List Bool) → number_of (((n % 2) == 1) ∷ bits) ≡ n % 2 + 2 * number_of bits
 low_bit n bits = grind (arith, nat_tests)
 
 -- the lowest k bits, of a number that fits its bits

@@ -241,8 +241,8 @@ with_memory b name depth width s h f =
     positive (suc n) h = omega arith
 
 -- a word that is there has bits
-some_bits : (m : SeenModel) (name : List ℕ) → All IsWord m.words → is_some (word_named m name) ≡ true → 1 ≤ word_width m (unwrap_or (word_named m name) 0)
-some_bits m name each h =
+at_least_one_bit : (m : SeenModel) (name : List ℕ) → All IsWord m.words → is_some (word_named m name) ≡ true → 1 ≤ word_width m (unwrap_or (word_named m name) 0)
+at_least_one_bit m name each h =
     let within = (there name (map (λ d. d.name) m.words) h).within in
     at_number m.words (unwrap_or (word_named m name) 0) each (omega (arith, within, length-map m.words (λ d. d.name)))
   where
@@ -292,7 +292,7 @@ with_output b name s h f =
       memory = h.model.memory;
       ins = h.model.ins;
       outs = All-push (IsOut new) m.outs out (outs_as m new refl refl refl m.outs h.model.outs)
-          (new_out m new name s.word s.bounds refl (some_bits m s.word h.model.words known) f.width);
+          (new_out m new name s.word s.bounds refl (at_least_one_bit m s.word h.model.words known) f.width);
       change = none_of (IsRow new) m.change (h.change early);
       run = none_of (IsRow new) m.run (h.run (omega (arith, early)));
       runs = h.model.runs;
@@ -445,7 +445,7 @@ record AreFormed (t : Tables) : Type 0 where
   tables : All (λ t. IsModel t.model) t.tables
   block : IfSome t.block IsFormed
 
-in_both : {A : Type 0} (P : A → Type 0) (b : Bool) (x y : Result A TableFault) → IfOk x P → IfOk y P → IfOk (cond b x y) P
+pub in_both : {A : Type 0} (P : A → Type 0) (b : Bool) (x y : Result A TableFault) → IfOk x P → IfOk y P → IfOk (cond b x y) P
 in_both P true x y hx hy = hx
 in_both P false x y hx hy = hy
 
@@ -463,7 +463,7 @@ ended : (end : Place) (ts : List SeenTable) (b : Option Block) → All (λ t. Is
 ended end ts None all = all
 ended end ts (Some b) all = tt
 
-then : {A B : Type 0} (P : A → Type 0) (Q : B → Type 0) (r : Result A TableFault) (next : A → Result B TableFault) → IfOk r P → ((a : A) → P a → IfOk (next a) Q) → IfOk (and_then r next) Q
+pub then : {A B : Type 0} (P : A → Type 0) (Q : B → Type 0) (r : Result A TableFault) (next : A → Result B TableFault) → IfOk r P → ((a : A) → P a → IfOk (next a) Q) → IfOk (and_then r next) Q
 then P Q (Ok a) next h k = k a h
 then P Q (Err fault) next h k = tt
 

@@ -24,7 +24,7 @@ fn operand_of(m: &Model, name: &[u8]) -> Operand
 }
 
 /// The width of what a condition compares.
-fn few_bits(m: &Model, c: &SaidCond) -> u32
+fn compared_width(m: &Model, c: &SaidCond) -> u32
     requires words { length m.now.words.items ≤ 8 }
     requires ins { length m.now.ins.items ≤ 16 }
     requires narrow { AreNarrow (seen_model m.now) }
@@ -41,7 +41,7 @@ fn cond_said(m: &Model, c: &SaidCond) -> Cond
     requires narrow { AreNarrow (seen_model m.now) }
     ensures { result ≡ cond_said (seen_model m.now) (seen_cond c.now) }
 {
-    let width = few_bits(m, c);
+    let width = compared_width(m, c);
     Cond {
         of: known(cond_operand(m, c)),
         value: value_in(&c.number, width),

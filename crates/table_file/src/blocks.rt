@@ -1,5 +1,6 @@
 // The blocks of a table file, line by line.
-ghost use Rattle.std.specs.Prelude.{◌≡◌, ◌+◌, ◌^◌, ◌<◌, ◌≤◌, ◌++◌, ◌∷◌, [], List, map, length, IfOk, Ok, Some};
+ghost use Rattle.std.specs.Prelude.{◌≡◌, ◌+◌, ◌^◌, ◌<◌, ◌≤◌, ◌++◌, ◌∷◌, [], List, map, length, is_some, option_map, IfOk, IfSome, OnOk, MatchOption, Ok, Err, None, Some, false};
+ghost use Rattle.ij_text.specs.Numbering.{number_in};
 ghost use Rattle.ij_text.specs.declared.Place.{Place};
 ghost use Rattle.instruments.specs.Seen.{seen_model};
 ghost use Rattle.bench_lines.specs.Lines.{split};
@@ -7,8 +8,8 @@ ghost use Rattle.bench_lines.specs.Reading.{texts};
 ghost use Rattle.table_lines.specs.Said.{instrument};
 ghost use Rattle.table_lines.specs.SeenSaid.{seen_said};
 ghost use Rattle.table_file.specs.Small.{IsSmall};
-ghost use Rattle.table_file.specs.Answers.{GivesBlock, GivesTable, IsSoFar, seen_block, seen_so_far};
-ghost use Rattle.table_file.specs.Tables.{empty, seen_table, after_line, block_line, new_block, put_block, next_line};
+ghost use Rattle.table_file.specs.Answers.{GivesBlock, GivesTable, IsSoFar, open_path, seen_block, seen_so_far};
+ghost use Rattle.table_file.specs.Tables.{empty, seen_table, rank, width_fault, limit_fault, with_line, after_line, block_line, new_block, put_block, next_line};
 
 use crate::fault::TableFault;
 use crate::growing::with_line;
@@ -63,6 +64,20 @@ fn names_of(alloc: Global, words: &[&[u8]]) -> Result<List<Name>, OutOfMemory>
     Ok(names)
 }
 
+/// Enters the path of a block; `true` where it stood there before.
+fn enter(alloc: Global, paths: &mut Names, text: &[u8]) -> Result<bool, OutOfMemory>
+    requires { length paths.old + 1 < 2 ^ 32 }
+    ensures value { IfOk result (λ twice. twice ≡ is_some (number_in paths.old text.now)) }
+    ensures paths { IfOk result (λ twice. twice ≡ false → paths.new ≡ paths.old ++ text.now ∷ []) }
+{
+    let name = to_name(alloc, text)?;
+    if paths.find(&name).is_some() {
+        return Ok(true);
+    }
+    paths.intern(&name)?;
+    Ok(false)
+}
+
 /// A block of a new path.
 fn new_block(
     alloc: Global,
@@ -79,11 +94,9 @@ fn new_block(
     let Some(path) = instrument(alloc, words)? else {
         return Err(TableFault::TableSyntax { at });
     };
-    let text = to_name(alloc, path.text)?;
-    if paths.find(&text).is_some() {
+    if enter(alloc, paths, path.text)? {
         return Err(TableFault::TableTwice { at });
     }
-    paths.intern(&text)?;
     Ok(Block {
         path: names_of(alloc, &path.names)?,
         at,
@@ -92,47 +105,53 @@ fn new_block(
     })
 }
 
-/// A block with one more line.
-fn after_line(alloc: Global, at: Place, b: Block, l: &SaidLine) -> Result<Block, TableFault>
-    requires { IsSmall (seen_model b.model) }
-    ensures value { GivesTable seen_block result (after_line at (seen_block b) (seen_said l.now)) }
-    ensures path { IfOk result (λ after. (seen_block after).path ≡ (seen_block b).path) }
-    ensures small { IfOk result (λ after. IsSmall (seen_model after.model)) }
+/// What is at fault in a line of a block.
+fn line_fault(at: Place, b: &Block, l: &SaidLine) -> Option<TableFault>
+    requires { IsSmall (seen_model b.now.model) }
+    ensures value { MatchOption result (after_line at (seen_block b.now) (seen_said l.now) ≡ Ok (record (seen_block b.now) { rank = rank (seen_said l.now); model = with_line (seen_model b.now.model) (seen_said l.now) })) (λ fault. after_line at (seen_block b.now) (seen_said l.now) ≡ Err fault) }
+    ensures width { result ≡ None → width_fault (seen_model b.now.model) (seen_said l.now) ≡ false }
+    ensures limit { result ≡ None → limit_fault (seen_model b.now.model) (seen_said l.now) ≡ false }
 {
-    let rank = rank(l);
-    if rank < b.rank {
-        return Err(TableFault::TableSyntax { at });
+    if rank(l) < b.rank {
+        return Some(TableFault::TableSyntax { at });
     }
     if name_fault(&b.model, l) {
-        return Err(TableFault::TableName { at });
+        return Some(TableFault::TableName { at });
     }
     if width_fault(&b.model, l) {
-        return Err(TableFault::TableWidth { at });
+        return Some(TableFault::TableWidth { at });
     }
     if limit_fault(&b.model, l) {
-        return Err(TableFault::TableLimit { at });
+        return Some(TableFault::TableLimit { at });
     }
-    let mut model = b.model;
-    with_line(alloc, &mut model, l)?;
-    Ok(Block {
-        path: b.path,
-        at: b.at,
-        rank,
-        model,
-    })
+    None
+}
+
+/// Adds a line to a block.
+fn after_line(alloc: Global, at: Place, b: &mut Block, l: &SaidLine) -> Result<(), TableFault>
+    requires { IsSmall (seen_model b.old.model) }
+    ensures value { GivesTable (λ _. seen_block b.new) result (after_line at (seen_block b.old) (seen_said l.now)) }
+    ensures path { OnOk result ((seen_block b.new).path ≡ (seen_block b.old).path) }
+    ensures small { OnOk result (IsSmall (seen_model b.new.model)) }
+{
+    if let Some(fault) = line_fault(at, b, l) {
+        return Err(fault);
+    }
+    b.rank = rank(l);
+    Ok(with_line(alloc, &mut b.model, l)?)
 }
 
 fn block_line(
     alloc: Global,
     second: bool,
-    b: Block,
+    b: &mut Block,
     at: Place,
     words: &[&[u8]],
-) -> Result<Block, TableFault>
-    requires { IsSmall (seen_model b.model) }
-    ensures value { GivesTable seen_block result (block_line second (seen_block b) (record { at = at; words = texts words.now })) }
-    ensures path { IfOk result (λ after. (seen_block after).path ≡ (seen_block b).path) }
-    ensures small { IfOk result (λ after. IsSmall (seen_model after.model)) }
+) -> Result<(), TableFault>
+    requires { IsSmall (seen_model b.old.model) }
+    ensures value { GivesTable (λ _. seen_block b.new) result (block_line second (seen_block b.old) (record { at = at; words = texts words.now })) }
+    ensures path { OnOk result ((seen_block b.new).path ≡ (seen_block b.old).path) }
+    ensures small { OnOk result (IsSmall (seen_model b.new.model)) }
 {
     match line(alloc, second, words)? {
         Some(l) => after_line(alloc, at, b, &l),
@@ -140,94 +159,78 @@ fn block_line(
     }
 }
 
-/// The line `end` makes a table of a block.
-fn put_block(paths: Names, tables: List<Table>, b: Block) -> Result<SoFar, OutOfMemory>
-    requires listed { map (split 46) paths ≡ map (λ t. t.path) (map seen_table tables.items) ++ (seen_block b).path ∷ [] }
-    requires small { IsSmall (seen_model b.model) }
-    ensures value { IfOk result (λ so_far. put_block (map seen_table tables.items) (Ok (seen_block b)) ≡ Ok (seen_so_far so_far)) }
-    ensures still { IfOk result (λ so_far. IsSoFar so_far) }
-    ensures paths { IfOk result (λ so_far. so_far.paths ≡ paths) }
+/// The line `end` makes a table of a block; a block that goes on is given back.
+fn put_block(tables: &mut List<Table>, b: Block) -> Result<Option<Block>, OutOfMemory>
+    ensures value { IfOk result (λ left. put_block (map seen_table tables.old.items) (Ok (seen_block b)) ≡ Ok (record { tables = map seen_table tables.new.items; block = option_map seen_block left })) }
+    ensures paths { IfOk result (λ left. map (λ t. t.path) (map seen_table tables.new.items) ++ open_path left ≡ map (λ t. t.path) (map seen_table tables.old.items) ++ (seen_block b).path ∷ []) }
+    ensures same { IfOk result (λ left. IfSome left (λ o. o ≡ b)) }
 {
-    let mut tables = tables;
-    if b.rank == 6 {
-        tables.push(Table {
-            path: b.path,
-            at: b.at,
-            model: b.model,
-        })?;
-        return Ok(SoFar {
-            paths,
-            tables,
-            block: None,
-        });
+    if b.rank != 6 {
+        return Ok(Some(b));
     }
-    Ok(SoFar {
-        paths,
-        tables,
-        block: Some(b),
-    })
+    tables.push(Table {
+        path: b.path,
+        at: b.at,
+        model: b.model,
+    })?;
+    Ok(None)
 }
 
 /// The line that begins a block.
 fn first_line(
     alloc: Global,
-    paths: Names,
-    tables: List<Table>,
+    so_far: &mut SoFar,
     at: Place,
     words: &[&[u8]],
-) -> Result<SoFar, TableFault>
-    requires listed { map (split 46) paths ≡ map (λ t. t.path) (map seen_table tables.items) }
-    requires few { length paths + 1 < 2 ^ 32 }
-    ensures value { GivesTable seen_so_far result (put_block (map seen_table tables.items) (new_block at (map seen_table tables.items) (instrument (texts words.now)))) }
-    ensures still { IfOk result (λ so_far. IsSoFar so_far) }
-    ensures more { IfOk result (λ so_far. length so_far.paths ≤ length paths + 1) }
+) -> Result<(), TableFault>
+    requires listed { map (split 46) so_far.old.paths ≡ map (λ t. t.path) (map seen_table so_far.old.tables.items) }
+    requires few { length so_far.old.paths + 1 < 2 ^ 32 }
+    ensures value { GivesTable (λ _. seen_so_far so_far.new) result (put_block (map seen_table so_far.old.tables.items) (new_block at (map seen_table so_far.old.tables.items) (instrument (texts words.now)))) }
+    ensures still { OnOk result (IsSoFar so_far.new) }
+    ensures more { OnOk result (length so_far.new.paths ≤ length so_far.old.paths + 1) }
 {
-    let mut paths = paths;
-    let block = new_block(alloc, &mut paths, at, words)?;
-    Ok(put_block(paths, tables, block)?)
+    let block = new_block(alloc, &mut so_far.paths, at, words)?;
+    so_far.block = put_block(&mut so_far.tables, block)?;
+    Ok(())
 }
 
 /// One more line of a block.
 fn more_lines(
     alloc: Global,
     second: bool,
-    paths: Names,
-    tables: List<Table>,
+    so_far: &mut SoFar,
     block: Block,
     at: Place,
     words: &[&[u8]],
-) -> Result<SoFar, TableFault>
-    requires listed { map (split 46) paths ≡ map (λ t. t.path) (map seen_table tables.items) ++ (seen_block block).path ∷ [] }
+) -> Result<(), TableFault>
+    requires listed { map (split 46) so_far.old.paths ≡ map (λ t. t.path) (map seen_table so_far.old.tables.items) ++ (seen_block block).path ∷ [] }
     requires small { IsSmall (seen_model block.model) }
-    ensures value { GivesTable seen_so_far result (put_block (map seen_table tables.items) (block_line second (seen_block block) (record { at = at; words = texts words.now }))) }
-    ensures still { IfOk result (λ so_far. IsSoFar so_far) }
-    ensures paths { IfOk result (λ so_far. so_far.paths ≡ paths) }
+    ensures value { GivesTable (λ _. seen_so_far so_far.new) result (put_block (map seen_table so_far.old.tables.items) (block_line second (seen_block block) (record { at = at; words = texts words.now }))) }
+    ensures still { OnOk result (IsSoFar so_far.new) }
+    ensures paths { OnOk result (so_far.new.paths ≡ so_far.old.paths) }
 {
-    let block = block_line(alloc, second, block, at, words)?;
-    Ok(put_block(paths, tables, block)?)
+    let mut block = block;
+    block_line(alloc, second, &mut block, at, words)?;
+    so_far.block = put_block(&mut so_far.tables, block)?;
+    Ok(())
 }
 
 /// One more line.
 pub(crate) fn next_line(
     alloc: Global,
     second: bool,
-    so_far: SoFar,
+    so_far: &mut SoFar,
     at: Place,
     words: &[&[u8]],
-) -> Result<SoFar, TableFault>
-    requires so_far { IsSoFar so_far }
-    requires few { length so_far.paths + 1 < 2 ^ 32 }
-    ensures value { GivesTable seen_so_far result (next_line second (seen_so_far so_far).tables (seen_so_far so_far).block (record { at = at; words = texts words.now })) }
-    ensures still { IfOk result (λ next. IsSoFar next) }
-    ensures more { IfOk result (λ next. length next.paths ≤ length so_far.paths + 1) }
+) -> Result<(), TableFault>
+    requires so_far { IsSoFar so_far.old }
+    requires few { length so_far.old.paths + 1 < 2 ^ 32 }
+    ensures value { GivesTable (λ _. seen_so_far so_far.new) result (next_line second (seen_so_far so_far.old).tables (seen_so_far so_far.old).block (record { at = at; words = texts words.now })) }
+    ensures still { OnOk result (IsSoFar so_far.new) }
+    ensures more { OnOk result (length so_far.new.paths ≤ length so_far.old.paths + 1) }
 {
-    let SoFar {
-        paths,
-        tables,
-        block,
-    } = so_far;
-    match block {
-        None => first_line(alloc, paths, tables, at, words),
-        Some(b) => more_lines(alloc, second, paths, tables, b, at, words),
+    match so_far.block.take() {
+        None => first_line(alloc, so_far, at, words),
+        Some(b) => more_lines(alloc, second, so_far, b, at, words),
     }
 }

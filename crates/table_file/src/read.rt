@@ -1,12 +1,12 @@
 // The tables of a file.
-ghost use Rattle.std.specs.Prelude.{◌≡◌, ◌+◌, ◌^◌, ◌<◌, ◌≤◌, [], length, All, IfOk, IsErr, IsErrOf, Ok, Err, None, Some};
+ghost use Rattle.std.specs.Prelude.{◌≡◌, ◌+◌, ◌^◌, ◌<◌, ◌≤◌, [], length, All, IfOk, OnOk, IsErr, IsErrOf, Ok, Err, None, Some};
 ghost use Rattle.ij_text.specs.declared.Place.{Place};
 ghost use Rattle.instruments.specs.Models.{IsModel};
 ghost use Rattle.instruments.specs.Seen.{seen_model};
-ghost use Rattle.bench_lines.specs.Reading.{lines_left};
+ghost use Rattle.bench_lines.specs.Reading.{lines_left, seen_line};
 ghost use Rattle.table_file.specs.declared.fault.TableFault.{TableFault};
 ghost use Rattle.table_file.specs.Answers.{GivesTable, IsSoFar, seen_so_far, seen_tables};
-ghost use Rattle.table_file.specs.Tables.{tables, read_lines, from_head, no_tables, at_end};
+ghost use Rattle.table_file.specs.Tables.{tables, read_lines, next_line, from_head, no_tables, at_end};
 
 use crate::blocks::{SoFar, next_line as one_more_line};
 use crate::fault::TableFault;
@@ -33,10 +33,37 @@ fn nothing(alloc: Global) -> SoFar
 fn at_end(end: Place, so_far: SoFar) -> Result<List<Table>, TableFault>
     ensures { GivesTable seen_tables result (at_end end (seen_so_far so_far).tables (seen_so_far so_far).block) }
 {
-    match so_far.block {
-        None => Ok(so_far.tables),
-        Some(_) => Err(TableFault::TableSyntax { at: end }),
+    let SoFar {
+        paths,
+        tables,
+        block,
+    } = so_far;
+    drop(paths);
+    let is_open = block.is_some();
+    drop(block);
+    if is_open {
+        drop(tables);
+        return Err(TableFault::TableSyntax { at: end });
     }
+    Ok(tables)
+}
+
+/// One more line, read from its text.
+fn one_line(
+    alloc: Global,
+    second: bool,
+    so_far: &mut SoFar,
+    at: Place,
+    text: &[u8],
+) -> Result<(), TableFault>
+    requires so_far { IsSoFar so_far.old }
+    requires few { length so_far.old.paths + 1 < 2 ^ 32 }
+    ensures value { GivesTable (λ _. seen_so_far so_far.new) result (next_line second (seen_so_far so_far.old).tables (seen_so_far so_far.old).block (seen_line at text.now)) }
+    ensures still { OnOk result (IsSoFar so_far.new) }
+    ensures more { OnOk result (length so_far.new.paths ≤ length so_far.old.paths + 1) }
+{
+    let words = words(alloc, text)?;
+    one_more_line(alloc, second, so_far, at, &words)
 }
 
 fn read_lines(
@@ -53,8 +80,7 @@ fn read_lines(
     let mut rest = text;
     let mut number = number;
     while let Some(line) = next_line(rest, number) {
-        let words = words(alloc, line.text)?;
-        so_far = one_more_line(alloc, second, so_far, line.at, &words)?;
+        one_line(alloc, second, &mut so_far, line.at, line.text)?;
         rest = line.rest;
         number = line.number;
     }

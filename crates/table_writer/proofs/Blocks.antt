@@ -190,7 +190,7 @@ module _ (m : SeenModel) (good : HasNames m) (h : IsModel m) where
       let there = in_words x.word m.words out.within in
       subst (λ d. Leads (out_text m x) 3 3 n (the_model m.ins m.words m.memory (front ++ d ∷ []) [] [])) (out_back n named x there)
       (line_step n (out_text m x) _
-      (out_taken n named x (middle (λ d. IsName d.name) front x back whole) (record { within = out.within; order = out.order }) there (few_bits x.word m.words h.words there)
+      (out_taken n named x (middle (λ d. IsName d.name) front x back whole) (record { within = out.within; order = out.order }) there (bits_within_limit x.word m.words h.words there)
       (next_absent (map (λ (d : SeenOut). d.name) front) x.name (map (λ (d : SeenOut). d.name) back)
       (subst AreDifferent (map_parts (λ (d : SeenOut). d.name) front x back) (subst (λ (l : List SeenOut). AreDifferent (map (λ d. d.name) l)) (sym is) h.out_names)))
       (shorter front x back m.outs 16 is h.few_outs)) refl)) [] m.outs refl
@@ -200,8 +200,8 @@ module _ (m : SeenModel) (good : HasNames m) (h : IsModel m) where
       in_words zero (w ∷ ws) within = omega arith
       in_words (suc k) (w ∷ ws) within = let inner = in_words k ws within in omega (arith, inner)
 
-      few_bits : (k : ℕ) (ws : List SeenWord) → All IsWord ws → k < length ws → get_or (map (λ d. d.width) ws) k 0 ≤ 64
-      few_bits k ws all there =
+      bits_within_limit : (k : ℕ) (ws : List SeenWord) → All IsWord ws → k < length ws → get_or (map (λ d. d.width) ws) k 0 ≤ 64
+      bits_within_limit k ws all there =
           let width : IsWidth (get_or (map (λ d. d.width) ws) k 0) = at_index IsWidth (λ (d : SeenWord). d.width) ws k 0 (All-weaker IsWord (λ d. IsWidth d.width) (λ d w. w.width) ws all) there in
           width.few
 

@@ -14,9 +14,10 @@ use Rattle.instruments.specs.Models.{IsModel}
 use Rattle.table_lines.specs.Said.{Words, is, SaidLine, Input, Word, Memory, Output, Change, Run, End, SaidRow, starts, if_there, input_line, word_line, memory_line, output_line, change_line, run_line, end_line, row, line, instrument, instrument_text, version}
 use Rattle.table_file.specs.declared.fault.TableFault.{TableFault}
 use Rattle.table_file.specs.declared.fault.TableFault.TheVariants.{TableSyntax, TableName, TableWidth, TableLimit, TableTwice}
-use Rattle.table_file.specs.Tables.{SeenTable, Block, Tables, with_line, out_said, name_fault, width_fault, limit_fault, rank, empty, line_said, block_line, table_of, same_path, has_table, new_block, no_tables, is_end, put_block, next_line, at_end, and_then, read_lines, behind_head, from_head, tables}
-use Rattle.table_file.proofs.FormedLines.{tables_formed}
+use Rattle.table_file.specs.Tables.{SeenTable, Block, Tables, with_line, out_said, name_fault, width_fault, limit_fault, rank, empty, line_said, block_line, table_of, same_path, has_table, new_block, no_tables, is_end, put_block, next_line, at_end, read_lines, behind_head, from_head, tables}
+use Rattle.table_file.proofs.FormedLines.{tables_formed, in_both, then}
 use Rattle.table_file.proofs.Naming.{equal_names, first_false, second_false, map_push}
+use Rattle.table_file.proofs.SaidRows.{of_cond as either, of_there as there}
 use Rattle.table_writer.specs.Again.{IsName, HasNames, AreWrittenBack}
 use Rattle.table_writer.proofs.Lexed.{first_true, second_true, both_true}
 use Rattle.table_writer.proofs.Named.{true_not_false}
@@ -36,14 +37,6 @@ HasName End = Unit {0}
 guarded : {A : Type 0} (P : A → Type 0) (b : Bool) (o : Option A) → (b ≡ true → IfSome o P) → IfSome (cond b o None) P
 guarded P true o h = h refl
 guarded P false o h = tt
-
-either : {A : Type 0} (P : A → Type 0) (b : Bool) (x y : Option A) → IfSome x P → IfSome y P → IfSome (cond b x y) P
-either P true x y hx hy = hx
-either P false x y hx hy = hy
-
-there : {A B : Type 0} (P : B → Type 0) (o : Option A) (next : A → Option B) → ((a : A) → IfSome (next a) P) → IfSome (if_there o next) P
-there P None next h = tt
-there P (Some a) next h = h a
 
 input_name : (ws : Words) → IfSome (input_line ws) HasName
 input_name [] = tt
@@ -233,10 +226,6 @@ begun at ts (Some p) h = one (has_table p ts) refl
     one true is = tt
     one false is = record { own = record { path = h; names = no_names }; fresh = not_there p ts is }
 
-in_both : {A : Type 0} (P : A → Type 0) (b : Bool) (x y : Result A TableFault) → IfOk x P → IfOk y P → IfOk (cond b x y) P
-in_both P true x y hx hy = hx
-in_both P false x y hx hy = hy
-
 block_put : (ts : List SeenTable) (r : Result Block TableFault) → AreNamed ts → IfOk r (IsBlockBehind ts) → IfOk (put_block ts r) AreGood
 block_put ts (Err fault) all h = tt
 block_put ts (Ok b) all h =
@@ -261,10 +250,6 @@ one_line second ts (Some b) l all h =
 ended : (end : Place) (ts : List SeenTable) (b : Option Block) → AreNamed ts → IfOk (at_end end ts b) AreNamed
 ended end ts None all = all
 ended end ts (Some b) all = tt
-
-then : {A B : Type 0} (P : A → Type 0) (Q : B → Type 0) (r : Result A TableFault) (next : A → Result B TableFault) → IfOk r P → ((a : A) → P a → IfOk (next a) Q) → IfOk (and_then r next) Q
-then P Q (Ok a) next h k = k a h
-then P Q (Err fault) next h k = tt
 
 lines_good : (second : Bool) (end : Place) (t : Tables) (ls : List Line) → AreGood t → IfOk (read_lines second end t ls) AreNamed
 lines_good second end t [] h = ended end t.tables t.block h.tables

@@ -33,10 +33,6 @@ drop_twice zero xs = refl
 drop_twice (suc k) [] = refl
 drop_twice (suc k) (x ∷ xs) = drop_twice k xs
 
-none_left : (xs : List Bool) → length xs ≡ 0 → is_empty xs ≡ true
-none_left [] e = refl
-none_left (x ∷ xs) e = absurd (omega arith)
-
 some_left : (xs : List Bool) → 0 < length xs → is_empty xs ≡ false
 some_left [] e = absurd (omega arith)
 some_left (x ∷ xs) e = refl

@@ -36,8 +36,8 @@ pub record AreHeldBits (s : HeldBits) : Type 0 where
   pub mask : HasLength s.len (lent s.mask)
 
 -- the scan at hand
-abbrev pub at_hand : Progress → Played
-at_hand p =
+abbrev pub scan_under_way : Progress → Played
+scan_under_way p =
     record { tdi = unwrap_or (lent p.scan.tdi) []; expects = expected p.scan.len (lent p.tdo) (unwrap_or (lent p.scan.mask) (replicate p.scan.len true)) }
 
 -- the pins of a scan from a position on
@@ -65,7 +65,7 @@ later_pins p = pins_with (seen_held p.ir) (seen_held p.dr) p.rests_in p.scans (r
 
 -- the pins that are left of the command at hand
 abbrev pub pins_at_hand : Progress → List Pins
-pins_at_hand p = phase_pins p.scans (at_hand p) p.phase
+pins_at_hand p = phase_pins p.scans (scan_under_way p) p.phase
 
 -- all pins that are left
 abbrev pub remaining_pins : Progress → List Pins

@@ -2,7 +2,7 @@
 ghost use Rattle.std.specs.Prelude.{◌≡◌, ◌<◌, ◌+◌, ◌^◌, ◌∷◌, length, drop, get_or, replicate, true, false, Some, None, unwrap_or};
 ghost use Rattle.svf_writer.specs.Fits.{FitsAfter};
 ghost use Rattle.svf_writer.specs.SeenCommands.{SIR, SDR, seen_scan, seen_command};
-ghost use Rattle.tap_machine.specs.Remaining.{lent, seen_held, last_length, AreHeldBits, at_hand, phase_pins, pins_at_hand, later_pins, remaining_pins, rests_at_end, remaining_commands, to_begin, IsWithin, IsUnderWay, first_of};
+ghost use Rattle.tap_machine.specs.Remaining.{lent, seen_held, last_length, AreHeldBits, scan_under_way, phase_pins, pins_at_hand, later_pins, remaining_pins, rests_at_end, remaining_commands, to_begin, IsWithin, IsUnderWay, first_of};
 ghost use Rattle.tap_machine.specs.Play.{no_shift, after_scan, expected};
 
 use crate::{Pins, Stable};
@@ -118,7 +118,7 @@ impl<'a> Progress<'a> {
     fn expects(&self, k: u32) -> Option<bool>
         requires within { k < self.now.scan.len }
         requires sound { IsUnderWay self.now }
-        ensures { result ≡ get_or (at_hand self.now).expects k None }
+        ensures { result ≡ get_or (scan_under_way self.now).expects k None }
     {
         let tdo = self.tdo?;
         if self.is_compared(k) {
@@ -132,7 +132,7 @@ impl<'a> Progress<'a> {
     fn shift_clock(&self, k: u32) -> Pins
         requires within { k < self.now.scan.len }
         requires sound { IsUnderWay self.now }
-        ensures { Some result ≡ first_of (phase_pins self.now.scans (at_hand self.now) (Phase.Shift k)) }
+        ensures { Some result ≡ first_of (phase_pins self.now.scans (scan_under_way self.now) (Phase.Shift k)) }
     {
         let tdi = match self.scan.tdi {
             Some(tdi) => tdi.get(k),
@@ -169,7 +169,7 @@ impl<'a> Progress<'a> {
     fn shift_after(&self, k: u32) -> Phase
         requires within { k < self.now.scan.len }
         requires sound { IsUnderWay self.now }
-        ensures pins { phase_pins self.now.scans (at_hand self.now) result ≡ drop 1 (phase_pins self.now.scans (at_hand self.now) (Phase.Shift k)) }
+        ensures pins { phase_pins self.now.scans (scan_under_way self.now) result ≡ drop 1 (phase_pins self.now.scans (scan_under_way self.now) (Phase.Shift k)) }
         ensures within { IsWithin self.now.scan.len result }
     {
         let last = self.scan.len - 1;
@@ -183,7 +183,7 @@ impl<'a> Progress<'a> {
     /// The phase after a clock.
     fn phase_after(&self) -> Phase
         requires { IsUnderWay self.now }
-        ensures pins { phase_pins self.now.scans (at_hand self.now) result ≡ drop 1 (pins_at_hand self.now) }
+        ensures pins { phase_pins self.now.scans (scan_under_way self.now) result ≡ drop 1 (pins_at_hand self.now) }
         ensures within { IsWithin self.now.scan.len result }
     {
         match self.phase {

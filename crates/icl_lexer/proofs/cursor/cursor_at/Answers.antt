@@ -1,5 +1,5 @@
 use Rattle.std.proofs.Common.{length, sym, ap, ◌∙◌, arith}
-use Rattle.icl_lexer.specs.declared.token.Kind.TheVariants.{Gap, Is}
+use Rattle.icl_lexer.specs.declared.token.PieceKind.TheVariants.{Gap, Is}
 use Rattle.icl_lexer.specs.Seen.{tokens_in}
 use Rattle.icl_lexer.proofs.Cursors.{cut_off, length_cut, piece_step}
 use Rattle.icl_lexer.proofs.Fronts.{tokens_end}

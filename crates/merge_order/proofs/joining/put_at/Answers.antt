@@ -1,4 +1,7 @@
-use Rattle.std.proofs.Common.{◌<◌, ◌≤◌, length, ◌∙◌, arith}
+use Rattle.std.proofs.Common.{◌<◌, ◌≤◌, List, [], ◌∷◌, ◌++◌, length, ap, ◌∙◌, arith}
+use Rattle.std.specs.Prelude.{Vec}
+use Rattle.std.specs.declared.alloc.Global.{Global}
+use Rattle.net_graph.specs.declared.step.Group.{Group}
 use Rattle.std.specs.Vec.{with_items}
 use Rattle.std.proofs.lemmas.List.{with_items_is}
 use Rattle.net_graph.specs.SeenSteps.{seen_group}
@@ -12,7 +15,9 @@ returns-in_ok-add_round c = λ within open_join.
     written_join c.args.joins.now.items c.args.place c.index_mut-join.result.now (with_items c.index_mut-join.result.now c.add_round.new.join) c.deref_mut.result.now c.add_round.new.join
     (seen_group c.args.round.now) there c.index_mut-join.ensures.value c.deref_mut.ensures.value written c.in_ok-add_round.ensures open_join
 
-pub returns-in_ok-push : goal.returns-in_ok-push
-returns-in_ok-push c = λ within open_join.
+pub returns-in_ok-alone : goal.returns-in_ok-alone
+returns-in_ok-alone c = λ within open_join.
     let past : length c.args.joins.now.items ≤ c.args.place = omega arith in
-    pushed_join c.args.joins.now.items c.push.new.self.items c.args.place c.in_ok-alone.field-0 (seen_group c.args.round.now) past c.in_ok-push.ensures.items c.in_ok-alone.ensures
+    let join = c.in_ok-alone.field-0 in
+    let added = c.push_reserved.ensures.items ∙ ap (λ (l : List (Vec Group Global)). l ++ join ∷ []) c.reserve.ensures.items in
+    pushed_join c.args.joins.now.items c.push_reserved.new.self.items c.args.place join (seen_group c.args.round.now) past added c.in_ok-alone.ensures

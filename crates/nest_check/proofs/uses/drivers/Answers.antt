@@ -2,15 +2,16 @@ use Rattle.std.proofs.Common.{◌∙◌, sym, ap, subst}
 use Rattle.std.specs.Prelude.{flat_map}
 use Rattle.net_graph.specs.Held.{AreHolds}
 use Rattle.net_graph.specs.Resets.{zero_holds}
+use Rattle.net_graph.proofs.Widths.{zeros_held}
 use Rattle.nest_check.specs.Uses.{driving, driving_all, inputs, inputs_of}
-use Rattle.nest_check.proofs.BitUses.{driving_all_fits, zeros_fit}
+use Rattle.nest_check.proofs.BitUses.{driving_all_fits}
 use Rattle.nest_check.proofs.Folding.{fold_piece}
 use Rattle.nest_check.proofs.uses.drivers.Goals as goal
 
 pub loop-inst-init : goal.loop-inst-init
 loop-inst-init c =
     let net = c.args.net.now in
-    (subst (AreHolds net) (sym c.in_ok-flags.ensures) (zeros_fit net), ap (λ h. driving_all h (flat_map inputs_of c.as_slice-inst-items.result.now)) c.in_ok-flags.ensures ∙ ap (λ l. driving_all (zero_holds net) (flat_map inputs_of l)) c.as_slice-inst-items.ensures)
+    (subst (AreHolds net) (sym c.in_ok-flags.ensures) (zeros_held net), ap (λ h. driving_all h (flat_map inputs_of c.as_slice-inst-items.result.now)) c.in_ok-flags.ensures ∙ ap (λ l. driving_all (zero_holds net) (flat_map inputs_of l)) c.as_slice-inst-items.ensures)
 
 pub loop-inst-preserved : goal.loop-inst-preserved
 loop-inst-preserved c =

@@ -5,8 +5,9 @@ use Rattle.net_graph.specs.Path.{select_bits}
 use Rattle.net_graph.specs.Resets.{zero_holds}
 use Rattle.net_graph.specs.Signals.{Holds}
 use Rattle.net_graph.specs.declared.net.Mux.{Mux}
+use Rattle.net_graph.proofs.Widths.{zeros_held}
 use Rattle.nest_check.specs.Uses.{Selected, HaveFlags, no_flags, note, note_all, selected_of}
-use Rattle.nest_check.proofs.BitUses.{note_all_fits, zeros_fit}
+use Rattle.nest_check.proofs.BitUses.{note_all_fits}
 use Rattle.nest_check.proofs.Folding.{fold_piece}
 use Rattle.nest_check.proofs.uses.selected_bits.Goals as goal
 
@@ -19,7 +20,7 @@ loop-mux-init c =
     let muxes = c.as_slice-mux-items.result.now in
     let once : c.in_ok-zeros.field-0 ≡ zero_holds net = c.in_ok-zeros.ensures in
     let twice : c.in_ok-zeros-2.field-0 ≡ zero_holds net = c.in_ok-zeros-2.ensures in
-    ((subst (AreHolds net) (sym once) (zeros_fit net), subst (AreHolds net) (sym twice) (zeros_fit net)), ap (λ h. note_all (selected h c.in_ok-zeros-2.field-0) (flat_map (λ mux. mux.select.items) muxes)) once ∙ ap (λ h. note_all (selected (zero_holds net) h) (flat_map (λ mux. mux.select.items) muxes)) twice ∙ ap (λ l. note_all (no_flags net) (flat_map (λ mux. mux.select.items) l)) c.as_slice-mux-items.ensures)
+    ((subst (AreHolds net) (sym once) (zeros_held net), subst (AreHolds net) (sym twice) (zeros_held net)), ap (λ h. note_all (selected h c.in_ok-zeros-2.field-0) (flat_map (λ mux. mux.select.items) muxes)) once ∙ ap (λ h. note_all (selected (zero_holds net) h) (flat_map (λ mux. mux.select.items) muxes)) twice ∙ ap (λ l. note_all (no_flags net) (flat_map (λ mux. mux.select.items) l)) c.as_slice-mux-items.ensures)
 
 pub loop-mux-preserved : goal.loop-mux-preserved
 loop-mux-preserved c =

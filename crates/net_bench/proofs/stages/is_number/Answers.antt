@@ -1,7 +1,8 @@
 use Rattle.std.proofs.Common.{ap, sym, ◌∙◌, arith, Bool, ◌-◌, ◌+◌, ◌<◌, ◌/◌, ◌%◌, ◌==◌, drop, length}
 use Rattle.std.specs.Prelude.{◌&&◌}
 use Rattle.ij_bits.specs.BitLists.{bits_of, bits_eq, same_bit}
-use Rattle.net_bench.proofs.StageSteps.{eq_step, differ, agree}
+use Rattle.ij_bits.proofs.SameBits.{differ, agree}
+use Rattle.net_bench.proofs.StageSteps.{eq_step}
 use Rattle.net_bench.proofs.stages.is_number.Goals as goal
 
 pub returns-then-get-rest : goal.returns-then-get-rest

@@ -1,6 +1,6 @@
 use Rattle.std.proofs.Common.{sym, subst}
 use Rattle.net_graph.specs.Held.{AreHolds}
-use Rattle.network_tests.proofs.Holding.{start_held}
+use Rattle.net_graph.proofs.Widths.{start_held}
 use Rattle.network_tests.proofs.update_stages.power_up.Goals as goal
 
 pub returns-in-Ok : goal.returns-in-Ok

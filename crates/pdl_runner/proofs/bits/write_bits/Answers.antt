@@ -1,4 +1,5 @@
-use Rattle.pdl_runner.proofs.Writing.{held_same, next_rest, next_widths}
+use Rattle.pdl_runner.proofs.Writing.{next_rest}
+use Rattle.net_graph.proofs.Widths.{held_same, next_widths}
 use Rattle.pdl_runner.proofs.bits.write_bits.Goals as goal
 
 pub set-requires : goal.set-requires

@@ -1,4 +1,4 @@
-use Rattle.ij_io.proofs.Adding.{adds_front, adds_then_part, at_refusal}
+use Rattle.ij_io.proofs.Adding.{adds_both, adds_front, adds_then_part, at_refusal}
 use Rattle.report.proofs.differ.put_compare.Goals as goal
 
 pub returns-in_err-write-clause-part : goal.returns-in_err-write-clause-part
@@ -15,3 +15,6 @@ returns-in_err-put_maybe_iread-clause-part g c = at_refusal c.from_residual-in_e
 
 pub returns-in_err-write-2-clause-part : goal.returns-in_err-write-2-clause-part
 returns-in_err-write-2-clause-part g c = at_refusal c.from_residual-in_err-write-2.result (adds_then_part c.in_ok-write.ensures.whole (adds_then_part c.in_ok-put_scan.ensures.whole (adds_then_part c.in_ok-put_found.ensures.whole (adds_then_part c.in_ok-put_maybe_iread.ensures.whole c.in_err-write-2.ensures.part))))
+
+pub returns-clause-whole : goal.returns-clause-whole
+returns-clause-whole g c = adds_both c.in_ok-write.ensures.whole (adds_both c.in_ok-put_scan.ensures.whole (adds_both c.in_ok-put_found.ensures.whole (adds_both c.in_ok-put_maybe_iread.ensures.whole c.in_ok-write-2.ensures.whole)))

@@ -1,4 +1,4 @@
-use Rattle.ij_io.proofs.Adding.{adds_front, adds_then_part, at_refusal}
+use Rattle.ij_io.proofs.Adding.{adds_both, adds_front, adds_then_part, at_refusal}
 use Rattle.report.proofs.instrument.put_entry.Goals as goal
 
 pub returns-in_err-write-clause-part : goal.returns-in_err-write-clause-part
@@ -12,3 +12,6 @@ returns-in_err-put_index-clause-part g c = at_refusal c.from_residual-in_err-put
 
 pub returns-in_err-put_hex_number-clause-part : goal.returns-in_err-put_hex_number-clause-part
 returns-in_err-put_hex_number-clause-part g c = at_refusal c.from_residual-in_err-put_hex_number.result (adds_then_part c.in_ok-write.ensures.whole (adds_then_part c.in_ok-put_name.ensures.whole (adds_then_part c.in_ok-put_index.ensures.whole c.in_err-put_hex_number.ensures.part)))
+
+pub returns-clause-whole : goal.returns-clause-whole
+returns-clause-whole g c = adds_both c.in_ok-write.ensures.whole (adds_both c.in_ok-put_name.ensures.whole (adds_both c.in_ok-put_index.ensures.whole c.in_ok-put_hex_number.ensures.whole))

@@ -1,20 +1,11 @@
-use Rattle.ij_io.proofs.Adding.{adds_both, adds_front, adds_then_part, at_refusal}
+use Rattle.std.proofs.Common.{sym}
+use Rattle.ij_io.specs.Words.{words_text}
 use Rattle.report.proofs.totals.put_size.Goals as goal
 
-pub returns-in_err-put_counted-clause-part : goal.returns-in_err-put_counted-clause-part
-returns-in_err-put_counted-clause-part g c = at_refusal c.from_residual.result (adds_front _ c.in_err-put_counted.ensures.part)
-
-pub returns-in_err-put_counted-2-clause-part : goal.returns-in_err-put_counted-2-clause-part
-returns-in_err-put_counted-2-clause-part g c = at_refusal c.from_residual-in_err-put_counted-2.result (adds_then_part c.in_ok-put_counted.ensures.whole (adds_front _ c.in_err-put_counted-2.ensures.part))
-
-pub returns-in_err-put_counted-3-clause-part : goal.returns-in_err-put_counted-3-clause-part
-returns-in_err-put_counted-3-clause-part g c = at_refusal c.from_residual-in_err-put_counted-3.result (adds_then_part c.in_ok-put_counted.ensures.whole (adds_then_part c.in_ok-put_counted-2.ensures.whole (adds_front _ c.in_err-put_counted-3.ensures.part)))
-
-pub returns-in_err-put_counted-4-clause-part : goal.returns-in_err-put_counted-4-clause-part
-returns-in_err-put_counted-4-clause-part g c = at_refusal c.from_residual-in_err-put_counted-4.result (adds_then_part c.in_ok-put_counted.ensures.whole (adds_then_part c.in_ok-put_counted-2.ensures.whole (adds_then_part c.in_ok-put_counted-3.ensures.whole (adds_front _ c.in_err-put_counted-4.ensures.part))))
-
-pub returns-in_err-write-clause-part : goal.returns-in_err-write-clause-part
-returns-in_err-write-clause-part g c = at_refusal c.from_residual-in_err-write.result (adds_then_part c.in_ok-put_counted.ensures.whole (adds_then_part c.in_ok-put_counted-2.ensures.whole (adds_then_part c.in_ok-put_counted-3.ensures.whole (adds_then_part c.in_ok-put_counted-4.ensures.whole c.in_err-write.ensures.part))))
-
 pub returns-clause-whole : goal.returns-clause-whole
-returns-clause-whole g c = adds_both c.in_ok-put_counted.ensures.whole (adds_both c.in_ok-put_counted-2.ensures.whole (adds_both c.in_ok-put_counted-3.ensures.whole (adds_both c.in_ok-put_counted-4.ensures.whole c.in_ok-write.ensures.whole)))
+unfolding words_text
+returns-clause-whole g c = rw (sym c.from.ensures, sym c.from-2.ensures, sym c.from-3.ensures, sym c.from-4.ensures) c.put_words.ensures.whole
+
+pub returns-clause-part : goal.returns-clause-part
+unfolding words_text
+returns-clause-part g c = rw (sym c.from.ensures, sym c.from-2.ensures, sym c.from-3.ensures, sym c.from-4.ensures) c.put_words.ensures.part

@@ -1,8 +1,9 @@
 use Rattle.std.proofs.Common.{ap, sym, ◌∙◌, arith, Bool, ◌-◌, ◌+◌, ◌<◌, ◌/◌, ◌%◌, ◌==◌, drop}
 use Rattle.std.specs.Prelude.{◌&&◌}
 use Rattle.ij_bits.specs.BitLists.{bits_of, bits_eq, same_bit}
+use Rattle.ij_bits.proofs.SameBits.{differ, agree}
 use Rattle.svf_audit.specs.Kept.{seen_tdi}
-use Rattle.svf_audit.proofs.Looking.{eq_at, eq_end, differ, agree}
+use Rattle.svf_audit.proofs.Looking.{eq_at, eq_end}
 use Rattle.svf_audit.proofs.kept.is_number.Goals as goal
 
 pub returns-then-tdi_at-rest : goal.returns-then-tdi_at-rest

@@ -1,6 +1,7 @@
 use Rattle.std.proofs.Common.{◌∙◌, ap, arith, length, drop, length-append}
 use Rattle.svf_audit.specs.Audit.{bits_on}
-use Rattle.svf_audit.proofs.Paths.{on_length, one_register, turn_register}
+use Rattle.svf_audit.proofs.Paths.{on_length, one_register}
+use Rattle.net_graph.proofs.Widths.{turn_register}
 use Rattle.svf_audit.proofs.registers.find_bits.Goals as goal
 
 pub register-requires : goal.register-requires

@@ -2,7 +2,8 @@ use Rattle.std.proofs.Common.{◌≡◌, ◌++◌, ◌∙◌, Bool, List, ap, ar
 use Rattle.std.specs.Prelude.{slice_range}
 use Rattle.net_graph.specs.Chain.{chain}
 use Rattle.net_graph.specs.Signals.{bits_at}
-use Rattle.svf_audit.proofs.Paths.{chain_next, chain_length, turn_register, whole_range}
+use Rattle.net_graph.proofs.Widths.{turn_length, turn_register}
+use Rattle.svf_audit.proofs.Paths.{chain_next, whole_range}
 use Rattle.svf_audit.proofs.registers.find_chain.Goals as goal
 
 pub register-bits-requires : goal.register-bits-requires
@@ -13,13 +14,13 @@ pub append_part_reserved-requires-clause-room : goal.append_part_reserved-requir
 append_part_reserved-requires-clause-room c =
     let path = c.args.path.now in
     let i = c.loop-reg.reg-index in
-    omega (arith, ap length c.loop-reg.invariant.items, length-append c.loop-reg.into.items (chain (drop i path) c.args.holds.now), chain_length c.args.holds.now path i c.loop-reg-test.true, c.loop-reg.invariant.room, c.requires.room, c.len.ensures ∙ ap length c.register-bits.ensures)
+    omega (arith, ap length c.loop-reg.invariant.items, length-append c.loop-reg.into.items (chain (drop i path) c.args.holds.now), turn_length c.args.holds.now path i c.loop-reg-test.true, c.loop-reg.invariant.room, c.requires.room, c.len.ensures ∙ ap length c.register-bits.ensures)
 
 pub append_part_reserved-requires-clause-short : goal.append_part_reserved-requires-clause-short
 append_part_reserved-requires-clause-short c =
     let path = c.args.path.now in
     let i = c.loop-reg.reg-index in
-    omega (arith, ap length c.loop-reg.invariant.items, length-append c.loop-reg.into.items (chain (drop i path) c.args.holds.now), chain_length c.args.holds.now path i c.loop-reg-test.true, c.requires.few, c.len.ensures ∙ ap length c.register-bits.ensures)
+    omega (arith, ap length c.loop-reg.invariant.items, length-append c.loop-reg.into.items (chain (drop i path) c.args.holds.now), turn_length c.args.holds.now path i c.loop-reg-test.true, c.requires.few, c.len.ensures ∙ ap length c.register-bits.ensures)
 
 pub loop-reg-preserved : goal.loop-reg-preserved
 loop-reg-preserved c =

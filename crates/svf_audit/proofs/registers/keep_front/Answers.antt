@@ -1,6 +1,7 @@
 use Rattle.std.proofs.Common.{◌∙◌, ap, arith, length}
 use Rattle.svf_audit.specs.Audit.{bits_on}
-use Rattle.svf_audit.proofs.Paths.{both_next, turn_register}
+use Rattle.svf_audit.proofs.Paths.{both_next}
+use Rattle.net_graph.proofs.Widths.{turn_register}
 use Rattle.svf_audit.proofs.registers.keep_front.Goals as goal
 
 pub loop-same-preserved : goal.loop-same-preserved

@@ -1,7 +1,7 @@
 use Rattle.std.proofs.Common.{sym, ◌∙◌, subst}
 use Rattle.std.proofs.lemmas.List.{with_items_is}
 use Rattle.runners.specs.Runners.{AreRunning}
-use Rattle.pdl_runner.proofs.Shaping.{reset_held}
+use Rattle.net_graph.proofs.Widths.{reset_held}
 use Rattle.pdl_runner.proofs.state.DataState.reset.Goals as goal
 
 pub reset_all-requires-clause-holds : goal.reset_all-requires-clause-holds

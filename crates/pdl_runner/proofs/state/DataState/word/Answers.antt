@@ -1,6 +1,6 @@
 use Rattle.std.proofs.Common.{◌<◌, length, get_or, ap, sym, ◌∙◌, arith}
 use Rattle.std.proofs.lemmas.List.{length-map}
-use Rattle.instruments.specs.Machine.{Inner}
+use Rattle.instruments.specs.Machine.{InstrumentState}
 use Rattle.instruments.specs.OnNetwork.{inner_at}
 use Rattle.pdl_runner.specs.States.{SeenState}
 use Rattle.runners.specs.Runners.{running_of}
@@ -12,5 +12,5 @@ returns c =
     let runners = c.self.inside.runners.items in
     let here : c.args.inst < length runners = omega (arith, c.requires, ap (λ (v : SeenState). length v.insts) c.self.view_is, length-map runners running_of) in
     c.word.ensures
-    ∙ ap (λ (s : Inner). get_or s.words c.args.w 0) (sym (inner_is runners c.args.inst c.index.result.now here c.index.ensures))
+    ∙ ap (λ (s : InstrumentState). get_or s.words c.args.w 0) (sym (inner_is runners c.args.inst c.index.result.now here c.index.ensures))
     ∙ ap (λ (v : SeenState). get_or (inner_at v.insts c.args.inst).words c.args.w 0) c.self.view_is

@@ -1,4 +1,4 @@
-use Rattle.std.proofs.Common.{◌≡◌, IfErr, IfOk, Option, subst, ap, ◌∙◌}
+use Rattle.std.proofs.Common.{◌≡◌, IfErr, IfOk, Option, sym, subst, ap, ◌∙◌}
 use Rattle.std.specs.Prelude.{Result, Ok, Err}
 use Rattle.std.specs.Option.{option_map}
 use Rattle.net_graph.specs.declared.step.BitStep.{BitStep}
@@ -28,7 +28,9 @@ returns-clause-given c =
     let now = seen_gathered c.bind-answer.new.gathered in
     let P : ABinder → Type 0 = λ v. IfOk c.bind-answer.result (λ o. feed v.net (places_in v.form) v.queue step ≡ Is (record { queue = now; step = option_map seen_bit_step o })) in
     let Q : Queue → Type 0 = λ q. IfOk c.bind-answer.result (λ o. feed inside.net.now (places_in inside.tree.now) q step ≡ Is (record { queue = now; step = option_map seen_bit_step o })) in
-    subst P c.self.view_is (subst Q (c.in_ok-made.ensures.queue ∙ ap queue_in c.take.ensures.value) (bound_gives _ _ c.bind-answer.result c.bind-answer.ensures.answer))
+    let left : Queue → Type 0 = λ q. IfOk c.bind-answer.result (λ o. feed c.args.self.now.net (places_in c.args.self.now.form) c.args.self.now.queue step ≡ Is (record { queue = q; step = option_map seen_bit_step o })) in
+    subst left (sym (ap queue_in c.put_back.ensures))
+    (subst P c.self.view_is (subst Q (c.in_ok-made.ensures.queue ∙ ap queue_in c.take.ensures.value) (bound_gives _ _ c.bind-answer.result c.bind-answer.ensures.answer)))
 
 pub returns-clause-refused : goal.returns-clause-refused
 returns-clause-refused c =

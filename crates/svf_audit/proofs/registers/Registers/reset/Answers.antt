@@ -2,7 +2,7 @@ use Rattle.std.proofs.Common.{ap, sym, ◌∙◌, subst}
 use Rattle.std.proofs.lemmas.Bool.{false≢true}
 use Rattle.net_graph.specs.Held.{AreHolds}
 use Rattle.net_graph.specs.Resets.{reset_holds}
-use Rattle.svf_audit.proofs.Paths.{reset_shape}
+use Rattle.net_graph.proofs.Widths.{reset_held}
 use Rattle.svf_audit.proofs.registers.Registers.reset.Goals as goal
 
 pub reset-requires-2 : goal.reset-requires-2
@@ -16,7 +16,7 @@ returns-clause-sound c =
     record {
       net = k.net;
       selects = k.selects;
-      holds = reset_shape c.args.self.now.net.now c.args.self.now.holds c.reset.new.self k.holds c.reset.ensures;
+      holds = reset_held c.args.self.now.net.now c.args.self.now.holds c.reset.new.self k.holds c.reset.ensures;
       path_room = k.path_room;
       next_room = k.next_room;
       bits_room = k.bits_room;

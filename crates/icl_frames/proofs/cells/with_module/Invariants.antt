@@ -1,6 +1,0 @@
-use Rattle.std.proofs.Common.{◌≡◌, ◌∷◌, take}
-use Rattle.icl_frames.specs.SeenFrames.{names_of}
-use Rattle.icl_frames.proofs.cells.with_module.Given as goal
-
-abbrev pub invariant-loop-outer : goal.invariant-loop-outer
-invariant-loop-outer l = names_of l.all.items ≡ l.fn.block.name.items ∷ names_of (take l.outer-index l.above)
