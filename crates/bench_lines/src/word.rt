@@ -1,5 +1,5 @@
 // What the words of lines say.
-ghost use Rattle.std.specs.Prelude.{◌≡◌, ◌+◌, ◌*◌, ◌^◌, ◌<◌, ◌≤◌, length, IfOk, IfSome, IsTrue, option_map, is_some, not, Some, get_or, true, false, nat_le, map, drop, ◌&&◌, ◌||◌, ◌-◌, if◌then◌else◌};
+ghost use Rattle.std.specs.Prelude.{◌≡◌, ◌+◌, ◌*◌, ◌^◌, ◌<◌, ◌≤◌, length, IfOk, IfSome, IsTrue, option_map, is_some, not, Some, true, nat_le, map, drop, ◌&&◌, ◌||◌, ◌-◌, if◌then◌else◌};
 ghost use Rattle.std.specs.Str.{bytes_eq};
 ghost use Rattle.std.specs.List.{list_all, list_any};
 ghost use Rattle.std.specs.Char.{is_ascii_hexdigit};
@@ -9,7 +9,7 @@ ghost use Rattle.bench_lines.specs.Words.{care_in, number, decimal, in_decimal, 
 ghost use Rattle.bench_lines.specs.Reading.{plain_value};
 
 use ij_bits::{List, OutOfMemory, Tern};
-use ij_text::{Name, Number, NumberFault, Place, hex_value, read_number};
+use ij_text::{Name, Number, NumberFault, Place, bit_at, hex_value, read_number};
 use std::alloc::Global;
 
 /// Whether a word is this one.
@@ -55,13 +55,6 @@ pub fn decimal(alloc: Global, text: &[u8]) -> Result<Option<u128>, OutOfMemory>
 {
     let number = number(alloc, text)?;
     Ok(in_decimal(&number))
-}
-
-/// The bit at a position, 0 past the end.
-fn bit_at(t: &Tern, i: u32) -> Option<bool>
-    ensures { result ≡ get_or (tern_bits t.now) i (Some false) }
-{
-    if i < t.len() { t.get(i) } else { Some(false) }
 }
 
 fn some_open(t: &Tern) -> bool

@@ -30,8 +30,8 @@ fn decimal_in(alloc: Global, n: u128, width: u32) -> Result<Tern, OutOfMemory>
     Ok(Tern { value, care })
 }
 
-/// A bit of a number, 0 past its end.
-fn bit_at(t: &Tern, i: u32) -> Option<bool>
+/// A bit of a number, 0 past its end. Position 0 is the lowest bit.
+pub fn bit_at(t: &Tern, i: u32) -> Option<bool>
     ensures { result ≡ get_or (tern_bits t.now) i (Some false) }
 {
     if i < t.len() { t.get(i) } else { Some(false) }
