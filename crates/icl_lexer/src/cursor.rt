@@ -1,5 +1,5 @@
 // The tokens of a text, one after the other.
-ghost use Rattle.std.specs.Prelude.{◌≡◌, ◌↔◌, ◌<◌, ◌≤◌, [], length, IsTrue};
+ghost use Rattle.std.specs.Prelude.{◌≡◌, ◌↔◌, ◌<◌, [], length, IsTrue};
 ghost use Rattle.std.specs.Option.{option_map};
 ghost use Rattle.icl_lexer.specs.Seen.{first_of, tokens_in};
 ghost use Rattle.icl_lexer.specs.Lexemes.{HasPlaces, seen_next, tok};
