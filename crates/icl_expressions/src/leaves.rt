@@ -1,5 +1,5 @@
 // The tokens that are expressions by themselves.
-ghost use Rattle.std.specs.Prelude.{◌≡◌, ◌-◌, ◌<◌, ◌≤◌, ◌+◌, ◌*◌, ◌==◌, cond, length, drop, slice_range, IfErr, IfOk, Option, true, Some, None};
+ghost use Rattle.std.specs.Prelude.{◌≡◌, ◌-◌, ◌<◌, ◌≤◌, ◌+◌, ◌*◌, ◌==◌, cond, length, slice_range, IfErr, IfOk, Option, true, Some, None};
 ghost use Rattle.std.specs.Option.{option_map};
 ghost use Rattle.icl_lexer.specs.Lexemes.{tok};
 ghost use Rattle.icl_syntax.specs.Tokens.{decimal_of, decimal_at};
@@ -15,6 +15,7 @@ use crate::stop::Stop;
 use icl_lexer::{Cursor, Lexeme, TokenKind};
 use icl_syntax::{Expr, SmallText};
 use ij_bits::OutOfMemory;
+use ij_text::behind_first;
 use std::alloc::Global;
 
 /// The value of a decimal with one more byte.
@@ -42,16 +43,6 @@ pub(crate) fn decimal(text: &[u8]) -> Option<u32>
         }
     }
     Some(n as u32)
-}
-
-/// All bytes but the first one.
-fn behind_first(text: &[u8]) -> &[u8]
-    ensures { result.now ≡ drop 1 text.now }
-{
-    match text {
-        [_, rest @ ..] => rest,
-        [] => text,
-    }
 }
 
 /// All bytes but the first one and the last one.

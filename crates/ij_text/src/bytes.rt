@@ -1,5 +1,5 @@
-// Classes of bytes.
-ghost use Rattle.std.specs.Prelude.{◌≡◌};
+// Classes of bytes, and the bytes behind the first one.
+ghost use Rattle.std.specs.Prelude.{◌≡◌, drop};
 ghost use Rattle.ij_text.specs.Bytes.{is_blank, is_line_blank};
 
 /// Whether a byte is a space, a tab or a carriage return.
@@ -14,4 +14,14 @@ pub fn is_blank(b: u8) -> bool
     ensures { result ≡ is_blank b }
 {
     b == b' ' || b == b'\t' || b == b'\n' || b == b'\r'
+}
+
+/// All bytes but the first one. Takes no memory.
+pub fn behind_first(text: &[u8]) -> &[u8]
+    ensures { result.now ≡ drop 1 text.now }
+{
+    match text {
+        [_, rest @ ..] => rest,
+        [] => text,
+    }
 }
