@@ -1,5 +1,5 @@
 // Names with numbers.
-ghost use Rattle.std.specs.Prelude.{◌≡◌, ◌+◌, ◌^◌, ◌<◌, [], length, slice_get, Some, IsTrue, ◌↔◌, OnOk, OnErr, IfOk};
+ghost use Rattle.std.specs.Prelude.{◌≡◌, ◌+◌, ◌^◌, ◌<◌, ◌++◌, [], codes, length, slice_get, Some, IsTrue, ◌↔◌, OnOk, OnErr, IfOk};
 ghost use Rattle.ij_text.specs.Numbering.{AreDistinct, number_in, number_or_next, with_name};
 
 use crate::Name;
@@ -13,6 +13,16 @@ pub fn name_of(alloc: Global, bytes: &[u8]) -> Result<Name, OutOfMemory>
     ensures { IfOk result (λ name. name.items ≡ bytes.now) }
 {
     Ok(List::from(Vec::from_slice(alloc, bytes)?))
+}
+
+/// A text with a dot and a name added. It takes memory by the allocator of the text.
+pub fn with_dotted(text: Name, name: &[u8]) -> Result<Name, OutOfMemory>
+    ensures { IfOk result (λ r. r.items ≡ text.items ++ (codes "." ++ name.now)) }
+{
+    let mut bytes = text.into_vec();
+    bytes.push(b'.')?;
+    bytes.extend_from_slice(name)?;
+    Ok(List::from(bytes))
 }
 
 /// A list of distinct names, each of which has a number: its position, counted from 0 in the order in which the names came.

@@ -1,24 +1,14 @@
 // How the parts of a network are called (IEEE 1687-2014, ICL: hierarchical names).
-ghost use Rattle.std.specs.Prelude.{◌≡◌, ◌++◌, map, drop, codes, IfOk};
+ghost use Rattle.std.specs.Prelude.{◌≡◌, map, drop, IfOk};
 ghost use Rattle.icl_signals.specs.PlainNets.{seen_net, seen_thing};
 ghost use Rattle.ijtag_stages.specs.NetNames.{behind_dots, path_at, node_name, name_in, mux_name, inst_name, thing_name, reg_thing, cell_name, index_of, bit_index, bit_arg};
 ghost use Rattle.ijtag_stages.specs.Seen.{seen_arg};
 
 use crate::refusal::Arg;
 use ij_bits::{List, OutOfMemory};
-use ij_text::{Name, name_of};
+use ij_text::{Name, name_of, with_dotted};
 use net_graph::{BitId, Net, Point, Thing};
 use std::alloc::Global;
-
-/// Adds a dot and a name.
-fn with_name(text: Name, name: &[u8]) -> Result<Name, OutOfMemory>
-    ensures { IfOk result (λ r. r.items ≡ text.items ++ (codes "." ++ name.now)) }
-{
-    let mut bytes = text.into_vec();
-    bytes.push(b'.')?;
-    bytes.extend_from_slice(name)?;
-    Ok(List::from(bytes))
-}
 
 /// Each name behind a dot.
 fn behind_dots(alloc: Global, names: &[Name]) -> Result<Name, OutOfMemory>
@@ -26,7 +16,7 @@ fn behind_dots(alloc: Global, names: &[Name]) -> Result<Name, OutOfMemory>
 {
     let mut text = List::new(alloc);
     for name in names {
-        text = with_name(text, name.as_slice())?;
+        text = with_dotted(text, name.as_slice())?;
     }
     Ok(text)
 }
@@ -65,7 +55,7 @@ fn name_in(alloc: Global, net: &Net, node: u32, name: &Name) -> Result<Name, Out
     ensures { IfOk result (λ r. r.items ≡ name_in (seen_net net.now) node name.now.items) }
 {
     let text = behind_dots(alloc, path_at(net, node))?;
-    let text = with_name(text, name.as_slice())?;
+    let text = with_dotted(text, name.as_slice())?;
     without_first(alloc, &text)
 }
 

@@ -1,5 +1,5 @@
 // The names of the cells, in an index.
-ghost use Rattle.std.specs.Prelude.{◌≡◌, ◌<◌, ◌+◌, ◌^◌, ◌++◌, length, map, take, IfOk, codes};
+ghost use Rattle.std.specs.Prelude.{◌≡◌, ◌<◌, ◌+◌, ◌^◌, ◌++◌, length, map, take, IfOk};
 ghost use Rattle.ij_text.specs.Numbering.{AreDistinct};
 ghost use Rattle.net_graph.specs.Nets.{IsNet};
 ghost use Rattle.pdl_parser.specs.Views.{bytes_of};
@@ -10,7 +10,7 @@ ghost use Rattle.pdl_targets.specs.Index.{IsIndex};
 use crate::captors::{Captors, captors_of};
 use bit_marks::{BitMarks, selects_of};
 use ij_bits::{List, OutOfMemory};
-use ij_text::{Name, Names};
+use ij_text::{Name, Names, with_dotted};
 use net_graph::{Net, Node, Thing};
 use std::alloc::Global;
 
@@ -27,23 +27,13 @@ pub(crate) struct Index {
     pub things: Names,
 }
 
-/// Adds a dot and a name.
-fn with_name(text: Name, name: &[u8]) -> Result<Name, OutOfMemory>
-    ensures { IfOk result (λ r. r.items ≡ text.items ++ (codes "." ++ name.now)) }
-{
-    let mut bytes = text.into_vec();
-    bytes.push(b'.')?;
-    bytes.extend_from_slice(name)?;
-    Ok(List::from(bytes))
-}
-
 /// Adds names, each behind a dot.
 pub(crate) fn put_names(text: Name, names: &[Name]) -> Result<Name, OutOfMemory>
     ensures { IfOk result (λ r. r.items ≡ text.items ++ dotted (map bytes_of names.now)) }
 {
     let mut text = text;
     for name in names {
-        text = with_name(text, name.as_slice())?;
+        text = with_dotted(text, name.as_slice())?;
     }
     Ok(text)
 }
