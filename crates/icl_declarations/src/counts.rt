@@ -8,7 +8,7 @@ ghost use Rattle.icl_declarations.specs.Parts.{is_source, is_data_port, is_not_o
 ghost use Rattle.icl_declarations.specs.Ranges.{width};
 ghost use Rattle.icl_declarations.specs.Counting.{count_part, count_instrument, has_wide_port};
 
-use crate::kinds::is_part;
+use crate::kinds::{is_data_in_port, is_data_out_port, is_part};
 use crate::ranges::{Bounds, width};
 use icl_syntax::{Item, Module, PortKind, Prop, What};
 use icl_values::ElabFault;
@@ -134,31 +134,13 @@ pub fn is_instrument(block: &Module) -> bool
     has_data_port(block.items.as_slice()) && !has_more(block.items.as_slice())
 }
 
-fn is_data_in(what: &What) -> bool
-    ensures { result ≡ port_that is_data_in (seen_what what.now) }
-{
-    match what {
-        What::Port { kind, .. } => matches!(kind, PortKind::DataInPort),
-        _ => false,
-    }
-}
-
-fn is_data_out(what: &What) -> bool
-    ensures { result ≡ port_that is_data_out (seen_what what.now) }
-{
-    match what {
-        What::Port { kind, .. } => matches!(kind, PortKind::DataOutPort),
-        _ => false,
-    }
-}
-
 /// Whether a module has more than 16 data inputs.
 fn has_many_inputs(items: &[Item]) -> bool
     ensures { result ≡ nat_lt 16 (count_by (λ item. port_that is_data_in item.what) (map seen_item items.now)) }
 {
     let mut count: usize = 0;
     for item in items {
-        if is_data_in(&item.what) {
+        if is_data_in_port(&item.what) {
             count += 1;
         }
     }
@@ -171,7 +153,7 @@ fn has_many_outputs(items: &[Item]) -> bool
 {
     let mut count: usize = 0;
     for item in items {
-        if is_data_out(&item.what) {
+        if is_data_out_port(&item.what) {
             count += 1;
         }
     }

@@ -1,12 +1,12 @@
 // Kinds of ports and items.
 ghost use Rattle.std.specs.Prelude.{◌≡◌};
 ghost use Rattle.icl_syntax.specs.Views.{seen_what};
-ghost use Rattle.icl_declarations.specs.Parts.{is_scan_in, is_scan_out, is_data_in, is_data_out, is_control_in, is_input, is_register, is_mux, is_child, is_signal, is_interface, is_link, is_enum, is_parameter, is_part};
+ghost use Rattle.icl_declarations.specs.Parts.{is_scan_in, is_scan_out, is_data_in, is_data_out, is_control_in, is_input, is_register, is_mux, is_child, is_signal, is_interface, is_link, is_enum, is_parameter, is_part, port_that};
 
 use icl_syntax::{PortKind, What};
 
 /// A `ScanInPort`.
-pub fn is_scan_in(kind: PortKind) -> bool
+fn is_scan_in(kind: PortKind) -> bool
     ensures { result ≡ is_scan_in kind }
 {
     matches!(kind, PortKind::ScanInPort)
@@ -20,14 +20,14 @@ pub fn is_scan_out(kind: PortKind) -> bool
 }
 
 /// A `DataInPort`.
-pub fn is_data_in(kind: PortKind) -> bool
+fn is_data_in(kind: PortKind) -> bool
     ensures { result ≡ is_data_in kind }
 {
     matches!(kind, PortKind::DataInPort)
 }
 
 /// A `DataOutPort`.
-pub fn is_data_out(kind: PortKind) -> bool
+fn is_data_out(kind: PortKind) -> bool
     ensures { result ≡ is_data_out kind }
 {
     matches!(kind, PortKind::DataOutPort)
@@ -55,6 +55,36 @@ pub fn is_input(kind: PortKind) -> bool
     ensures { result ≡ is_input kind }
 {
     is_scan_in(kind) || is_data_in(kind) || is_control_in(kind)
+}
+
+/// An item that is a `ScanInPort`.
+pub fn is_scan_in_port(what: &What) -> bool
+    ensures { result ≡ port_that is_scan_in (seen_what what.now) }
+{
+    match what {
+        What::Port { kind, .. } => is_scan_in(*kind),
+        _ => false,
+    }
+}
+
+/// An item that is a `DataInPort`.
+pub fn is_data_in_port(what: &What) -> bool
+    ensures { result ≡ port_that is_data_in (seen_what what.now) }
+{
+    match what {
+        What::Port { kind, .. } => is_data_in(*kind),
+        _ => false,
+    }
+}
+
+/// An item that is a `DataOutPort`.
+pub fn is_data_out_port(what: &What) -> bool
+    ensures { result ≡ port_that is_data_out (seen_what what.now) }
+{
+    match what {
+        What::Port { kind, .. } => is_data_out(*kind),
+        _ => false,
+    }
 }
 
 /// A `ScanRegister`.

@@ -11,8 +11,8 @@ mod taken;
 
 pub use counts::{Counts, count_instrument, count_part, is_data_port, is_instrument};
 pub use kinds::{
-    is_child, is_data_in, is_data_out, is_enum, is_input, is_interface, is_link, is_mux, is_part,
-    is_register, is_scan_in, is_scan_out, is_signal,
+    is_child, is_data_in_port, is_data_out_port, is_enum, is_input, is_interface, is_link, is_mux,
+    is_part, is_register, is_scan_in_port, is_scan_out, is_signal,
 };
 pub use naming::new_names;
 pub use ranges::{Bounds, Stretch, declared, indices, named_in, width};

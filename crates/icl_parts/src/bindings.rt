@@ -3,7 +3,7 @@ ghost use Rattle.std.specs.Prelude.{◌≡◌, ◌+◌, ◌-◌, ◌==◌, ◌++
 ghost use Rattle.std.specs.List.{list_any, list_all, position_from, range_with_len};
 ghost use Rattle.std.specs.Option.{option_map};
 ghost use Rattle.icl_syntax.specs.Views.{seen_bind, seen_range, seen_sig, seen_what};
-ghost use Rattle.icl_declarations.specs.Parts.{is_input, is_scan_in, is_data_in, port_that};
+ghost use Rattle.icl_declarations.specs.Parts.{is_input, port_that};
 ghost use Rattle.icl_declarations.specs.Ranges.{positions, width};
 ghost use Rattle.icl_values.specs.Expressions.{same};
 ghost use Rattle.icl_values.specs.Faults.{Gives, each, over};
@@ -14,7 +14,7 @@ ghost use Rattle.icl_references.specs.Signals.{scan_signal};
 ghost use Rattle.icl_references.specs.Tables.{IsHere, frames_of, here_in, no_frame, seen_member};
 
 use crate::marks::{Row, note};
-use icl_frames::{Stretch, is_data_in, is_input, is_scan_in, named_in, width};
+use icl_frames::{Stretch, is_data_in_port, is_input, is_scan_in_port, named_in, width};
 use icl_references::{Member, Ref, Tables, control_signals, data_signals, scan_signal};
 use icl_syntax::{Bind, Range, Sig, SmallText, What};
 use icl_values::ElabFault;
@@ -209,24 +209,6 @@ fn is_input_port(what: &What) -> bool
 {
     match what {
         What::Port { kind, .. } => is_input(*kind),
-        _ => false,
-    }
-}
-
-fn is_scan_in_port(what: &What) -> bool
-    ensures { result ≡ port_that is_scan_in (seen_what what.now) }
-{
-    match what {
-        What::Port { kind, .. } => is_scan_in(*kind),
-        _ => false,
-    }
-}
-
-fn is_data_in_port(what: &What) -> bool
-    ensures { result ≡ port_that is_data_in (seen_what what.now) }
-{
-    match what {
-        What::Port { kind, .. } => is_data_in(*kind),
         _ => false,
     }
 }
