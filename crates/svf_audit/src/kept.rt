@@ -5,10 +5,10 @@ ghost use Rattle.std.specs.Option.{is_some};
 ghost use Rattle.ij_bits.specs.BitLists.{bits_eq, bits_of, number_of};
 ghost use Rattle.svf_writer.specs.Fits.{FitsAfter, HasLength};
 ghost use Rattle.svf_writer.specs.SeenCommands.{seen_scan};
-ghost use Rattle.svf_audit.specs.Kept.{AreKept, has_one, last_length, lent, looked_for, seen_kept, seen_tdi};
+ghost use Rattle.svf_audit.specs.Kept.{AreKept, has_one, last_length, looked_for, seen_kept, seen_tdi};
 ghost use Rattle.tap_machine.specs.Play.{after_scan, no_scan};
 
-use svf_writer::{Part, Scan};
+use svf_writer::{Part, Scan, lend};
 
 /// The length of the last scan of a kind, and the parts of the commands that it took its TDI and MASK from. Without MASK
 /// each bit is compared.
@@ -17,13 +17,6 @@ pub(crate) struct Kept<'a> {
     pub len: u32,
     pub tdi: Option<&'a Part>,
     pub mask: Option<&'a Part>,
-}
-
-/// A part of a scan, lent where it stands in the command.
-fn lend(part: &Part) -> Option<&Part>
-    ensures { lent result ≡ part.now }
-{
-    if part.is_given() { Some(part) } else { None }
 }
 
 /// Nothing, before the first scan.

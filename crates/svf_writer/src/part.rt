@@ -2,6 +2,7 @@
 ghost use Rattle.std.specs.Prelude.{◌==◌, ◌≡◌, ◌↔◌, ◌+◌, ◌^◌, ◌<◌, ◌≤◌, ℕ, false, [], length, slice_index_or, slice_range, unwrap_or, None, Some, IfOk, IsSome, IsTrue};
 ghost use Rattle.std.specs.Int.{bit_at};
 ghost use Rattle.ij_bits.specs.BitLists.{bits_of, number_of};
+ghost use Rattle.svf_writer.specs.Lent.{lent};
 
 use ij_bits::{Bits, OutOfMemory};
 use std::alloc::Global;
@@ -138,4 +139,11 @@ impl Part {
             Stored::List(bits) => bits.len(),
         }
     }
+}
+
+/// A part of a scan, lent where it stands in the command. Takes no memory.
+pub fn lend(part: &Part) -> Option<&Part>
+    ensures { lent result ≡ part.now }
+{
+    if part.is_given() { Some(part) } else { None }
 }

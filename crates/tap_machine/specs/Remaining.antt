@@ -1,7 +1,7 @@
 -- What is left of a play: the pins still to come, and the state in which they leave the controller.
-use Rattle.std.specs.Prelude.{◌≡◌, ◌<◌, ◌^◌, ◌+◌, ◌*◌, ℕ, Bool, true, false, List, [], ◌∷◌, ◌++◌, length, replicate, map, drop, Option, Some, None, option_map, unwrap_or}
-use Rattle.std.specs.Borrow.{Bor}
+use Rattle.std.specs.Prelude.{◌≡◌, ◌<◌, ◌^◌, ◌+◌, ◌*◌, ℕ, true, false, List, [], ◌∷◌, ◌++◌, length, replicate, map, drop, Option, Some, None, option_map, unwrap_or}
 use Rattle.svf_writer.specs.Fits.{HasLength, AreFitAfter}
+use Rattle.svf_writer.specs.Lent.{lent}
 use Rattle.tap_machine.specs.declared.Pins.{Pins}
 use Rattle.tap_machine.specs.declared.Stable.{Stable}
 use Rattle.tap_machine.specs.declared.Stable.TheVariants.{Reset as InReset, Idle as InIdle}
@@ -16,10 +16,6 @@ use Rattle.tap_machine.specs.Play.{no_shift, shifts, LastScan, Played, expected,
 pub record Remaining : Type 0 where
   pub pins : List Pins
   pub rests : Stable
-
--- bits that were lent
-abbrev pub lent : Option (Bor (Option (List Bool))) → Option (List Bool)
-lent bits = option_map (λ b. unwrap_or b.now []) bits
 
 -- what is kept of the last scan of a kind, by what it was taken from
 abbrev pub seen_held : HeldBits → LastScan

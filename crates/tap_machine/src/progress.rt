@@ -1,12 +1,13 @@
 // How far a play has come in its list of commands.
 ghost use Rattle.std.specs.Prelude.{◌≡◌, ◌<◌, ◌+◌, ◌^◌, ◌∷◌, length, drop, get_or, replicate, true, false, Some, None, unwrap_or};
 ghost use Rattle.svf_writer.specs.Fits.{FitsAfter};
+ghost use Rattle.svf_writer.specs.Lent.{lent};
 ghost use Rattle.svf_writer.specs.SeenCommands.{SIR, SDR, seen_scan, seen_command};
-ghost use Rattle.tap_machine.specs.Remaining.{lent, seen_held, last_length, AreHeldBits, scan_under_way, phase_pins, pins_at_hand, later_pins, remaining_pins, rests_at_end, remaining_commands, to_begin, IsWithin, IsUnderWay, first_of};
+ghost use Rattle.tap_machine.specs.Remaining.{seen_held, last_length, AreHeldBits, scan_under_way, phase_pins, pins_at_hand, later_pins, remaining_pins, rests_at_end, remaining_commands, to_begin, IsWithin, IsUnderWay, first_of};
 ghost use Rattle.tap_machine.specs.Play.{no_shift, after_scan, expected};
 
 use crate::{Pins, Stable};
-use svf_writer::{Command, Commands, Part, Scan};
+use svf_writer::{Command, Commands, Part, Scan, lend};
 
 /// The length of the last scan of a kind, and the bits of the commands that it took its TDI and MASK from. Without
 /// MASK each bit is compared.
@@ -79,13 +80,6 @@ pub(crate) fn held_for<'a>(kept: HeldBits<'a>, scan: &'a Scan) -> HeldBits<'a>
         tdi,
         mask,
     }
-}
-
-/// A part of a scan, lent where it stands in the command.
-fn lend(part: &Part) -> Option<&Part>
-    ensures { lent result ≡ part.now }
-{
-    if part.is_given() { Some(part) } else { None }
 }
 
 /// A clock that shifts nothing.

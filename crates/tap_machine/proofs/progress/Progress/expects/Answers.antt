@@ -1,5 +1,5 @@
 use Rattle.std.proofs.Common.{ap, sym, ◌∙◌, Some, [], true, false, unwrap_or}
-use Rattle.tap_machine.specs.Remaining.{lent}
+use Rattle.svf_writer.specs.Lent.{lent}
 use Rattle.tap_machine.proofs.Shifts.{expected_at}
 use Rattle.tap_machine.proofs.progress.Progress.expects.Goals as goal
 
