@@ -1,14 +1,14 @@
 // Where reads stand in scans.
 ghost use Rattle.std.specs.Prelude.{◌≡◌, ◌==◌, ◌&&◌, ◌++◌, ◌<◌, ◌^◌, All, length, map, reverse, OnOk};
 ghost use Rattle.net_graph.specs.Chain.{chain};
-ghost use Rattle.net_graph.specs.Chain as chains;
 ghost use Rattle.net_graph.specs.Named.{IsBitOf};
 ghost use Rattle.net_graph.specs.Resets.{zero_holds};
 ghost use Rattle.read_places.specs.Places.{read_at};
 ghost use Rattle.read_places.specs.Noting.{place_on};
 
 use ij_bits::{List, OutOfMemory};
-use net_graph::{BitId, Net, ReadBit};
+use net_graph::{Net, ReadBit};
+use scan_packer::position;
 
 /// A read with the scan and the position at which it is compared.
 #[derive(Clone, Copy, Drop)]
@@ -28,24 +28,6 @@ impl ReadPlace {
     {
         self.scan == scan && self.bit == bit
     }
-}
-
-/// Where a register bit stands on a path, counted from scan-out; the path goes from scan-in to scan-out. Takes no memory.
-fn position(net: &Net, path: &[u32], bit: BitId) -> u32
-    requires there { All (λ r. r < length net.now.regs.items) path.now }
-    requires bit { IsBitOf net.now bit }
-    requires short { length (chain (reverse path.now) (zero_holds net.now)) < 2 ^ 32 }
-    ensures { result ≡ chains.position (reverse path.now) (zero_holds net.now) bit }
-{
-    let mut before = 0;
-    for i in 0..path.len() {
-        let reg = path[path.len() - 1 - i];
-        if reg == bit.reg {
-            return before + bit.pos;
-        }
-        before += net.regs.get(reg as usize).width;
-    }
-    before
 }
 
 /// Notes where reads stand in the scan of a path.
