@@ -14,18 +14,10 @@ use crate::play::{played, scan_count};
 use ij_bits::List;
 use ij_io::{Sink, StoreFault};
 use instruments::Model;
-use net_graph::{Device, Net};
+use net_graph::{Device, Net, register_count};
 use report::{Totals, put_totals};
 use std::alloc::Global;
 use svf_writer::Commands;
-
-/// How many registers a network has.
-fn register_count(net: &Net) -> u32
-    requires { IsNet net.now }
-    ensures { result ≡ length net.now.regs.items }
-{
-    net.regs.len() as u32
-}
 
 /// Plays commands from power-up on a device with a scan network and its instruments, and prints one line:
 /// `made registers R muxes M instruments I groups G scans S clocks C differs D`. R, M and I are what the network has (IEEE 1687-2014),
