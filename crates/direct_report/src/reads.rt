@@ -1,19 +1,18 @@
 // The lines of the bits that a round reads.
-ghost use Rattle.std.specs.Prelude.{◌≡◌, ◌<◌, ◌≤◌, length, filter, All, OnOk, OnErr};
+ghost use Rattle.std.specs.Prelude.{◌≡◌, ◌≤◌, length, filter, All, OnOk, OnErr};
 ghost use Rattle.direct_report.specs.Marked.{AreMarked, marked};
 ghost use Rattle.direct_report.specs.Report.{differs, in_order, line_if, lines, reads_on};
 ghost use Rattle.direct_report.specs.Seen.{found_all};
 ghost use Rattle.ij_io.specs.Bytes.{Adds, AddsPart};
 ghost use Rattle.ij_io.specs.Causes.{HasCause};
 ghost use Rattle.net_graph.specs.Named.{IsBitOf, bits_from};
-ghost use Rattle.net_graph.specs.Named as named;
 ghost use Rattle.net_graph.specs.Nets.{IsNet};
 
 use bit_marks::BitMarks;
 use ij_io::{Sink, StoreFault};
 use net_graph::{BitId, Net, ReadBit, register_count};
 use pdl_runner::DataState;
-use report::{Differ, put_differ};
+use report::{Differ, put_differ, width_of};
 
 /// How many reads differ.
 pub(crate) fn count_differing(values: &DataState, reads: &[ReadBit]) -> u64
@@ -88,14 +87,6 @@ fn put_register_reads<K: Sink>(
         put_marked(values, reads, marks.get(BitId { reg, pos }), k)?;
     }
     Ok(())
-}
-
-/// The width of a register.
-fn width_of(net: &Net, reg: u32) -> u32
-    requires { reg < length net.now.regs.items }
-    ensures { result ≡ named.width_of net.now reg }
-{
-    net.regs.get(reg as usize).width
 }
 
 /// Writes the line of each read that differs, by register and position.

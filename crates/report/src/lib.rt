@@ -10,5 +10,5 @@ mod totals;
 
 pub use differ::{Differ, put_differ};
 pub use instrument::put_instrument;
-pub use register::{put_register, put_registers};
+pub use register::{put_register, put_registers, width_of};
 pub use totals::{Totals, put_totals};

@@ -59,8 +59,8 @@ fn thing_of(net: &Net, reg: u32) -> u32
     net.regs.get(reg as usize).thing
 }
 
-/// The width of a register.
-fn width_of(net: &Net, reg: u32) -> u32
+/// The width of a register. Takes no memory.
+pub fn width_of(net: &Net, reg: u32) -> u32
     requires { reg < length net.now.regs.items }
     ensures { result ≡ named.width_of net.now reg }
 {
