@@ -1,5 +1,5 @@
 // The text of one scan (Serial Vector Format, revision E: SDR).
-ghost use Rattle.std.specs.Prelude.{Some, OnOk, OnErr};
+ghost use Rattle.std.specs.Prelude.{OnOk, OnErr};
 ghost use Rattle.ij_io.specs.Bytes.{Adds, AddsPart};
 ghost use Rattle.ij_io.specs.Causes.{HasCause};
 ghost use Rattle.net_graph.specs.Nets.{IsNet};
@@ -9,7 +9,7 @@ ghost use Rattle.path_planner.specs.Scannable.{IsScannable};
 ghost use Rattle.path_planner.specs.Settling.{path_or_none};
 ghost use Rattle.scan_packer.specs.Packing.{CanScan};
 ghost use Rattle.svf_writer.specs.SeenCommands.{SDR};
-ghost use Rattle.svf_writer.specs.Written.{part, text_of};
+ghost use Rattle.svf_writer.specs.Written.{text_of};
 ghost use Rattle.group_scans.specs.Scans.{scan_of};
 ghost use Rattle.retargeter.specs.Room.{HasScanRoom};
 ghost use Rattle.retargeter.specs.Packed.{quiet_scan, comparing_scan};
@@ -20,16 +20,7 @@ use ij_io::{Sink, StoreFault, Word, put_words};
 use net_graph::{Holds, Net};
 use net_tree::{ScanPlan, Tree};
 use scan_packer::pack;
-
-/// Writes a part of a scan, its word in front.
-#[tactic(auto, unfolding(ij_io::specs::Words::words_text))]
-fn put_part<'a, K: Sink>(word: &'a [u8], bits: &'a Bits, k: &mut K) -> Result<(), StoreFault>
-    ensures whole { OnOk result (Adds (K.taken k.old) (K.taken k.new) (part word.now (Some bits.now.items))) }
-    ensures part { OnErr result (AddsPart (K.taken k.old) (K.taken k.new) (part word.now (Some bits.now.items))) }
-    ensures cause { HasCause (K.faults k.old) (K.faults k.new) result StoreFault.Failed }
-{
-    put_words(k, &[Word::Text(word), Word::Hex(bits), Word::Text(b")")])
-}
+use svf_writer::put_list;
 
 /// Writes a scan that compares nothing.
 #[tactic(auto, unfolding(ij_io::specs::Words::words_text))]
@@ -39,7 +30,7 @@ fn put_quiet<'a, K: Sink>(tdi: &'a Bits, k: &mut K) -> Result<(), StoreFault>
     ensures cause { HasCause (K.faults k.old) (K.faults k.new) result StoreFault.Failed }
 {
     put_words(k, &[Word::Text(b"SDR "), Word::Number(tdi.len() as u64)])?;
-    put_part(b" TDI (", tdi, k)?;
+    put_list(b" TDI (", tdi, k)?;
     k.write(b";\n")?;
     Ok(())
 }
@@ -57,9 +48,9 @@ fn put_comparing<'a, K: Sink>(
     ensures cause { HasCause (K.faults k.old) (K.faults k.new) result StoreFault.Failed }
 {
     put_words(k, &[Word::Text(b"SDR "), Word::Number(tdi.len() as u64)])?;
-    put_part(b" TDI (", tdi, k)?;
-    put_part(b" TDO (", tdo, k)?;
-    put_part(b" MASK (", mask, k)?;
+    put_list(b" TDI (", tdi, k)?;
+    put_list(b" TDO (", tdo, k)?;
+    put_list(b" MASK (", mask, k)?;
     k.write(b";\n")?;
     Ok(())
 }
