@@ -6,7 +6,7 @@ use Rattle.std.specs.List.{list_all, list_any}
 use Rattle.ij_bits.specs.BitLists.{number_of}
 use Rattle.ij_text.specs.Numbers.{Written, InDecimal, InBits, number_of_text, hex_value, bits_in}
 use Rattle.ij_text.specs.Words.{is_name}
-use Rattle.bench_lines.specs.Lines.{split}
+use Rattle.ij_text.specs.Parts.{split}
 
 -- ---- names
 
