@@ -8,8 +8,8 @@ use Rattle.grammar.proofs.Combinators.{ok_is}
 use Rattle.grammar.proofs.Verdicts.{found, only, refused}
 use Rattle.icl_syntax.specs.declared.words.Limit.{Limit}
 use Rattle.icl_lexer.specs.Seen.{SeenToken}
+use Rattle.grammar.specs.Symbol.{appended}
 use Rattle.icl_syntax.specs.Values.{SeenModule}
-use Rattle.icl_syntax.specs.Grammar.{appended}
 use Rattle.icl_syntax.specs.Modules.{design}
 use Rattle.icl_parser.specs.declared.fault.ParseFault.{ParseFault}
 use Rattle.icl_parser.specs.declared.fault.ParseFault.TheVariants.{OutOfMemory, LeftOut, ExprLimit, Syntax}

@@ -1,6 +1,6 @@
 -- The grammar of expressions, signals and bodies (IEEE 1687-2014, as far as it is read here): one definition for each production.
 use Rattle.std.specs.Prelude.{ℕ, zero, suc, ◌+◌, ◌-◌, Bool, true, false, ◌&&◌, not, cond, List, [], ◌∷◌, ◌++◌, length, drop, slice_range, Option, Some, None}
-use Rattle.grammar.specs.Symbol.{Symbol, one, give, none, barred, ◌>>=◌, ◌<|>◌, repeat}
+use Rattle.grammar.specs.Symbol.{Symbol, one, give, none, barred, ◌>>=◌, ◌<|>◌, repeat, appended}
 use Rattle.ij_text.specs.declared.Place.{Place}
 use Rattle.icl_lexer.specs.declared.token.TokenKind.{TokenKind}
 use Rattle.icl_lexer.specs.declared.token.TokenKind.TheVariants.{Word, Decimal, Sized, Quoted, Param, Mark}
@@ -141,9 +141,6 @@ unfoldable pub expr : Of SeenExpr
 expr = sum_of 64 0 >>= λ e. give e.formula
 
 -- ---- lists of parts
-
-abbrev pub appended : {A : Type 0} → List A → A → List A
-appended xs x = xs ++ x ∷ []
 
 -- S, then any number of S behind a mark
 abbrev pub parted : {A : Type 0} → ℕ → Of A → Of (List A)
