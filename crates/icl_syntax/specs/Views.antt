@@ -1,7 +1,7 @@
 -- The value of each tree.
 use Rattle.std.specs.Prelude.{ℕ, List, map}
 use Rattle.std.specs.Option.{option_map}
-use Rattle.ij_bits.specs.Room.{Listed, seen_list}
+use Rattle.ij_bits.specs.Room.{seen_list}
 use Rattle.icl_syntax.specs.Held.{Items}
 use Rattle.icl_syntax.specs.declared.tree.Expr.{Expr}
 use Rattle.icl_syntax.specs.declared.tree.Expr.TheVariants.{Decimal, Sized, Quoted, Param, Op'}
