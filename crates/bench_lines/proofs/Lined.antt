@@ -2,7 +2,8 @@
 use Rattle.std.proofs.Common.{◌≡◌, ℕ, suc, ◌+◌, Bool, true, false, cond, List, [], ◌∷◌, length, refl, ap, sym, ◌∙◌, arith}
 use Rattle.std.specs.Prelude.{◌==◌}
 use Rattle.ij_text.specs.declared.Place.{Place}
-use Rattle.bench_lines.specs.Lines.{in_front, split, lines, line_of, unless_empty, lines_from, end_from, end_of}
+use Rattle.ij_text.specs.Parts.{in_front, split}
+use Rattle.bench_lines.specs.Lines.{lines, line_of, unless_empty, lines_from, end_from, end_of}
 use Rattle.bench_lines.specs.Reading.{lines_left}
 
 pub line_cut : (text front rest : List ℕ) → split 10 text ≡ front ∷ split 10 rest → (n : ℕ) → lines_left n text ≡ unless_empty (line_of n front) (lines_left (suc n) rest)

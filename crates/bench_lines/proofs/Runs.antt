@@ -2,9 +2,10 @@
 use Rattle.std.proofs.Common.{◌≡◌, ℕ, suc, ◌≤◌, Bool, true, false, not, cond, List, [], ◌∷◌, length, take, drop, get_or, refl, ap, sym, ◌∙◌, arith}
 use Rattle.std.specs.Prelude.{◌==◌, ◌||◌}
 use Rattle.ij_text.specs.Bytes.{is_line_blank}
+use Rattle.ij_text.specs.Parts.{in_front, longer, split}
 use Rattle.bench_lines.specs.declared.bytes.Class.{Class}
 use Rattle.bench_lines.specs.declared.bytes.Class.TheVariants.{Blank, Word, Shown, Until}
-use Rattle.bench_lines.specs.Lines.{in_front, split, shown, is_mark, in_word, goes_on, longer, words, blanks}
+use Rattle.bench_lines.specs.Lines.{shown, is_mark, in_word, goes_on, words, blanks}
 use Rattle.bench_lines.specs.Reading.{in_class, run_length}
 
 -- ---- one byte more

@@ -6,7 +6,8 @@ use Rattle.std.specs.List.{list_all, list_any}
 use Rattle.ij_bits.specs.BitLists.{number_of}
 use Rattle.ij_text.specs.Numbers.{Written, InDecimal, InBits, number_of_text, hex_value, bits_in}
 use Rattle.ij_text.specs.Words.{is_name}
-use Rattle.bench_lines.specs.Lines.{split}
+use Rattle.ij_text.specs.Options.{both}
+use Rattle.ij_text.specs.Parts.{split}
 
 -- ---- names
 
@@ -111,11 +112,6 @@ entry text = two_names (bracketed text)
 pub record Slice : Type 0 where
   pub word : List ℕ
   pub bounds : Option (ℕ × ℕ)
-
-abbrev pub both : Option ℕ → Option ℕ → Option (ℕ × ℕ)
-both None right = None
-both (Some l) None = None
-both (Some l) (Some r) = Some (l, r)
 
 -- `L:R`
 abbrev pub two_decimals : List (List ℕ) → Option (ℕ × ℕ)

@@ -1,6 +1,7 @@
 // Classes of bytes, runs of them, and the pieces of a text.
 ghost use Rattle.std.specs.Prelude.{◌≡◌, ◌+◌, ◌<◌, ◌≤◌, [], ◌∷◌, length, MatchOption, IfSome, take, drop};
-ghost use Rattle.bench_lines.specs.Lines.{is_mark, split, words};
+ghost use Rattle.ij_text.specs.Parts.{split};
+ghost use Rattle.bench_lines.specs.Lines.{is_mark, words};
 ghost use Rattle.bench_lines.specs.Reading.{in_class, run_length};
 
 use ij_text::is_line_blank;

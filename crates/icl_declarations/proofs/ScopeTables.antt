@@ -2,8 +2,8 @@
 use Rattle.std.proofs.Common.{◌≡◌, ℕ, Bool, true, false, cond, List, [], ◌∷◌, Option, Some, None, refl}
 use Rattle.std.specs.Str.{bytes_eq}
 use Rattle.std.specs.Map.{lookup}
+use Rattle.ij_text.specs.Options.{or_else}
 use Rattle.indexmap.specs.IndexMap.{insert_entry}
-use Rattle.icl_declarations.specs.Scopes.{or_else}
 
 -- a name that isn't there goes last
 module _ {K : Type 0} (name_of : K → List ℕ) where

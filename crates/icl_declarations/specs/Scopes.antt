@@ -2,6 +2,7 @@
 use Rattle.std.specs.Prelude.{◌≡◌, ℕ, suc, Bool, ◌&&◌, cond, List, [], ◌∷◌, Option, Some, None}
 use Rattle.std.specs.Str.{bytes_eq}
 use Rattle.std.specs.Map.{lookup}
+use Rattle.ij_text.specs.Options.{or_else}
 use Rattle.icl_syntax.specs.Values.{SeenWhat, SeenItem}
 use Rattle.icl_declarations.specs.declared.scope.Scope.{Scope}
 use Rattle.icl_declarations.specs.Parts.{is_part, is_signal}
@@ -19,10 +20,6 @@ part_named test items name = part_from 0 test items name
 
 abbrev pub entry_of : Scope → List ℕ → Option ℕ
 entry_of scope name = lookup (λ key. bytes_eq name key.items) scope.parts.entries
-
-abbrev pub or_else : Option ℕ → Option ℕ → Option ℕ
-or_else None o = o
-or_else (Some n) o = Some n
 
 -- a part is added, unless one of its name is there
 abbrev pub IsAdded : Scope → Scope → List ℕ → ℕ → Type 0

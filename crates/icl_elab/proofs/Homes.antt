@@ -4,7 +4,7 @@ use Rattle.std.specs.Prelude.{find, slice_get}
 use Rattle.std.specs.Option.{option_map}
 use Rattle.std.specs.List.{position_from}
 use Rattle.std.proofs.lemmas.Bool.Decides.{nat_tests}
-use Rattle.icl_declarations.specs.Scopes.{or_else}
+use Rattle.ij_text.specs.Options.{or_else}
 use Rattle.icl_elab.specs.declared.pass.Placed.{Placed}
 use Rattle.icl_elab.specs.declared.pass.CellParts.{CellParts}
 use Rattle.icl_parts.specs.Bindings.{Bound}

@@ -2,12 +2,12 @@
 ghost use Rattle.std.specs.Prelude.{◌≡◌, ℕ, ◌+◌, ◌<◌, ◌==◌, ◌&&◌, [], map, length, reverse, cond, Some, None, IfOk, IfErr, OnOk};
 ghost use Rattle.std.specs.List.{position_from};
 ghost use Rattle.std.specs.Option.{option_map};
+ghost use Rattle.ij_text.specs.Options.{or_else};
 ghost use Rattle.icl_syntax.specs.Views.{seen_design};
 ghost use Rattle.icl_frames.specs.Written.{AreWritten};
 ghost use Rattle.icl_elab.specs.WellFormed.{IsHierarchy};
 ghost use Rattle.icl_values.specs.Faults.{Gives};
 ghost use Rattle.icl_declarations.specs.Ranges.{width};
-ghost use Rattle.icl_declarations.specs.Scopes.{or_else};
 ghost use Rattle.icl_frames.specs.SeenFrames.{seen_frame};
 ghost use Rattle.icl_references.specs.Names.{is_in};
 ghost use Rattle.icl_elab.specs.Hierarchy.{bindings_of, first_ref, hierarchy, is_this_cell, put_together};

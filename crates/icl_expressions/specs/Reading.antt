@@ -5,8 +5,9 @@ use Rattle.ij_text.specs.declared.Place.{Place}
 use Rattle.icl_syntax.specs.declared.words.Limit.{Limit}
 use Rattle.icl_syntax.specs.declared.words.Limit.TheVariants.{OfExpression}
 use Rattle.icl_lexer.specs.Seen.{SeenToken, if_word, is_mark, mark_at, word_at, name_at}
+use Rattle.grammar.specs.Symbol.{appended}
 use Rattle.icl_syntax.specs.Values.{SeenExpr, SeenRange, APath, SeenSig}
-use Rattle.icl_syntax.specs.Grammar.{Counted, leaf_at, Signed, sum_sign, product_sign, Operand, with_operand, too_deep, appended, Located, number_at, Named, named_at, decimal_token}
+use Rattle.icl_syntax.specs.Grammar.{Counted, leaf_at, Signed, sum_sign, product_sign, Operand, with_operand, too_deep, Located, number_at, Named, named_at, decimal_token}
 
 abbrev pub Reading : Type 0 → Type 0
 Reading A = Reader SeenToken Limit A

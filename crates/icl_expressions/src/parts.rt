@@ -1,7 +1,7 @@
 // Parts with a mark between them.
 ghost use Rattle.std.specs.Prelude.{◌<◌, ◌≤◌, ℕ, List, [], ◌∷◌, IfOk, length};
+ghost use Rattle.grammar.specs.Symbol.{appended};
 ghost use Rattle.icl_syntax.specs.Values.{SeenExpr, SeenSig};
-ghost use Rattle.icl_syntax.specs.Grammar.{appended};
 ghost use Rattle.icl_syntax.specs.Views.{bytes_of, seen_expr, seen_few, seen_sig};
 ghost use Rattle.icl_expressions.specs.Seen.{seen_read, Gives};
 ghost use Rattle.icl_expressions.specs.Reading.{Reading, Shrinks, read_put, read_after, more_parted, read_parted, read_name, read_value, read_sig};

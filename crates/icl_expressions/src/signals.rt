@@ -1,7 +1,8 @@
 // Values, ranges and signals.
 ghost use Rattle.std.specs.Prelude.{◌<◌, ◌≤◌, IfOk, length};
 ghost use Rattle.std.specs.Option.{option_map};
-ghost use Rattle.icl_syntax.specs.Views.{bytes_of, seen_expr, seen_few, seen_list, seen_range, seen_sig};
+ghost use Rattle.ij_bits.specs.Room.{seen_list};
+ghost use Rattle.icl_syntax.specs.Views.{bytes_of, seen_expr, seen_few, seen_range, seen_sig};
 ghost use Rattle.icl_expressions.specs.Seen.{seen_read, Gives};
 ghost use Rattle.icl_expressions.specs.SeenParts.{seen_located};
 ghost use Rattle.icl_expressions.specs.Reading.{read_value, read_expr_behind, read_maybe, read_range, read_number, read_path_behind, read_named_behind, read_named_sig, read_plain_sig, read_inverted, read_sig, read_sigs};

@@ -5,7 +5,7 @@ use Rattle.std.specs.Char.{is_ascii_digit}
 use Rattle.std.specs.List.{AllByRecursion, list_all}
 use Rattle.ij_text.specs.Bytes.{is_blank}
 use Rattle.ij_text.specs.Words.{begins_name, in_name, is_name}
-use Rattle.grammar.specs.Symbol.{Parts, IsOne, ◌>>=◌}
+use Rattle.grammar.specs.Symbol.{Parts, IsOne, ◌>>=◌, appended}
 use Rattle.icl_lexer.specs.Token.{Token}
 use Rattle.icl_lexer.specs.declared.token.TokenKind.{TokenKind}
 use Rattle.icl_lexer.specs.declared.token.TokenKind.TheVariants.{Word, Decimal, Sized, Quoted, Param, Mark}
@@ -18,7 +18,7 @@ use Rattle.icl_syntax.specs.declared.words.ItemKeyword.{ItemKeyword}
 use Rattle.icl_syntax.specs.declared.words.ItemKeyword.TheVariants.{OfPort, OfRegister, OfMux, OfChild, OfAlias, OfEnum, OfParameter, OfAttribute, OfInterface, OfLink}
 use Rattle.icl_lexer.specs.Seen.{SeenToken, if_word, name_at, mark_at, seen_tokens}
 use Rattle.icl_syntax.specs.Values.{SeenRow, SeenEnumWord, SeenWhat, SeenItem, SeenModule}
-use Rattle.icl_syntax.specs.Grammar.{Of, name, mark, value, sig, sigs, parted, appended}
+use Rattle.icl_syntax.specs.Grammar.{Of, name, mark, value, sig, sigs, parted}
 use Rattle.icl_syntax.specs.Modules.{port, register, alias, parameter as a_parameter, attribute, row, rows, mux, braced, child, enum_word, words, interface, link, meaning_behind, item, module_of, design}
 use Rattle.icl_frames.specs.Written.{IsWrittenWhat, IsWrittenItem, IsWritten, DesignsAreWritten}
 use Rattle.icl_frames.proofs.Answering.{all_both}

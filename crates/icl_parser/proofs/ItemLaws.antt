@@ -1,7 +1,7 @@
 -- The readers of ports, registers, multiplexers and instances read their symbols.
 use Rattle.std.proofs.Common.{◌≡◌, ℕ, Bool, true, false, List, [], ◌∷◌, Option, None, refl, is_some}
 use Rattle.std.specs.Prelude.{◌||◌, codes}
-use Rattle.grammar.specs.Symbol.{one, give, ◌>>=◌, repeat, many}
+use Rattle.grammar.specs.Symbol.{one, give, ◌>>=◌, repeat, many, appended, maybe}
 use Rattle.grammar.specs.Reading.{read_in_turn}
 use Rattle.grammar.proofs.Combinators.{Reads, one_reads, give_reads, turn_reads, either_reads, wider_reads}
 use Rattle.icl_lexer.specs.declared.token.TokenKind.{TokenKind}
@@ -15,7 +15,7 @@ use Rattle.icl_syntax.specs.declared.words.BodyKind.{BodyKind}
 use Rattle.icl_syntax.specs.declared.words.BodyKind.TheVariants.{ScanIn, ScanOut, DataIn, DataOut, Control, Register, Alias}
 use Rattle.icl_lexer.specs.Seen.{SeenToken, if_word, if_mark, is_mark, word_at}
 use Rattle.icl_syntax.specs.Values.{SeenRow, ABoundPort, ABoundParameter, ABoundAttribute, APort, ARegister, AMux, AChild, AnAlias, AParameter, AnAttribute}
-use Rattle.icl_syntax.specs.Grammar.{Of, mark, word, name, value, maybe, expr_behind, ended_by, appended, parted, range, sig, sigs, body}
+use Rattle.icl_syntax.specs.Grammar.{Of, mark, word, name, value, expr_behind, ended_by, parted, range, sig, sigs, body}
 use Rattle.icl_syntax.specs.Modules.{owner_of, port_range, port, register, alias, parameter, attribute, row, rows, mux, begun_by, bind_begin_at, bound_port, bound_parameter, bound_attribute, bind_behind, bind, braced, binds, child}
 use Rattle.icl_expressions.specs.Reading.{Reading, Shrinks, gives, any, is_name, no_close, read_mark, read_word, read_maybe, read_ended, read_many, read_braced, read_expr_behind, read_range}
 use Rattle.icl_parser.specs.Reading.{read_port_range, read_port, read_register, read_alias, read_parameter, read_attribute, read_values, read_row, read_rows, read_mux, read_bind_begin, read_bound_port, read_bound_parameter, read_bound_attribute, read_bind_behind, read_bind, read_many_binds, read_braced_binds, read_binds, read_child}

@@ -2,9 +2,9 @@
 use Rattle.std.proofs.Common.{ℕ, List}
 use Rattle.grammar.specs.Reading.{read_repeat}
 use Rattle.icl_lexer.specs.Seen.{SeenToken}
+use Rattle.grammar.specs.Symbol.{appended}
 use Rattle.icl_syntax.specs.Values.{SeenModule}
 use Rattle.icl_syntax.specs.Modules.{with_member}
-use Rattle.icl_syntax.specs.Grammar.{appended}
 use Rattle.icl_expressions.specs.Reading.{any, no_close}
 use Rattle.icl_parser.specs.Reading.{read_member, read_module}
 use Rattle.icl_expressions.proofs.Steps.{Outcome}

@@ -4,13 +4,14 @@ use Rattle.grammar.specs.Reading.{Stop as Unfit}
 use Rattle.grammar.specs.Refusal.{Refused}
 use Rattle.grammar.proofs.Verdicts.{refusals_are_one, derived_not_refused}
 use Rattle.ij_text.specs.declared.Place.{Place}
+use Rattle.ij_text.specs.Places.{end_of}
 use Rattle.icl_syntax.specs.declared.words.Limit.{Limit}
 use Rattle.icl_lexer.specs.Seen.{SeenToken}
 use Rattle.icl_syntax.specs.Values.{SeenModule}
 use Rattle.icl_syntax.specs.Modules.{design}
 use Rattle.icl_parser.specs.declared.fault.ParseFault.{ParseFault}
 use Rattle.icl_parser.specs.declared.fault.ParseFault.TheVariants.{OutOfMemory, LeftOut, ExprLimit, Syntax}
-use Rattle.icl_parser.specs.Refusals.{left_out_at, IsFaultOf, IsRefused, end_of}
+use Rattle.icl_parser.specs.Refusals.{left_out_at, IsFaultOf, IsRefused}
 use Rattle.icl_parser.specs.Laws.{SeenFault, ALeftOut, AnExprLimit, ASyntax, seen_fault}
 use Rattle.icl_parser.proofs.DesignLaws.{design_reads}
 use Rattle.icl_parser.proofs.Verdicts.{design_read, design_only, rest_of}

@@ -1,14 +1,15 @@
 -- What reading a whole list of tokens says of it.
 use Rattle.std.proofs.Common.{◌≡◌, ◌↔◌, ℕ, suc, Bool, ◌<◌, ◌-◌, true, false, List, [], ◌∷◌, ◌++◌, length, drop, Ok, Err, refl, sym, ap, subst, ◌∙◌, arith, length-append}
 use Rattle.std.proofs.Math.Seq.{drop-append_seam}
+use Rattle.ij_text.specs.Places.{end_of}
 use Rattle.grammar.specs.Reading.{Stop as Unfit, ended}
 use Rattle.grammar.specs.Refusal.{Refused}
 use Rattle.grammar.proofs.Combinators.{ok_is}
 use Rattle.grammar.proofs.Verdicts.{found, only, refused}
 use Rattle.icl_syntax.specs.declared.words.Limit.{Limit}
 use Rattle.icl_lexer.specs.Seen.{SeenToken}
+use Rattle.grammar.specs.Symbol.{appended}
 use Rattle.icl_syntax.specs.Values.{SeenModule}
-use Rattle.icl_syntax.specs.Grammar.{appended}
 use Rattle.icl_syntax.specs.Modules.{design}
 use Rattle.icl_parser.specs.declared.fault.ParseFault.{ParseFault}
 use Rattle.icl_parser.specs.declared.fault.ParseFault.TheVariants.{OutOfMemory, LeftOut, ExprLimit, Syntax}
@@ -17,7 +18,7 @@ use Rattle.icl_expressions.specs.declared.stop.Stop.TheVariants.{Memory, At}
 use Rattle.icl_expressions.specs.Seen.{Fails}
 use Rattle.icl_expressions.specs.Reading.{begins, any, read_put}
 use Rattle.icl_parser.specs.Reading.{read_module, read_design, whole_design}
-use Rattle.icl_parser.specs.Refusals.{IsFaultOf, IsRefused, OnRefusal, end_of}
+use Rattle.icl_parser.specs.Refusals.{IsFaultOf, IsRefused, OnRefusal}
 use Rattle.icl_expressions.proofs.Steps.{reads_shrink, go_on, round_fails, ends}
 use Rattle.icl_parser.proofs.More.{more_modules}
 use Rattle.icl_parser.proofs.DesignLaws.{module_reads, design_reads}

@@ -16,8 +16,9 @@ use Rattle.icl_syntax.specs.declared.words.BodyKind.TheVariants.{ScanIn, ScanOut
 use Rattle.icl_syntax.specs.declared.words.PropKeyword.{PropKeyword}
 use Rattle.icl_syntax.specs.declared.words.PropKeyword.TheVariants.{Source, LaunchEdge, DefaultLoadValue, RefEnum, ActivePolarity, ScanInSource, CaptureSource, ResetValue, AccessTogether, Attribute}
 use Rattle.icl_lexer.specs.Seen.{SeenToken, is_mark}
+use Rattle.grammar.specs.Symbol.{appended}
 use Rattle.icl_syntax.specs.Values.{SeenExpr, SeenRange, SeenSig, SeenProp, ASource, ALaunchEdge, ALoadValue, ARefEnum, APolarity, AScanInSource, ACaptureSource, AResetValue, ATogether, SeenRow, SeenBind, ABoundPort, ABoundParameter, ABoundAttribute, SeenEnumWord, SeenLinkInstr, SeenWhat, APort, ARegister, AMux, AChild, AnAlias, SomeWords, AParameter, AnInterface, ALink, AnAttribute, SeenItem, SeenModule}
-use Rattle.icl_syntax.specs.Grammar.{appended, free_prop_at, AttributeSaid, with_property, lacks}
+use Rattle.icl_syntax.specs.Grammar.{free_prop_at, AttributeSaid, with_property, lacks}
 use Rattle.icl_syntax.specs.Modules.{owner_of, BindBegin, bind_begin_at, member_word_at, with_member, Selected, link_kind_at, ItemBegin, item_begin_at}
 use Rattle.icl_expressions.specs.Reading.{Reading, no_close, any, gives, read_mark, read_word, read_name, read_ended, read_maybe, read_parted, read_many, read_braced, read_value, read_expr_behind, read_range, read_sig, read_sigs, read_decimal}
 

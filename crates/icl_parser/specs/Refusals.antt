@@ -2,7 +2,7 @@
 use Rattle.std.specs.Prelude.{◌≡◌, Bool, true, false, ℕ, List, [], ◌∷◌, ◌++◌, Option, Some, None}
 use Rattle.grammar.specs.Refusal.{CantGoOn}
 use Rattle.ij_text.specs.declared.Place.{Place}
-use Rattle.ij_text.specs.Places.{first_place, place_behind}
+use Rattle.ij_text.specs.Places.{end_of}
 use Rattle.icl_syntax.specs.declared.words.Limit.{Limit}
 use Rattle.icl_lexer.specs.Seen.{SeenToken, if_word}
 use Rattle.icl_syntax.specs.Tokens.{is_left_out}
@@ -33,10 +33,6 @@ IsFaultOf end [] why (Syntax at) = at ≡ end
 IsFaultOf end [] why OutOfMemory = ⊥
 IsFaultOf end [] why (LeftOut at word) = ⊥
 IsFaultOf end [] why (ExprLimit at) = ⊥
-
--- the place after the last byte of a text
-abbrev pub end_of : List ℕ → Place
-end_of text = place_behind first_place text
 
 -- a text with these tokens is refused so: some design's tokens begin with those in front, and no design's begin with
 -- these and the next one, or they are all and no design has them

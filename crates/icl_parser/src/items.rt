@@ -1,8 +1,9 @@
 // Items that declare or bind: ports, registers, aliases, parameters, attributes, multiplexers, instances.
 ghost use Rattle.std.specs.Prelude.{◌≡◌, ◌<◌, ◌≤◌, IfOk, length};
 ghost use Rattle.std.specs.Option.{option_map};
+ghost use Rattle.ij_bits.specs.Room.{seen_list};
 ghost use Rattle.icl_syntax.specs.Values.{SeenRow, SeenBind};
-ghost use Rattle.icl_syntax.specs.Views.{seen_list, seen_range, seen_row, seen_bind, seen_what};
+ghost use Rattle.icl_syntax.specs.Views.{seen_range, seen_row, seen_bind, seen_what};
 ghost use Rattle.icl_syntax.specs.Modules.{owner_of};
 ghost use Rattle.icl_expressions.specs.Seen.{seen_read, Gives};
 ghost use Rattle.icl_parser.specs.SeenParts.{seen_bind_begin};

@@ -1,8 +1,9 @@
 // Items of names: enumerations, scan interfaces and access links.
 ghost use Rattle.std.specs.Prelude.{◌≡◌, ◌<◌, ◌≤◌, IfOk, length};
 ghost use Rattle.std.specs.Option.{option_map};
+ghost use Rattle.ij_bits.specs.Room.{seen_list};
 ghost use Rattle.icl_syntax.specs.Values.{SeenEnumWord, SeenLinkInstr};
-ghost use Rattle.icl_syntax.specs.Views.{bytes_of, seen_list, seen_instr, seen_enum_word, seen_what};
+ghost use Rattle.icl_syntax.specs.Views.{bytes_of, seen_instr, seen_enum_word, seen_what};
 ghost use Rattle.icl_syntax.specs.Modules.{with_member};
 ghost use Rattle.icl_expressions.specs.Seen.{seen_read, same, Gives};
 ghost use Rattle.icl_parser.specs.SeenParts.{seen_selected};

@@ -1,7 +1,8 @@
 // Items, modules and designs.
 ghost use Rattle.std.specs.Prelude.{◌<◌, IfOk, length};
+ghost use Rattle.ij_bits.specs.Room.{seen_list};
 ghost use Rattle.icl_syntax.specs.Values.{SeenItem, SeenModule};
-ghost use Rattle.icl_syntax.specs.Views.{seen_list, seen_item, seen_module, seen_what};
+ghost use Rattle.icl_syntax.specs.Views.{seen_item, seen_module, seen_what};
 ghost use Rattle.icl_expressions.specs.Seen.{seen_read, Gives};
 ghost use Rattle.icl_parser.specs.SeenParts.{seen_item_begin};
 ghost use Rattle.icl_parser.specs.Reading.{read_item_begin, read_meaning_behind, read_item, read_module, whole_design};

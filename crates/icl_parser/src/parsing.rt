@@ -1,9 +1,10 @@
 // Parsing a text.
 ghost use Rattle.std.specs.Prelude.{◌≡◌, ◌≤◌, ◌-◌, IfOk, IfErr, OnErr, IsErrOf, drop, length};
+ghost use Rattle.ij_text.specs.Places.{end_of};
 ghost use Rattle.icl_lexer.specs.Lexemes.{tok};
 ghost use Rattle.icl_syntax.specs.Modules.{design};
 ghost use Rattle.icl_syntax.specs.Views.{seen_design};
-ghost use Rattle.icl_parser.specs.Refusals.{Blocks, IsFaultAt, IsFaultOf, OnRefusal, end_of};
+ghost use Rattle.icl_parser.specs.Refusals.{Blocks, IsFaultAt, IsFaultOf, OnRefusal};
 
 use crate::ends::end_of;
 use crate::fault::ParseFault;

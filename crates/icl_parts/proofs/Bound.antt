@@ -2,7 +2,7 @@
 use Rattle.std.proofs.Common.{◌≡◌, ◌+◌, ◌-◌, ◌<◌, ◌&&◌, ℕ, suc, Bool, true, false, cond, ◌||◌, List, [], ◌∷◌, ◌++◌, length, get_or, Some, None, refl, ap, ◌∙◌, arith}
 use Rattle.std.specs.Prelude.{is_some, find, slice_get}
 use Rattle.std.specs.List.{list_any, list_all, position_from, range_with_len}
-use Rattle.icl_declarations.specs.Scopes.{or_else}
+use Rattle.ij_text.specs.Options.{or_else}
 use Rattle.icl_references.proofs.Targets.{some_is}
 
 module _ {A : Type 0} (p : A → Bool) where

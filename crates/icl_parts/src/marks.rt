@@ -1,6 +1,6 @@
 // Which binding binds each bit of a port.
 ghost use Rattle.std.specs.Prelude.{◌≡◌, ℕ, ◌<◌, ◌≤◌, nat_le, nat_lt, ◌==◌, ◌&&◌, ◌||◌, not, cond, [], length, vec_len, Some, None, true, OnOk, ◌+◌};
-ghost use Rattle.icl_declarations.specs.Scopes.{or_else};
+ghost use Rattle.ij_text.specs.Options.{or_else};
 ghost use Rattle.icl_parts.specs.Marks.{has_marks, mark_at, row_at};
 
 use icl_frames::Stretch;

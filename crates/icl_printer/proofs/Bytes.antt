@@ -10,10 +10,10 @@ use Rattle.icl_lexer.specs.declared.token.PieceKind.TheVariants.{Gap, Is}
 use Rattle.icl_lexer.specs.declared.token.TokenKind.{TokenKind}
 use Rattle.icl_lexer.specs.declared.token.TokenKind.TheVariants.{Word, Decimal, Sized, Quoted, Param, Mark}
 use Rattle.icl_lexer.specs.Pieces.{kind_of, size, in_decimal, in_digits, in_line, run, ends, base, digits, dollar, quoted, slash, block, is_mark, is_base, is_digit_x}
-use Rattle.ij_text.specs.Numbers.{decimal_from}
+use Rattle.ij_text.specs.Numbers.{decimal_from, small}
 use Rattle.ij_text.specs.Words.{in_name, begins_name}
 use Rattle.ij_text.specs.Bytes.{is_blank}
-use Rattle.icl_syntax.specs.Tokens.{decimal_of, small}
+use Rattle.icl_syntax.specs.Tokens.{decimal_of}
 
 -- ---- decimals
 

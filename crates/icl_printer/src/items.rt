@@ -1,11 +1,12 @@
 // Items, modules and designs.
 ghost use Rattle.std.specs.Prelude.{◌≡◌, OnOk, OnErr};
+ghost use Rattle.ij_bits.specs.Room.{seen_list};
 ghost use Rattle.ij_io.specs.Bytes.{Adds, AddsPart};
 ghost use Rattle.ij_io.specs.Causes.{HasCause};
 ghost use Rattle.icl_syntax.specs.Words.{link_word};
 ghost use Rattle.icl_printer.specs.Layout.{word, layout};
 ghost use Rattle.icl_printer.specs.Canonical.{mux_tokens, child_tokens, words_tokens, parameter_tokens, parameter_word, interface_tokens, in_turn, member_tokens, link_tokens};
-ghost use Rattle.icl_syntax.specs.Views.{bytes_of, seen_bind, seen_enum_word, seen_expr, seen_instr, seen_list, seen_row, seen_sig};
+ghost use Rattle.icl_syntax.specs.Views.{bytes_of, seen_bind, seen_enum_word, seen_expr, seen_instr, seen_row, seen_sig};
 
 use crate::bodies::{put_alias, put_named, put_port, put_register};
 use crate::parts::put_attribute;

@@ -3,9 +3,10 @@ ghost use Rattle.std.specs.Prelude.{OnOk, OnErr};
 ghost use Rattle.ij_io.specs.Bytes.{Adds, AddsPart};
 ghost use Rattle.ij_io.specs.Causes.{HasCause};
 ghost use Rattle.std.specs.Option.{option_map};
+ghost use Rattle.ij_bits.specs.Room.{seen_list};
 ghost use Rattle.icl_printer.specs.Layout.{word, layout};
 ghost use Rattle.icl_printer.specs.Canonical.{attribute_tokens, port_binding_tokens, parameter_binding_tokens};
-ghost use Rattle.icl_syntax.specs.Views.{seen_expr, seen_list, seen_range, seen_sig};
+ghost use Rattle.icl_syntax.specs.Views.{seen_expr, seen_range, seen_sig};
 
 use crate::put::{Put, put_if_there_behind, put_separated};
 use crate::token::{Piece, put_tokens};

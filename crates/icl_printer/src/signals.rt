@@ -88,7 +88,8 @@ impl Put for Sig {
 impl Put for List<Sig> {
     ghost use Rattle.std.specs.Prelude.{List};
     ghost use Rattle.icl_syntax.specs.Values.{SeenSig};
-    ghost use Rattle.icl_syntax.specs.Views.{seen_sig, seen_list};
+    ghost use Rattle.ij_bits.specs.Room.{seen_list};
+    ghost use Rattle.icl_syntax.specs.Views.{seen_sig};
     ghost use Rattle.icl_printer.specs.Canonical.{signals_tokens};
 
     ghost Plain = { List SeenSig };

@@ -5,9 +5,9 @@ use Rattle.std.specs.List.{enumerate_from}
 use Rattle.std.specs.Option.{option_map}
 use Rattle.std.specs.Str.{bytes_eq}
 use Rattle.ij_text.specs.declared.Place.{Place}
+use Rattle.ij_text.specs.Options.{or_else}
 use Rattle.icl_values.specs.Faults.{Answer, WrongKind}
 use Rattle.icl_frames.specs.FirstPass.{Frame}
-use Rattle.icl_declarations.specs.Scopes.{or_else}
 use Rattle.icl_declarations.specs.declared.scope.Scope.{Scope}
 use Rattle.icl_references.specs.Names.{Here, is_in, is_child_cell, child_cell, known_cell}
 use Rattle.icl_references.specs.Tables.{AreAllChildren, AreEmpty, IsChildAdded, here_at, no_frame}

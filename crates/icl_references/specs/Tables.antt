@@ -3,9 +3,10 @@
 use Rattle.std.specs.Prelude.{◌≡◌, ℕ, ◌<◌, ◌^◌, ◌==◌, ◌&&◌, cond, List, [], ◌∷◌, ◌++◌, map, length, get_or, Some, None}
 use Rattle.std.specs.Str.{bytes_eq}
 use Rattle.std.specs.Option.{option_map}
+use Rattle.ij_text.specs.Options.{or_else}
 use Rattle.icl_syntax.specs.Views.{seen_item}
 use Rattle.icl_frames.specs.FirstPass.{Frame}
-use Rattle.icl_declarations.specs.Scopes.{IsScopeOf, entry_of, or_else}
+use Rattle.icl_declarations.specs.Scopes.{IsScopeOf, entry_of}
 use Rattle.icl_frames.specs.SeenFrames.{seen_frame}
 use Rattle.icl_declarations.specs.declared.scope.Scope.{Scope}
 use Rattle.icl_references.specs.declared.tables.Member.{Member as MemberAt}

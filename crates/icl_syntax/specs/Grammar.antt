@@ -1,6 +1,6 @@
 -- The grammar of expressions, signals and bodies (IEEE 1687-2014, as far as it is read here): one definition for each production.
 use Rattle.std.specs.Prelude.{ℕ, zero, suc, ◌+◌, ◌-◌, Bool, true, false, ◌&&◌, not, cond, List, [], ◌∷◌, ◌++◌, length, drop, slice_range, Option, Some, None}
-use Rattle.grammar.specs.Symbol.{Symbol, one, give, none, barred, ◌>>=◌, ◌<|>◌, repeat}
+use Rattle.grammar.specs.Symbol.{Symbol, one, give, none, barred, ◌>>=◌, ◌<|>◌, repeat, appended, maybe}
 use Rattle.ij_text.specs.declared.Place.{Place}
 use Rattle.icl_lexer.specs.declared.token.TokenKind.{TokenKind}
 use Rattle.icl_lexer.specs.declared.token.TokenKind.TheVariants.{Word, Decimal, Sized, Quoted, Param, Mark}
@@ -142,15 +142,9 @@ expr = sum_of 64 0 >>= λ e. give e.formula
 
 -- ---- lists of parts
 
-abbrev pub appended : {A : Type 0} → List A → A → List A
-appended xs x = xs ++ x ∷ []
-
 -- S, then any number of S behind a mark
 abbrev pub parted : {A : Type 0} → ℕ → Of A → Of (List A)
 parted {A} c S = S >>= λ a. repeat (λ (xs : List A). mark c >>= λ m. S) appended (a ∷ [])
-
-abbrev pub maybe : {A : Type 0} → Of A → Of (Option A)
-maybe S = (S >>= λ a. give (Some a)) <|> give None
 
 -- S, and its end
 abbrev pub ended_by : {A : Type 0} → ℕ → Of A → Of A

@@ -1,6 +1,6 @@
 -- The grammar of items, modules and designs (IEEE 1687-2014, as far as it is read here): one definition for each production.
 use Rattle.std.specs.Prelude.{ℕ, Bool, List, [], ◌∷◌, ◌++◌, Option, Some, None, codes}
-use Rattle.grammar.specs.Symbol.{one, give, ◌>>=◌, ◌<|>◌, repeat, many}
+use Rattle.grammar.specs.Symbol.{one, give, ◌>>=◌, ◌<|>◌, repeat, many, appended, maybe}
 use Rattle.ij_text.specs.declared.Place.{Place}
 use Rattle.icl_syntax.specs.declared.tree.LinkKind.{LinkKind}
 use Rattle.icl_syntax.specs.declared.tree.PortKind.{PortKind}
@@ -16,7 +16,7 @@ use Rattle.icl_syntax.specs.declared.words.BodyKind.TheVariants.{ScanIn, ScanOut
 use Rattle.icl_lexer.specs.Seen.{SeenToken, if_word}
 use Rattle.icl_syntax.specs.Words.{item_named, bind_named, member_named, link_named}
 use Rattle.icl_syntax.specs.Values.{SeenRange, SeenRow, SeenBind, ABoundPort, ABoundParameter, ABoundAttribute, SeenEnumWord, SeenLinkInstr, SeenWhat, APort, ARegister, AMux, AChild, AnAlias, SomeWords, AParameter, AnInterface, ALink, AnAttribute, SeenItem, SeenModule}
-use Rattle.icl_syntax.specs.Grammar.{Of, mark, word, name, expr_behind, value, parted, maybe, ended_by, appended, range, sig, sigs, body, attribute_said}
+use Rattle.icl_syntax.specs.Grammar.{Of, mark, word, name, expr_behind, value, parted, ended_by, range, sig, sigs, body, attribute_said}
 
 -- ---- ports
 

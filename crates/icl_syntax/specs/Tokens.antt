@@ -1,15 +1,11 @@
 -- The decimals of tokens, and the words of ICL that this compiler leaves out.
-use Rattle.std.specs.Prelude.{ℕ, nat_lt, Bool, cond, List, [], ◌∷◌, Option, Some, None, codes}
-use Rattle.ij_text.specs.Numbers.{decimal_from}
+use Rattle.std.specs.Prelude.{ℕ, Bool, List, [], ◌∷◌, Option, None, codes}
+use Rattle.ij_text.specs.Numbers.{decimal_from, small}
 use Rattle.ij_text.specs.Words.{is_one_of}
 use Rattle.icl_lexer.specs.declared.token.TokenKind.{TokenKind}
 use Rattle.icl_lexer.specs.declared.token.TokenKind.TheVariants.{Word, Decimal, Sized, Quoted, Param, Mark}
 
 -- ---- decimals
-
--- a decimal is at most 4,294,967,295
-abbrev pub small : ℕ → Option ℕ
-small n = cond (nat_lt 4294967295 n) None (Some n)
 
 abbrev pub decimal_of : List ℕ → Option ℕ
 decimal_of text = small (decimal_from 0 text)

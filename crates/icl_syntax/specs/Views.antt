@@ -1,7 +1,7 @@
 -- The value of each tree.
 use Rattle.std.specs.Prelude.{ℕ, List, map}
 use Rattle.std.specs.Option.{option_map}
-use Rattle.ij_bits.specs.Room.{Listed}
+use Rattle.ij_bits.specs.Room.{seen_list}
 use Rattle.icl_syntax.specs.Held.{Items}
 use Rattle.icl_syntax.specs.declared.tree.Expr.{Expr}
 use Rattle.icl_syntax.specs.declared.tree.Expr.TheVariants.{Decimal, Sized, Quoted, Param, Op'}
@@ -22,10 +22,6 @@ use Rattle.icl_syntax.specs.declared.tree.Item.{Item}
 use Rattle.icl_syntax.specs.declared.tree.Module.{Module}
 use Rattle.icl_syntax.specs.declared.tree.Design.{Design}
 use Rattle.icl_syntax.specs.Values.{SeenExpr, ADecimal, ASized, AQuoted, AParam, AnOp, SeenRange, SeenSigWhat, ANumber, APath, SeenSig, SeenProp, ASource, ALaunchEdge, ALoadValue, ARefEnum, APolarity, AScanInSource, ACaptureSource, AResetValue, ATogether, SeenRow, SeenBind, ABoundPort, ABoundParameter, ABoundAttribute, SeenEnumWord, SeenLinkInstr, SeenWhat, APort, ARegister, AMux, AChild, AnAlias, SomeWords, AParameter, AnInterface, ALink, AnAttribute, SeenItem, SeenModule}
-
--- the items of a list, each seen by a view
-abbrev pub seen_list : {X Y : Type 0} → (X → Y) → Listed X → List Y
-seen_list view xs = map view xs.items
 
 abbrev pub seen_few : {X Y : Type 0} → (X → Y) → Items X → List Y
 seen_few view xs = map view xs.items

@@ -1,6 +1,7 @@
 -- The words by which the parts of a text are told apart.
 use Rattle.std.specs.Prelude.{ℕ, true, false, List, [], ◌∷◌, Option, Some, None, codes}
 use Rattle.ij_text.specs.Words.{Entry, found_in}
+use Rattle.ij_text.specs.Options.{or_else}
 use Rattle.icl_syntax.specs.declared.tree.PortKind.{PortKind}
 use Rattle.icl_syntax.specs.declared.tree.PortKind.TheVariants.{ScanInPort, ScanOutPort, DataInPort, DataOutPort, SelectPort, CaptureEnPort, ShiftEnPort, UpdateEnPort, ResetPort, TCKPort, TMSPort, TRSTPort, ClockPort, ToSelectPort, ToCaptureEnPort, ToShiftEnPort, ToUpdateEnPort, ToResetPort, ToTCKPort, ToTMSPort, ToTRSTPort, ToClockPort, ToIRSelectPort}
 use Rattle.icl_syntax.specs.declared.tree.LinkKind.{LinkKind}
@@ -13,11 +14,6 @@ use Rattle.icl_syntax.specs.declared.words.BindKeyword.{BindKeyword}
 use Rattle.icl_syntax.specs.declared.words.BindKeyword.TheVariants.{BindsPort, BindsParameter, BindsAttribute}
 use Rattle.icl_syntax.specs.declared.words.MemberKeyword.{MemberKeyword}
 use Rattle.icl_syntax.specs.declared.words.MemberKeyword.TheVariants.{MemberPort, MemberAttribute}
-
--- the first of two answers that is one
-abbrev pub or_else : {A : Type 0} → Option A → Option A → Option A
-or_else None b = b
-or_else (Some a) b = Some a
 
 -- the word of a kind of port
 abbrev pub port_word : PortKind → List ℕ

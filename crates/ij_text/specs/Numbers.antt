@@ -38,6 +38,10 @@ abbrev pub decimal_from : ℕ → List ℕ → ℕ
 decimal_from n [] = n
 decimal_from n (b ∷ bs) = decimal_from (next_decimal n b) bs
 
+-- a decimal of at most 4,294,967,295
+abbrev pub small : ℕ → Option ℕ
+small n = cond (nat_lt 4294967295 n) None (Some n)
+
 -- a digit's value: 0 to 9, A to F, a to f
 abbrev pub hex_value : ℕ → ℕ
 hex_value b = cond (nat_lt b 58) (b - 48) (cond (nat_lt b 71) (b - 55) (b - 87))

@@ -14,6 +14,10 @@ abbrev pub place_behind : Place → List ℕ → Place
 place_behind p [] = p
 place_behind p (b ∷ bs) = place_behind (next_place p b) bs
 
+-- the place after the last byte of a text
+abbrev pub end_of : List ℕ → Place
+end_of text = place_behind first_place text
+
 -- the place of a byte of a text
 abbrev pub place_at : List ℕ → ℕ → Place
 place_at text n = place_behind first_place (take n text)

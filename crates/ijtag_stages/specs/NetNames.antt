@@ -1,27 +1,23 @@
 -- How the parts of a network are called: the names of the instances below the top down to the part, and the part's own name, with
 -- dots between; nothing for a part that isn't there (IEEE 1687-2014, ICL: hierarchical names).
-use Rattle.std.specs.Prelude.{ℕ, ◌+◌, ◌-◌, nat_lt, cond, List, [], ◌∷◌, ◌++◌, map, drop, get_or, codes}
+use Rattle.std.specs.Prelude.{ℕ, ◌+◌, ◌-◌, nat_lt, cond, List, [], ◌++◌, map, drop, get_or, codes}
 use Rattle.net_graph.specs.declared.net.BitId.{BitId}
 use Rattle.net_graph.specs.declared.net.Point.{Point}
 use Rattle.net_graph.specs.declared.net.Point.TheVariants.{Entry, Reg, Mux}
 use Rattle.icl_signals.specs.PlainNets.{ThingOf, NetOf}
+use Rattle.pdl_expand.specs.Expansion.{dotted}
 use Rattle.ijtag_stages.specs.Refusals.{Arg, Bit}
-
--- each name behind a dot
-abbrev pub behind_dots : List (List ℕ) → List ℕ
-behind_dots [] = []
-behind_dots (name ∷ names) = codes "." ++ name ++ behind_dots names
 
 -- the instances from below the top down to a node
 abbrev pub path_at : NetOf → ℕ → List (List ℕ)
 path_at of node = get_or (map (λ n. n.path) of.nodes) node []
 
 abbrev pub node_name : NetOf → ℕ → List ℕ
-node_name of node = drop 1 (behind_dots (path_at of node))
+node_name of node = drop 1 (dotted (path_at of node))
 
 -- a name in a node
 abbrev pub name_in : NetOf → ℕ → List ℕ → List ℕ
-name_in of node name = drop 1 (behind_dots (path_at of node) ++ (codes "." ++ name))
+name_in of node name = drop 1 (dotted (path_at of node) ++ (codes "." ++ name))
 
 abbrev pub mux_name : NetOf → ℕ → List ℕ
 mux_name of m = get_or (map (λ mux. name_in of mux.node mux.name) of.muxes) m []

@@ -1,7 +1,8 @@
 // How the parts of a network are called (IEEE 1687-2014, ICL: hierarchical names).
 ghost use Rattle.std.specs.Prelude.{◌≡◌, map, drop, IfOk};
 ghost use Rattle.icl_signals.specs.PlainNets.{seen_net, seen_thing};
-ghost use Rattle.ijtag_stages.specs.NetNames.{behind_dots, path_at, node_name, name_in, mux_name, inst_name, thing_name, reg_thing, cell_name, index_of, bit_index, bit_arg};
+ghost use Rattle.pdl_expand.specs.Expansion.{dotted};
+ghost use Rattle.ijtag_stages.specs.NetNames.{path_at, node_name, name_in, mux_name, inst_name, thing_name, reg_thing, cell_name, index_of, bit_index, bit_arg};
 ghost use Rattle.ijtag_stages.specs.Seen.{seen_arg};
 
 use crate::refusal::Arg;
@@ -12,7 +13,7 @@ use std::alloc::Global;
 
 /// Each name behind a dot.
 fn behind_dots(alloc: Global, names: &[Name]) -> Result<Name, OutOfMemory>
-    ensures { IfOk result (λ text. text.items ≡ behind_dots (map (λ name. name.items) names.now)) }
+    ensures { IfOk result (λ text. text.items ≡ dotted (map (λ name. name.items) names.now)) }
 {
     let mut text = List::new(alloc);
     for name in names {

@@ -9,10 +9,10 @@ use Rattle.std.proofs.lemmas.List.Elements.{All-map, All-head, All-tail, All-get
 use Rattle.ij_bits.specs.Different.{AreDifferent}
 use Rattle.ij_text.specs.Numbering.{AreDistinct}
 use Rattle.ij_text.specs.Words.{in_name, begins_name, is_name}
+use Rattle.ij_text.specs.Parts.{in_front, split}
 use Rattle.net_graph.specs.declared.net.Net.{Net}
 use Rattle.net_graph.specs.declared.net.Node.{Node}
 use Rattle.net_graph.specs.Nets.{IsNet, path_of}
-use Rattle.pdl_parser.specs.Texts.{parts_at, with_byte}
 use Rattle.pdl_expand.specs.Values.{cell_of, cells_of}
 use Rattle.pdl_expand.specs.Expansion.{dotted, dotted_paths}
 
@@ -29,20 +29,20 @@ no_dot b h = by_test (b == 46) refl
 letter_in_name : (b : ℕ) → begins_name b ≡ true → in_name b ≡ true
 letter_in_name b h = ap (λ t. t || is_ascii_digit b) h
 
-part_of_bytes : (bytes rest : List ℕ) (parts : List (List ℕ)) → list_all in_name bytes ≡ true → parts_at 46 rest ≡ [] ∷ parts → parts_at 46 (bytes ++ rest) ≡ bytes ∷ parts
+part_of_bytes : (bytes rest : List ℕ) (parts : List (List ℕ)) → list_all in_name bytes ≡ true → split 46 rest ≡ [] ∷ parts → split 46 (bytes ++ rest) ≡ bytes ∷ parts
 part_of_bytes [] rest parts h e = e
 part_of_bytes (b ∷ bs) rest parts h e =
     let (one, more) = and_parts (in_name b) (list_all in_name bs) h in
-    ap (λ t. cond t ([] ∷ parts_at 46 (bs ++ rest)) (with_byte b (parts_at 46 (bs ++ rest)))) (no_dot b one)
-    ∙ ap (with_byte b) (part_of_bytes bs rest parts more e)
+    ap (λ t. cond t ([] ∷ split 46 (bs ++ rest)) (in_front b (split 46 (bs ++ rest)))) (no_dot b one)
+    ∙ ap (in_front b) (part_of_bytes bs rest parts more e)
 
-part_of_name : (name rest : List ℕ) (parts : List (List ℕ)) → is_name name ≡ true → parts_at 46 rest ≡ [] ∷ parts → parts_at 46 (name ++ rest) ≡ name ∷ parts
+part_of_name : (name rest : List ℕ) (parts : List (List ℕ)) → is_name name ≡ true → split 46 rest ≡ [] ∷ parts → split 46 (name ++ rest) ≡ name ∷ parts
 part_of_name [] rest parts h e = absurd cc
 part_of_name (b ∷ bs) rest parts h e =
     let (one, more) = and_parts (begins_name b) (list_all in_name bs) h in
     part_of_bytes (b ∷ bs) rest parts (ap (λ t. t && list_all in_name bs) (letter_in_name b one) ∙ more) e
 
-parts_of_dotted : (names : List (List ℕ)) → All (λ name. IsTrue (is_name name)) names → parts_at 46 (dotted names) ≡ [] ∷ names
+parts_of_dotted : (names : List (List ℕ)) → All (λ name. IsTrue (is_name name)) names → split 46 (dotted names) ≡ [] ∷ names
 parts_of_dotted [] h = refl
 parts_of_dotted (n ∷ ns) h =
     ap (λ ps. [] ∷ ps) (part_of_name n (dotted ns) ns (All-head (λ name. IsTrue (is_name name)) n ns h) (parts_of_dotted ns (All-tail (λ name. IsTrue (is_name name)) n ns h)))
@@ -52,7 +52,7 @@ rest_of [] = []
 rest_of (n ∷ ns) = ns
 
 dotted_once : (names others : List (List ℕ)) → All (λ name. IsTrue (is_name name)) names → All (λ name. IsTrue (is_name name)) others → dotted names ≡ dotted others → names ≡ others
-dotted_once names others h k e = ap rest_of (sym (parts_of_dotted names h) ∙ ap (parts_at 46) e ∙ parts_of_dotted others k)
+dotted_once names others h k e = ap rest_of (sym (parts_of_dotted names h) ∙ ap (split 46) e ∙ parts_of_dotted others k)
 
 -- ---- the cells of a network
 

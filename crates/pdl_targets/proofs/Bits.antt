@@ -4,6 +4,7 @@ use Rattle.std.specs.Prelude.{◌==◌, ◌&&◌, not, nat_lt, All}
 use Rattle.std.specs.Str.{bytes_eq}
 use Rattle.std.proofs.lemmas.List.Elements.{All-head, All-tail, All-take, All-drop, All-weaker}
 use Rattle.ij_text.specs.declared.Place.{Place}
+use Rattle.ij_text.specs.Options.{or_else}
 use Rattle.net_graph.specs.declared.net.BitId.{BitId}
 use Rattle.net_graph.specs.declared.net.Net.{Net}
 use Rattle.net_graph.specs.declared.net.Reg.{Reg}
@@ -21,7 +22,7 @@ use Rattle.net_graph.specs.Signals.{capture_signal}
 use Rattle.net_graph.specs.Steps.{IsDataBit, IsReadable}
 use Rattle.pdl_parser.specs.Values.{AValue, ATarget}
 use Rattle.pdl_targets.specs.declared.picks.Picked.{Picked}
-use Rattle.pdl_targets.specs.Targets.{AFault, Found, Is, Fails, found_then, and_more, unless_select, select_written, select_compared, captured_select, same_source, differ, is_inverted, capturing, captured_from, held_if_captured, or_else, write_bit, read_bit, written, compared, writes_of, reads_of, named, target_thing, thing_in, thing_of, thing_at, spots_of, has_index, position_of, number_at, fitted}
+use Rattle.pdl_targets.specs.Targets.{AFault, Found, Is, Fails, found_then, and_more, unless_select, select_written, select_compared, captured_select, same_source, differ, is_inverted, capturing, captured_from, held_if_captured, write_bit, read_bit, written, compared, writes_of, reads_of, named, target_thing, thing_in, thing_of, thing_at, spots_of, has_index, position_of, number_at, fitted}
 use Rattle.pdl_targets.specs.Laws.{OfFound, WriteNoSelect, ReadNoSelect, WritesAreOfTheNetwork, ReadsAreOfTheNetwork}
 use Rattle.pdl_targets.proofs.Apart.{all_nil, all_cons}
 use Rattle.pdl_targets.proofs.Selects.{then_of, writes_select_nothing, reads_select_nothing}

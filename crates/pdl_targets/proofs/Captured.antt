@@ -5,12 +5,13 @@ use Rattle.std.proofs.Math.Seq.{drop-cons}
 use Rattle.std.proofs.lemmas.Bool.{eqb-true, eq-eqb}
 use Rattle.std.proofs.lemmas.List.{get_or-set_same, get_or-set_other, get_or-map, map-set, map-append, length-map}
 use Rattle.ij_bits.specs.Room.{Listed}
+use Rattle.ij_text.specs.Options.{or_else}
 use Rattle.net_graph.specs.declared.net.Reg.{Reg}
 use Rattle.net_graph.specs.declared.net.Sig.{Sig}
 use Rattle.net_graph.specs.declared.net.Sig.TheVariants.{Absent, Zero, One, Bit, Out}
 use Rattle.pdl_targets.specs.declared.captors.Captor.{Captor}
 use Rattle.pdl_targets.specs.declared.picks.Picked.{Picked}
-use Rattle.pdl_targets.specs.Targets.{captured_from, capturing, differ, is_inverted, or_else, same_source}
+use Rattle.pdl_targets.specs.Targets.{captured_from, capturing, differ, is_inverted, same_source}
 use Rattle.pdl_targets.specs.Captors.{Adds, captors_in, captured, first_captor, picked, slot, slot_of}
 
 -- ---- the first of two or three

@@ -1,12 +1,13 @@
 -- Which register bits capture a signal, in an index: each slot of a table lists some of them in net order.
 use Rattle.std.specs.Prelude.{◌≡◌, ℕ, ◌+◌, ◌*◌, ◌%◌, cond, List, [], ◌∷◌, get_or, map, Option, Some, None}
 use Rattle.ij_bits.specs.Room.{Listed}
+use Rattle.ij_text.specs.Options.{or_else}
 use Rattle.net_graph.specs.declared.net.Net.{Net}
 use Rattle.net_graph.specs.declared.net.Sig.{Sig}
 use Rattle.net_graph.specs.declared.net.Sig.TheVariants.{Absent, Zero, One, Bit, Out}
 use Rattle.pdl_targets.specs.declared.captors.Captor.{Captor}
 use Rattle.pdl_targets.specs.declared.picks.Picked.{Picked}
-use Rattle.pdl_targets.specs.Targets.{captured_from, differ, is_inverted, or_else, same_source}
+use Rattle.pdl_targets.specs.Targets.{captured_from, differ, is_inverted, same_source}
 
 -- the slot of a bit of a register, or of an output of an instrument
 abbrev pub slot : ℕ → ℕ → ℕ → ℕ

@@ -1,9 +1,10 @@
 // Which register bits capture a signal, in an index.
 ghost use Rattle.std.specs.Prelude.{◌≡◌, ◌<◌, ℕ, ◌^◌, length, All, IfOk, OnOk};
+ghost use Rattle.ij_text.specs.Options.{or_else};
 ghost use Rattle.net_graph.specs.declared.net.Sig.{Sig as ASignal};
 ghost use Rattle.net_graph.specs.Nets.{IsNet};
 ghost use Rattle.pdl_targets.specs.Captors.{Adds, AreCaptors, captors_in, captured, first_captor, picked, slot, slot_of};
-ghost use Rattle.pdl_targets.specs.Targets.{capturing, captured_from, compared, or_else};
+ghost use Rattle.pdl_targets.specs.Targets.{capturing, captured_from, compared};
 
 use crate::picks::{Picked, capture_of, flip_if, held_if_captured, is_inverted, same_source};
 use ij_bits::{List, OutOfMemory};

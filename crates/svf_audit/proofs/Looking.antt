@@ -7,11 +7,10 @@ use mathlib.Core.Bool.{beq}
 use Rattle.std.proofs.lemmas.List.{drop_all, drop_more, drop-drop, length-replicate, take-append-drop}
 use Rattle.std.proofs.lemmas.List.Folds.{list_any-append}
 use Rattle.std.proofs.lemmas.Bool.Decides.{eqb_tells}
-use Rattle.ij_bits.specs.BitLists.{bits_of, bits_eq, number_of, same_bit}
+use Rattle.ij_bits.specs.BitLists.{bits_of, bits_eq, number_of, same_bit, has_one}
 use Rattle.svf_writer.specs.Fits.{HasLength}
 use Rattle.tap_machine.proofs.Shifts.{masked_at}
 use Rattle.tap_machine.specs.Play.{expected, masked}
-use Rattle.svf_audit.specs.Kept.{has_one}
 
 abbrev nothing : Option Bool
 nothing = None

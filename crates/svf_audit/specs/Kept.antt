@@ -1,14 +1,10 @@
 -- What a scan of a kind leaves for the next one, by the commands that it stands in.
 use Rattle.std.specs.Prelude.{◌≡◌, ℕ, Bool, true, List, [], length, replicate, Option, option_map, unwrap_or}
-use Rattle.std.specs.List.{list_any}
 use Rattle.svf_writer.specs.Fits.{HasLength}
 use Rattle.svf_writer.specs.Lent.{lent}
 use Rattle.svf_audit.specs.declared.kept.Kept.{Kept}
 use Rattle.tap_machine.specs.Play.{LastScan, expected}
 
--- whether a bit is 1
-abbrev pub has_one : List Bool → Bool
-has_one bits = list_any (λ b. b) bits
 
 abbrev pub seen_tdi : Kept → List Bool
 seen_tdi k = unwrap_or (lent k.tdi) []

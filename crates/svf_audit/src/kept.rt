@@ -2,10 +2,10 @@
 ghost use Rattle.std.specs.Prelude.{◌≡◌, ◌+◌, ◌<◌, ◌≤◌, length, slice_index_or, slice_range, false, Some, None, get_or};
 ghost use Rattle.std.specs.List.{list_any};
 ghost use Rattle.std.specs.Option.{is_some};
-ghost use Rattle.ij_bits.specs.BitLists.{bits_eq, bits_of, number_of};
+ghost use Rattle.ij_bits.specs.BitLists.{bits_eq, bits_of, number_of, has_one};
 ghost use Rattle.svf_writer.specs.Fits.{FitsAfter, HasLength};
 ghost use Rattle.svf_writer.specs.SeenCommands.{seen_scan};
-ghost use Rattle.svf_audit.specs.Kept.{AreKept, has_one, last_length, looked_for, seen_kept, seen_tdi};
+ghost use Rattle.svf_audit.specs.Kept.{AreKept, last_length, looked_for, seen_kept, seen_tdi};
 ghost use Rattle.tap_machine.specs.Play.{after_scan, no_scan};
 
 use svf_writer::{Part, Scan, lend};

@@ -7,7 +7,8 @@ use Rattle.std.specs.Str.{bytes_eq}
 use Rattle.ij_bits.specs.Hex.{hex_digit}
 use Rattle.svf_writer.specs.Written.{next_column, hex_lines, hex_text}
 use Rattle.ij_text.specs.Bytes.{is_blank}
-use Rattle.svf_reader.specs.Texts.{first, in_comment, plain_from, plain, in_front, texts, is_mark, in_word, goes_on, longer, cut, words}
+use Rattle.ij_text.specs.Parts.{in_front, longer}
+use Rattle.svf_reader.specs.Texts.{first, in_comment, plain_from, plain, texts, is_mark, in_word, goes_on, cut, words}
 use Rattle.svf_reader.specs.Commands.{is_close, behind_hex, hex_digits}
 use Rattle.svf_reader.proofs.Digits.{is_quiet, IsDigit, a_digit, hex_list}
 

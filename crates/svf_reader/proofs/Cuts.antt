@@ -4,7 +4,8 @@ use Rattle.std.specs.Prelude.{◌==◌, ◌||◌}
 use Rattle.std.proofs.lemmas.Bool.Decides.{nat_tests}
 use Rattle.svf_reader.specs.declared.bytes.Class.TheVariants.{Gap, Command}
 use Rattle.ij_text.specs.Bytes.{is_blank}
-use Rattle.svf_reader.specs.Texts.{first, in_comment, plain_from, plain, blanks, in_front, texts}
+use Rattle.ij_text.specs.Parts.{in_front}
+use Rattle.svf_reader.specs.Texts.{first, in_comment, plain_from, plain, blanks, texts}
 use Rattle.svf_reader.specs.Reading.{run_length}
 
 -- ---- the blanks at the front

@@ -8,13 +8,13 @@ use Rattle.std.proofs.lemmas.List.{take_at, drop_at, length-take}
 use Rattle.std.proofs.Math.Nat.{pow-suc}
 use Rattle.std.proofs.lemmas.Nat.{pow_pos}
 use Rattle.std.proofs.lemmas.Fmt.{decimal_by_steps, length-decimal-le, decimal_nonempty}
-use Rattle.ij_bits.specs.BitLists.{bits_of, number_of}
+use Rattle.ij_bits.specs.BitLists.{bits_of, number_of, has_one}
 use Rattle.ij_bits.specs.Hex.{hex_code, hex_digit}
 use Rattle.ij_text.specs.Bytes.{is_blank}
 use Rattle.svf_reader.specs.Texts.{is_mark}
 use Rattle.svf_reader.specs.Commands.{number_from, number}
 use Rattle.ij_text.specs.Numbers.{hex_value as digit_value}
-use Rattle.svf_reader.specs.Values.{hex_bits, has_one, fitted, is_wide}
+use Rattle.svf_reader.specs.Values.{hex_bits, fitted, is_wide}
 use Rattle.svf_reader.proofs.Putting.{no_one}
 
 -- ---- bytes

@@ -6,7 +6,8 @@ use Rattle.std.proofs.lemmas.Bool.Decides.{nat_tests}
 use Rattle.svf_reader.specs.declared.bytes.Class.{Class}
 use Rattle.svf_reader.specs.declared.bytes.Class.TheVariants.{Gap, Word, Run}
 use Rattle.ij_text.specs.Bytes.{is_blank}
-use Rattle.svf_reader.specs.Texts.{first, in_comment, plain_from, plain, is_mark, is_any, in_word, goes_on, longer, cut, behind_bytes, behind_word}
+use Rattle.ij_text.specs.Parts.{longer}
+use Rattle.svf_reader.specs.Texts.{first, in_comment, plain_from, plain, is_mark, is_any, in_word, goes_on, cut, behind_bytes, behind_word}
 use Rattle.svf_reader.specs.Reading.{in_class, run_length, word_length, words_of, runs_of}
 
 -- ---- one step of a run

@@ -4,8 +4,8 @@ use Rattle.std.specs.Prelude.{◌==◌, ◌||◌}
 use Rattle.std.proofs.lemmas.Bool.Decides.{nat_tests}
 use Rattle.std.proofs.Math.Nat.{pow-suc, zero-div, div-div-eq-div-mul}
 use Rattle.std.proofs.lemmas.List.{drop_at, drop-drop, drop-append-le}
-use Rattle.ij_bits.specs.BitLists.{bits_of, number_of}
-use Rattle.svf_reader.specs.Values.{hex_bits, has_one, fitted, is_wide}
+use Rattle.ij_bits.specs.BitLists.{bits_of, number_of, has_one}
+use Rattle.svf_reader.specs.Values.{hex_bits, fitted, is_wide}
 use Rattle.svf_reader.proofs.Putting.{hex_bits-append, hex_length}
 use Rattle.svf_reader.proofs.Digits.{padded, padded_split, bits_again, high_bits}
 

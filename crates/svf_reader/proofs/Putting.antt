@@ -1,9 +1,9 @@
 -- The bits of digits.
 use Rattle.std.proofs.Common.{◌≡◌, ℕ, zero, suc, ◌+◌, ◌*◌, ◌<◌, Bool, false, List, [], ◌∷◌, ◌++◌, length, take, replicate, refl, ap, sym, ◌∙◌, arith, append_assoc, append-nil, get_or}
 use Rattle.std.proofs.lemmas.List.{take_more, length-append}
-use Rattle.ij_bits.specs.BitLists.{bits_of}
+use Rattle.ij_bits.specs.BitLists.{bits_of, has_one}
 use Rattle.ij_text.specs.Numbers.{hex_value as digit_value}
-use Rattle.svf_reader.specs.Values.{hex_bits, has_one}
+use Rattle.svf_reader.specs.Values.{hex_bits}
 
 pub hex_bits-append : (xs ys : List ℕ) → hex_bits (xs ++ ys) ≡ hex_bits ys ++ hex_bits xs
 hex_bits-append [] ys = sym (append-nil (hex_bits ys))

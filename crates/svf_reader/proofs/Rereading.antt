@@ -14,7 +14,8 @@ use Rattle.svf_reader.specs.declared.parsed.Register.{Register}
 use Rattle.svf_reader.specs.declared.parsed.Register.TheVariants.{Instruction, Data}
 use Rattle.svf_reader.specs.declared.so_far.ReadSoFar.{ReadSoFar}
 use Rattle.ij_text.specs.Bytes.{is_blank}
-use Rattle.svf_reader.specs.Texts.{plain, texts, is_mark, is_any, goes_on, longer, in_front, cut, words, runs, behind_bytes, behind_word, blanks}
+use Rattle.ij_text.specs.Parts.{in_front, longer}
+use Rattle.svf_reader.specs.Texts.{plain, texts, is_mark, is_any, goes_on, cut, words, runs, behind_bytes, behind_word, blanks}
 use Rattle.svf_reader.specs.Commands.{Parts, SeenParsed, Scans, ToReset, ToIdle, Runs, is_word, any_is_one_of, no_parts, with_part, both, one_part, then_parts, parts, behind_hex, scan_of, scan, state, cycles, run_test, parsed_by, command_of_words, left_out_names, is_left_out, left_out}
 use Rattle.svf_reader.specs.Values.{fitted, hex_bits, is_wide}
 use Rattle.svf_reader.specs.Meaning.{Cause, SvfSyntax, SvfLimit, HexWide, Step, with_length, with_leaving_clock, scan_clocks, within_clock_limit, part_wide, part_of, any_wide, scan_with, scan_command, scanned, effect_of, if_parsed, unless_left_out, read_command, at_end, and_then, read_from}

@@ -8,7 +8,8 @@ use Rattle.svf_reader.specs.declared.fault.SvfFault.{SvfFault}
 use Rattle.svf_reader.specs.declared.fault.SvfCause.{SvfCause}
 use Rattle.svf_reader.specs.declared.fault.SvfCause.TheVariants.{LeftOut as IsLeftOut, SvfSyntax as Syntax, SvfLimit as Limit, HexWide as Wide, TdiMissing as NoTdi, OutOfMemory}
 use Rattle.ij_text.specs.Places.{place_at}
-use Rattle.svf_reader.specs.Texts.{in_front, texts, words, plain, blanks}
+use Rattle.ij_text.specs.Parts.{in_front}
+use Rattle.svf_reader.specs.Texts.{texts, words, plain, blanks}
 use Rattle.svf_reader.specs.Meaning.{Cause, LeftOut, SvfSyntax, SvfLimit, HexWide, TdiMissing, Refusal, Step, listed, in_front_of, at_first, at_end, and_then, read_command, read_from, svf}
 use Rattle.svf_reader.specs.Reading.{words_of}
 use Rattle.svf_reader.specs.Answers.{Fails, AtPlace, Refuses}

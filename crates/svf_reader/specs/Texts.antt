@@ -1,6 +1,7 @@
 -- How an SVF text falls into comments, commands and words (Serial Vector Format, revision E).
 use Rattle.std.specs.Prelude.{ℕ, suc, ◌==◌, Bool, true, false, not, ◌&&◌, ◌||◌, cond, List, [], ◌∷◌}
 use Rattle.ij_text.specs.Bytes.{is_blank}
+use Rattle.ij_text.specs.Parts.{in_front, longer}
 
 -- ---- comments
 
@@ -29,11 +30,6 @@ plain text = plain_from false text
 
 -- ---- commands
 
--- a byte in front of a list of texts belongs to the first of them
-abbrev pub in_front : ℕ → List (List ℕ) → List (List ℕ)
-in_front b [] = (b ∷ []) ∷ []
-in_front b (t ∷ ts) = (b ∷ t) ∷ ts
-
 -- what stands in front of each `;` (59), and last what stands behind all of them
 abbrev pub texts : List ℕ → List (List ℕ)
 texts [] = [] ∷ []
@@ -55,12 +51,6 @@ in_word alone b = not (is_blank b || alone b)
 abbrev pub goes_on : (ℕ → Bool) → List ℕ → Bool
 goes_on alone [] = false
 goes_on alone (b ∷ bs) = in_word alone b
-
--- a byte in front of some words: a part of the first one, if this begins right behind it
-abbrev pub longer : Bool → ℕ → List (List ℕ) → List (List ℕ)
-longer false b ws = (b ∷ []) ∷ ws
-longer true b [] = (b ∷ []) ∷ []
-longer true b (w ∷ ws) = (b ∷ w) ∷ ws
 
 abbrev pub cut : (ℕ → Bool) → List ℕ → List (List ℕ)
 cut alone [] = []

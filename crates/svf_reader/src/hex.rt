@@ -1,9 +1,9 @@
 // Hexadecimal texts as bits.
 ghost use Rattle.std.specs.Prelude.{◌≡◌, ◌+◌, ◌^◌, ◌/◌, ◌%◌, ◌<◌, ◌≤◌, ◌==◌, not, [], ◌++◌, length, drop, Some, IfOk};
-ghost use Rattle.ij_bits.specs.BitLists.{number_of};
+ghost use Rattle.ij_bits.specs.BitLists.{number_of, has_one};
 ghost use Rattle.ij_text.specs.Numbers.{hex_value as digit_value};
 ghost use Rattle.svf_reader.specs.Answers.{Gives, part_value};
-ghost use Rattle.svf_reader.specs.Values.{hex_bits, has_one, fitted, is_wide};
+ghost use Rattle.svf_reader.specs.Values.{hex_bits, fitted, is_wide};
 ghost use Rattle.svf_reader.specs.Meaning.{hex_value};
 ghost use Rattle.svf_reader.specs.Seen.{digits_of};
 

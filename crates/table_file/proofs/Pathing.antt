@@ -5,8 +5,8 @@ use Rattle.std.specs.List.{list_any, position_or_len}
 use Rattle.std.specs.Str.{bytes_eq}
 use Rattle.std.proofs.lemmas.Bool.Decides.{nat_tests}
 use Rattle.ij_text.specs.Numbering.{number_in}
-use Rattle.bench_lines.specs.Lines.{in_front, split}
 use Rattle.ij_text.specs.declared.Place.{Place}
+use Rattle.ij_text.specs.Parts.{in_front, split}
 use Rattle.instruments.specs.Seen.{SeenModel}
 use Rattle.table_file.specs.declared.fault.TableFault.TheVariants.{TableTwice}
 use Rattle.table_file.specs.Tables.{SeenTable, Block, same_path, has_table, new_block, empty}

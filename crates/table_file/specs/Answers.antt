@@ -2,9 +2,9 @@
 use Rattle.std.specs.Prelude.{◌≡◌, ℕ, Result, Ok, Err, List, [], ◌∷◌, ◌++◌, map, Option, Some, None, IfSome}
 use Rattle.ij_bits.specs.Room.{Listed}
 use Rattle.ij_text.specs.declared.Place.{Place}
-use Rattle.bench_lines.specs.Lines.{split}
 use Rattle.table_lines.specs.Said.{instrument}
 use Rattle.std.specs.Option.{option_map}
+use Rattle.ij_text.specs.Parts.{split}
 use Rattle.instruments.specs.Seen.{seen_model}
 use Rattle.table_file.specs.declared.fault.TableFault.{TableFault}
 use Rattle.table_file.specs.declared.fault.TableFault.TheVariants.{TableSyntax, TableName, TableWidth, TableLimit, TableTwice, OutOfMemory}

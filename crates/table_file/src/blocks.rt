@@ -2,8 +2,8 @@
 ghost use Rattle.std.specs.Prelude.{◌≡◌, ◌+◌, ◌^◌, ◌<◌, ◌≤◌, ◌++◌, ◌∷◌, [], List, map, length, is_some, option_map, IfOk, IfSome, OnOk, MatchOption, Ok, Err, None, Some, false};
 ghost use Rattle.ij_text.specs.Numbering.{number_in};
 ghost use Rattle.ij_text.specs.declared.Place.{Place};
+ghost use Rattle.ij_text.specs.Parts.{split};
 ghost use Rattle.instruments.specs.Seen.{seen_model};
-ghost use Rattle.bench_lines.specs.Lines.{split};
 ghost use Rattle.bench_lines.specs.Reading.{texts};
 ghost use Rattle.table_lines.specs.Said.{instrument};
 ghost use Rattle.table_lines.specs.SeenSaid.{seen_said};

@@ -1,7 +1,7 @@
 -- Texts with brackets.
 use Rattle.std.proofs.Common.{◌≡◌, ℕ, ◌≤◌, Bool, true, false, cond, List, [], ◌∷◌, length, None, refl, ap, sym, ◌∙◌, arith}
 use Rattle.std.specs.Prelude.{◌==◌}
-use Rattle.bench_lines.specs.Lines.{in_front, split}
+use Rattle.ij_text.specs.Parts.{in_front, split}
 use Rattle.bench_lines.specs.Words.{closed, opened, bracketed, two_decimals, part_of}
 
 -- something behind the `]`

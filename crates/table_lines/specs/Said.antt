@@ -3,6 +3,7 @@ use Rattle.std.specs.Prelude.{ℕ, Bool, true, false, not, ◌&&◌, cond, List,
 use Rattle.std.specs.Str.{bytes_eq}
 use Rattle.ij_text.specs.Numbers.{Written}
 use Rattle.ij_text.specs.Words.{is_name}
+use Rattle.ij_text.specs.Options.{or_else}
 use Rattle.bench_lines.specs.Words.{Slice, path, decimal, plain, number, entry, slice}
 
 -- ---- what is said
@@ -110,10 +111,6 @@ abbrev pub entry_amount : SaidSlot → Option SaidEntry → Option SaidAmount
 entry_amount slot None = None
 entry_amount (ToWord name) (Some e) = Some (FromEntry e)
 entry_amount (ToEntry x) (Some e) = None
-
-abbrev pub or_else : {A : Type 0} → Option A → Option A → Option A
-or_else None other = other
-or_else (Some a) other = Some a
 
 -- an amount of one word: a name, a number or an entry
 abbrev pub amount : Bool → SaidSlot → List ℕ → Option SaidAmount

@@ -7,7 +7,8 @@ use Rattle.std.proofs.lemmas.List.Elements.{All-nil, All-cons, All-push, Contain
 use Rattle.ij_bits.specs.Different.{AreDifferent}
 use Rattle.ij_text.specs.declared.Place.{Place}
 use Rattle.ij_text.specs.Words.{is_name}
-use Rattle.bench_lines.specs.Lines.{Line, in_front, split, lines_of, end_of}
+use Rattle.ij_text.specs.Parts.{in_front, split}
+use Rattle.bench_lines.specs.Lines.{Line, lines_of, end_of}
 use Rattle.bench_lines.specs.Words.{slice, path as path_read, decimal as decimal_read}
 use Rattle.instruments.specs.Seen.{SeenModel}
 use Rattle.instruments.specs.Models.{IsModel}

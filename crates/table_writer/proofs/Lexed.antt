@@ -3,7 +3,8 @@ use Rattle.std.proofs.Common.{◌≡◌, ◌≢◌, ℕ, suc, Bool, true, false,
 use Rattle.std.specs.Prelude.{◌==◌, ◌&&◌, ◌||◌}
 use Rattle.std.specs.List.{list_all}
 use Rattle.ij_text.specs.Bytes.{is_line_blank}
-use Rattle.bench_lines.specs.Lines.{Line, in_front, split, lines, shown, is_mark, in_word, goes_on, longer, words, line_place, unless_empty, lines_from}
+use Rattle.ij_text.specs.Parts.{in_front, longer, split}
+use Rattle.bench_lines.specs.Lines.{Line, lines, shown, is_mark, in_word, goes_on, words, line_place, unless_empty, lines_from}
 
 -- ---- tests of all bytes
 

@@ -7,6 +7,7 @@ use Rattle.std.proofs.lemmas.Bool.Decides.{nat_tests}
 use Rattle.std.proofs.lemmas.List.Elements.{All-weaker}
 use Rattle.ij_text.specs.Numbers.{InDecimal, is_digit, go_on, value_of, decimal_from, said, number_of_text}
 use Rattle.ij_text.specs.Words.{begins_name, in_name, is_name}
+use Rattle.ij_text.specs.Options.{or_else}
 use Rattle.bench_lines.specs.Words.{unless_too_wide, without_x, number as number_read, plain as plain_read, decimal as decimal_read}
 use Rattle.instruments.specs.declared.model.Operand.{Operand}
 use Rattle.instruments.specs.declared.model.Operand.TheVariants.{Word, Input, Old}
@@ -18,7 +19,7 @@ use Rattle.instruments.specs.declared.model.Set.{Set}
 use Rattle.instruments.specs.Seen.{SeenWord, SeenMemory, SeenModel}
 use Rattle.instruments.specs.After.{width_of, memory_width}
 use Rattle.instruments.specs.Models.{IsWidth, IsWord, IsMemory, IsOperand, IsPresent, IsSource, IsIndex, IsAmount, IsSlot, IsNoCopy, IsSet, word_width, operand_width, memory_names}
-use Rattle.table_lines.specs.Said.{Words, is, if_there, SaidEntry, SaidSlot, ToWord, ToEntry, SaidAmount, Number, Copy, Plus, Minus, FromEntry, SaidSet, entry_of, entry_in, entry_slot, slot, number_amount, entry_amount, or_else, amount, plus_minus, set_of, set_words}
+use Rattle.table_lines.specs.Said.{Words, is, if_there, SaidEntry, SaidSlot, ToWord, ToEntry, SaidAmount, Number, Copy, Plus, Minus, FromEntry, SaidSet, entry_of, entry_in, entry_slot, slot, number_amount, entry_amount, amount, plus_minus, set_of, set_words}
 use Rattle.table_file.specs.Tables.{stands_in, is_memory, known, name_width, slot_said, amount_said, set_said, no_operand, no_entry, no_slot, no_amount, is_above, slot_width, amount_width}
 use Rattle.table_file.proofs.Naming.{equal_names}
 use Rattle.bench_file.specs.Written.{word_name, memory_name, operand_text, entry_text, slot_text, amount_text, set_text}

@@ -1,7 +1,7 @@
 use Rattle.std.proofs.Common.{◌≡◌, ◌≤◌, List, ℕ, [], ◌∷◌, length, take, drop, ap, sym, ◌∙◌, arith, subst}
 use Rattle.std.proofs.lemmas.List.{nil_from_length}
 use Rattle.std.proofs.lemmas.Bool.Decides.{nat_tests}
-use Rattle.bench_lines.specs.Lines.{split}
+use Rattle.ij_text.specs.Parts.{split}
 use Rattle.bench_lines.proofs.Runs.{last_piece, first_piece}
 use Rattle.bench_lines.proofs.bytes.cut_at.Goals as goal
 

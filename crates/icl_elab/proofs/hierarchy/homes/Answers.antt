@@ -1,5 +1,5 @@
 use Rattle.std.proofs.Common.{◌∙◌, ap}
-use Rattle.icl_declarations.specs.Scopes.{or_else}
+use Rattle.ij_text.specs.Options.{or_else}
 use Rattle.icl_elab.specs.Placing.{parent_in}
 use Rattle.icl_references.specs.Tables.{frames_of}
 use Rattle.icl_elab.proofs.Homes.{home_from, home_is}

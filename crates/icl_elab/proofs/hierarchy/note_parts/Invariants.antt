@@ -1,6 +1,6 @@
 use Rattle.std.proofs.Common.{◌≡◌, ◌<◌, ℕ, None, cond, length, drop}
 use Rattle.std.specs.List.{position_from}
-use Rattle.icl_declarations.specs.Scopes.{or_else}
+use Rattle.ij_text.specs.Options.{or_else}
 use Rattle.icl_references.specs.Names.{is_in}
 use Rattle.icl_elab.specs.Placing.{home_at, is_of_cell, parent_in}
 use Rattle.icl_references.specs.Tables.{frames_of}

@@ -1,8 +1,7 @@
 use Rattle.std.proofs.Common.{◌≡◌, ◌<◌, ◌≤◌, ◌+◌, ◌*◌, ◌-◌, ◌==◌, ℕ, cond, Bool, true, false, List, [], ◌∷◌, None, sym, ap, ◌∙◌, arith, get_or, drop, length}
 use Rattle.std.proofs.lemmas.Grind.{common_steps}
 use Rattle.std.proofs.lemmas.Bool.Decides.{nat_tests}
-use Rattle.ij_text.specs.Numbers.{decimal_from}
-use Rattle.icl_syntax.specs.Tokens.{small}
+use Rattle.ij_text.specs.Numbers.{decimal_from, small}
 use Rattle.icl_expressions.proofs.leaves.decimal.Goals as goal
 
 -- further digits make a decimal no smaller

@@ -1,5 +1,5 @@
 use Rattle.std.proofs.Common.{◌≡◌, ◌≤◌, length}
-use Rattle.icl_syntax.specs.Views.{seen_list}
+use Rattle.ij_bits.specs.Room.{seen_list}
 use Rattle.icl_expressions.specs.Reading.{more}
 use Rattle.icl_parser.proofs.entries.read_behind.Given as goal
 

@@ -1,5 +1,5 @@
 use Rattle.std.proofs.Common.{◌≡◌, ◌+◌, ℕ, nat_le, nat_lt, ◌&&◌, cond, Some, None}
-use Rattle.icl_declarations.specs.Scopes.{or_else}
+use Rattle.ij_text.specs.Options.{or_else}
 use Rattle.icl_parts.specs.Marks.{mark_at}
 use Rattle.icl_parts.proofs.marks.fill.Given as goal
 

@@ -1,8 +1,9 @@
 use Rattle.std.specs.Option.{option_map}
 use Rattle.icl_printer.specs.Canonical.{if_there, range_tokens, braced, property_tokens}
-use Rattle.icl_syntax.specs.Views.{seen_list, seen_prop, seen_range}
+use Rattle.icl_syntax.specs.Views.{seen_prop, seen_range}
 use Rattle.ij_io.proofs.Adding.{at_refusal}
 use Rattle.std.proofs.Common.{◌∷◌, ◌++◌, List, ℕ, ap, sym}
+use Rattle.ij_bits.specs.Room.{seen_list}
 use Rattle.icl_printer.specs.Layout.{word}
 use Rattle.icl_printer.proofs.Laid.{laid_both, laid_front, laid_then_part, part_as, whole_as}
 use Rattle.icl_printer.proofs.bodies.put_port.Goals as goal

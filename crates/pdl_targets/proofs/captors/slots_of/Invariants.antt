@@ -1,6 +1,7 @@
 use Rattle.std.proofs.Common.{◌≡◌, drop}
+use Rattle.ij_text.specs.Options.{or_else}
 use Rattle.net_graph.specs.declared.net.Sig.{Sig}
-use Rattle.pdl_targets.specs.Targets.{captured_from, or_else}
+use Rattle.pdl_targets.specs.Targets.{captured_from}
 use Rattle.pdl_targets.specs.Captors.{captured}
 use Rattle.pdl_targets.proofs.captors.slots_of.Given as goal
 

@@ -1,7 +1,7 @@
 use Rattle.std.proofs.Common.{◌≡◌, ◌+◌, ◌-◌, ◌==◌, ap, sym, ◌∙◌, arith, true, [], take, drop}
 use Rattle.std.specs.Prelude.{not, replicate, slice_range, unwrap_or}
+use Rattle.ij_bits.specs.BitLists.{has_one}
 use Rattle.svf_writer.specs.Lent.{lent}
-use Rattle.svf_audit.specs.Kept.{has_one}
 use Rattle.svf_audit.proofs.Looking.{has_number, ones_some}
 use Rattle.svf_audit.proofs.kept.compares_one_of.Goals as goal
 

@@ -1,7 +1,8 @@
 use Rattle.std.proofs.Common.{◌≡◌, ◌+◌, ◌*◌, ◌≤◌, min, drop, length, sym, ap, ◌∙◌, arith}
 use Rattle.std.proofs.lemmas.List.{drop_all}
+use Rattle.ij_bits.specs.BitLists.{has_one}
 use Rattle.svf_writer.specs.Lent.{lent}
-use Rattle.svf_audit.specs.Kept.{has_one, seen_kept}
+use Rattle.svf_audit.specs.Kept.{seen_kept}
 use Rattle.svf_audit.proofs.Looking.{any_compared, is_absent, is_there, mask_length, no_one_here, none_compared, one_here}
 use Rattle.svf_audit.proofs.kept.compares_some.Goals as goal
 

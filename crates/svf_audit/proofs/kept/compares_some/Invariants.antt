@@ -1,5 +1,6 @@
 use Rattle.std.proofs.Common.{◌≡◌, ◌*◌, min, drop}
-use Rattle.svf_audit.specs.Kept.{has_one, seen_kept}
+use Rattle.ij_bits.specs.BitLists.{has_one}
+use Rattle.svf_audit.specs.Kept.{seen_kept}
 use Rattle.svf_audit.proofs.kept.compares_some.Given as goal
 
 abbrev pub invariant-loop-word : goal.invariant-loop-word

@@ -1,7 +1,8 @@
 use Rattle.std.proofs.Common.{Bool, not, arith, ap, sym, ◌∙◌, get_or, take}
 use Rattle.std.specs.Prelude.{◌==◌, ◌||◌}
+use Rattle.ij_bits.specs.BitLists.{has_one}
 use Rattle.ij_text.specs.Numbers.{hex_value as digit_value}
-use Rattle.svf_reader.specs.Values.{hex_bits, has_one}
+use Rattle.svf_reader.specs.Values.{hex_bits}
 use Rattle.svf_reader.proofs.Putting.{hex_bits-more}
 use Rattle.svf_reader.proofs.Packing.{digit_ones}
 use Rattle.svf_reader.proofs.hex.have_one.Goals as goal

@@ -1,5 +1,6 @@
 use Rattle.std.proofs.Common.{◌≡◌, take}
-use Rattle.svf_reader.specs.Values.{hex_bits, has_one}
+use Rattle.ij_bits.specs.BitLists.{has_one}
+use Rattle.svf_reader.specs.Values.{hex_bits}
 use Rattle.svf_reader.proofs.hex.have_one.Given as goal
 
 abbrev pub invariant-loop-d : goal.invariant-loop-d

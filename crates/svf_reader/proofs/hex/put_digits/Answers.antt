@@ -1,7 +1,7 @@
 use Rattle.std.proofs.Common.{◌≡◌, ◌≤◌, ◌+◌, ◌-◌, ◌/◌, ◌^◌, ◌++◌, Bool, not, List, length, drop, arith, ap, sym, ◌∙◌}
 use Rattle.std.specs.Prelude.{◌==◌, ◌||◌}
-use Rattle.ij_bits.specs.BitLists.{bits_of, number_of}
-use Rattle.svf_reader.specs.Values.{hex_bits, has_one, fitted, is_wide}
+use Rattle.ij_bits.specs.BitLists.{bits_of, number_of, has_one}
+use Rattle.svf_reader.specs.Values.{hex_bits, fitted, is_wide}
 use Rattle.svf_reader.proofs.Packing.{InParts, fitted_more, last_bits, wide_is}
 use Rattle.svf_reader.proofs.hex.put_digits.Goals as goal
 

@@ -1,9 +1,9 @@
 use Rattle.std.proofs.Common.{◌≡◌, ℕ, ◌/◌, ◌^◌, Bool, Option, List, Result, Some, Ok, Err, not, cond, ap, sym, ◌∙◌}
 use Rattle.std.specs.Prelude.{◌==◌, ◌||◌}
-use Rattle.ij_bits.specs.BitLists.{bits_of}
+use Rattle.ij_bits.specs.BitLists.{bits_of, has_one}
 use Rattle.svf_reader.specs.Answers.{part_value}
 use Rattle.svf_reader.specs.Meaning.{Cause, HexWide}
-use Rattle.svf_reader.specs.Values.{hex_bits, has_one, fitted, is_wide}
+use Rattle.svf_reader.specs.Values.{hex_bits, fitted, is_wide}
 use Rattle.svf_reader.proofs.Packing.{InParts, last_bits, word_wide}
 use Rattle.svf_reader.proofs.hex.word_part.Goals as goal
 

@@ -1,5 +1,5 @@
 use Rattle.std.proofs.Common.{◌≡◌, ◌++◌, length}
-use Rattle.bench_lines.specs.Lines.{split}
+use Rattle.ij_text.specs.Parts.{split}
 use Rattle.bench_lines.specs.Reading.{texts}
 use Rattle.table_lines.proofs.said.pieces.Given as goal
 

@@ -1,6 +1,7 @@
 use Rattle.std.proofs.Common.{◌≡◌, ℕ, List, Some, None, sym, ap, ◌∙◌, cond}
 use Rattle.std.specs.Str.{bytes_eq}
-use Rattle.icl_declarations.specs.Scopes.{entry_of, or_else}
+use Rattle.ij_text.specs.Options.{or_else}
+use Rattle.icl_declarations.specs.Scopes.{entry_of}
 use Rattle.icl_declarations.proofs.ScopeTables.{at, added}
 use Rattle.icl_declarations.proofs.scope.Scope.add.Goals as goal
 

@@ -1,7 +1,7 @@
 use Rattle.std.proofs.Common.{◌≡◌, ◌∙◌, ◌+◌, [], ◌∷◌, ◌++◌, ◌||◌, cond, map, length, Some, None, sym, ap, arith, eqb}
 use Rattle.std.proofs.lemmas.List.{length-map, map-append}
 use Rattle.std.specs.List.{list_any, position_from}
-use Rattle.icl_declarations.specs.Scopes.{or_else}
+use Rattle.ij_text.specs.Options.{or_else}
 use Rattle.icl_parts.proofs.Bound.{position_push, any_push}
 use Rattle.icl_parts.specs.Bindings.{Bound, binds_bit}
 use Rattle.icl_parts.specs.Marks.{seen_bound}
