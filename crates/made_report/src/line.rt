@@ -10,7 +10,7 @@ ghost use Rattle.runners.specs.Runners.{AreModels};
 ghost use Rattle.tap_machine.specs.declared.Stable.TheVariants.{Reset as InReset};
 ghost use Rattle.tap_machine.specs.Play.{pins, scans_in};
 
-use crate::play::{played, scan_count};
+use crate::play::played;
 use ij_bits::List;
 use ij_io::{Sink, StoreFault};
 use instruments::Model;
@@ -18,6 +18,7 @@ use net_graph::{Device, Net};
 use report::{Totals, put_totals};
 use std::alloc::Global;
 use svf_writer::Commands;
+use tap_machine::scan_count;
 
 /// How many registers a network has.
 fn register_count(net: &Net) -> u32
