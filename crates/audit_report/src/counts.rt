@@ -1,20 +1,10 @@
 // How many rounds bit steps have.
-ghost use Rattle.std.specs.Prelude.{◌≡◌, ◌≤◌, [], ◌∷◌, map};
+ghost use Rattle.std.specs.Prelude.{◌≡◌, ◌≤◌, map};
 ghost use Rattle.net_graph.specs.SeenSteps.{seen_step};
 ghost use Rattle.pdl_targets.specs.Laws.{rounds_in};
 
 use net_graph::BitStep;
-
-/// The number of rounds that a bit step has.
-fn rounds_of(step: &BitStep) -> usize
-    ensures { result ≡ rounds_in (seen_step step.now ∷ []) }
-{
-    match step {
-        BitStep::Apply(rounds) => rounds.len(),
-        BitStep::Run(_) => 0,
-        BitStep::Reset => 0,
-    }
-}
+use pdl_targets::rounds_of;
 
 /// The number of rounds of all bit steps.
 pub(crate) fn round_count(steps: &[BitStep]) -> usize
