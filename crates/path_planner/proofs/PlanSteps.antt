@@ -13,7 +13,7 @@ use Rattle.net_graph.specs.declared.net.BitId.{BitId}
 use Rattle.net_graph.specs.Named.{IsBitOf}
 use Rattle.net_graph.proofs.Selecting.{is_held}
 use Rattle.net_graph.specs.Held.{IsHeld}
-use Rattle.net_graph.specs.Path.{row_of, path as scan_path, mux_source, is_select, select_bits}
+use Rattle.net_graph.specs.Path.{row_of, path as scan_path, mux_source, is_select, select_bits, route_of}
 use Rattle.net_graph.specs.SeenSteps.{SeenGroup}
 use Rattle.net_graph.specs.Signals.{Holds}
 use Rattle.net_graph.specs.Writes.{write_all}
@@ -28,7 +28,7 @@ use Rattle.path_planner.specs.Opening.{CanOpen}
 use Rattle.path_planner.specs.Plans.{Settles, ArePlans}
 use Rattle.path_planner.specs.Scannable.{IsScannable}
 use Rattle.path_planner.specs.Registers.{add_registers}
-use Rattle.path_planner.specs.Settling.{is_on, path_or_none, all_on}
+use Rattle.path_planner.specs.Settling.{is_on, all_on}
 use Rattle.path_planner.proofs.Among.{Among, all_among, among_all}
 use Rattle.path_planner.proofs.Apart.{in_part}
 use Rattle.path_planner.proofs.FirstRows.{first_writes}
@@ -57,10 +57,10 @@ module _ (net : Net) (form : Items) (g : SeenGroup) where
   all_on_path : (holds : Holds) (p : List ℕ) (t : Bool) → scan_path net holds ≡ Some p → t ≡ list_all (is_on p) (registers_of g) → all_on net (registers_of g) holds ≡ t
   all_on_path holds p t e f = same (registers_of g) ∙ sym f
     where
-      same : (rs : List ℕ) → list_all (is_on (path_or_none net holds)) rs ≡ list_all (is_on p) rs
+      same : (rs : List ℕ) → list_all (is_on (route_of net holds)) rs ≡ list_all (is_on p) rs
       same [] = refl
       same (r ∷ rs) =
-          ap (λ b. b && list_all (is_on (path_or_none net holds)) rs) (sym (on_scan_path net holds p r e)) ∙ ap (λ b. is_on p r && b) (same rs)
+          ap (λ b. b && list_all (is_on (route_of net holds)) rs) (sym (on_scan_path net holds p r e)) ∙ ap (λ b. is_on p r && b) (same rs)
 
   pub none_open : (holds : Holds) → AreOpen net form g holds 0
   none_open holds b a l = absurd (omega (arith, l))

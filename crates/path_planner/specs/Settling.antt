@@ -1,5 +1,5 @@
 -- Opening the muxes that a group needs: in one scan each of them that can be set is set.
-use Rattle.std.specs.Prelude.{◌≡◌, ℕ, ◌==◌, Bool, true, false, not, ◌&&◌, ◌||◌, List, [], ◌∷◌, map, get_or, Option, Some, None, unwrap_or}
+use Rattle.std.specs.Prelude.{◌≡◌, ℕ, ◌==◌, Bool, true, false, not, ◌&&◌, ◌||◌, List, [], ◌∷◌, map, get_or, Option, Some, None}
 use Rattle.std.specs.List.{list_any, list_all}
 use Rattle.ij_bits.specs.BitLists.{same_bit}
 use Rattle.net_graph.specs.declared.branch.Branch.{Branch}
@@ -9,7 +9,7 @@ use Rattle.net_graph.specs.declared.net.BitId.{BitId}
 use Rattle.net_graph.specs.SeenSteps.{SeenGroup}
 use Rattle.net_graph.specs.Signals.{Holds, hold_at}
 use Rattle.net_graph.specs.Held.{set_hold}
-use Rattle.net_graph.specs.Path.{active, row_of, rows_of}
+use Rattle.net_graph.specs.Path.{row_of, rows_of, route_of}
 use Rattle.net_tree.specs.Form.{Items}
 use Rattle.net_graph.specs.Groups.{registers_of}
 use Rattle.net_tree.specs.Needs.{needs}
@@ -55,15 +55,12 @@ settle_rows net before path [] holds = holds
 settle_rows net before path (b ∷ bs) holds =
     settle_rows net before path bs (elim (is_in_row net before b) [ true ↦ holds | false ↦ settle_row net before path b holds ])
 
-abbrev pub path_or_none : Net → Holds → List ℕ
-path_or_none net holds = unwrap_or (active net holds) []
-
 -- each needed mux that isn't in its row takes the first value of that row that agrees off the path
 abbrev pub settle : Net → List Branch → Holds → Holds
-settle net bs holds = settle_rows net holds (path_or_none net holds) bs holds
+settle net bs holds = settle_rows net holds (route_of net holds) bs holds
 
 abbrev pub all_on : Net → List ℕ → Holds → Bool
-all_on net regs holds = list_all (is_on (path_or_none net holds)) regs
+all_on net regs holds = list_all (is_on (route_of net holds)) regs
 
 -- settlings, one after the other, until every named register is on the path
 abbrev pub IsOpening : Net → Items → SeenGroup → Holds → List Holds → Type 0
