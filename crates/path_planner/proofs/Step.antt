@@ -16,10 +16,10 @@ use Rattle.net_graph.specs.declared.net.Sig.TheVariants.{Absent, Zero, One, Bit,
 use Rattle.net_graph.specs.declared.net.Point.TheVariants.{Reg as FromReg, Mux as FromMux}
 use Rattle.net_graph.specs.Nets.{IsNet}
 use Rattle.net_graph.specs.Signals.{Holds, Outputs, bits_at, hold_at, signal, some_matches}
-use Rattle.net_graph.specs.Path.{active, row_of, rows_of, row_from, mux_source, select_value, select_bits, is_select, same_place, route_of}
+use Rattle.net_graph.specs.Path.{active, row_of, rows_of, row_from, mux_source, select_value, select_bits, is_select, same_place, route_of, is_bit}
 use Rattle.net_graph.proofs.Shapes.{shape, widths}
 use Rattle.net_tree.specs.Form.{Items, Describes}
-use Rattle.net_tree.specs.Lawful.{IsLawful, IsOutside, IsUnshared, IsUndriven, DrivesNone, is_signal, selects_of}
+use Rattle.net_tree.specs.Lawful.{IsLawful, IsOutside, IsUnshared, IsUndriven, DrivesNone, selects_of}
 use Rattle.net_tree.specs.Places.{place_of}
 use Rattle.net_tree.proofs.Walks.{has_walk}
 use Rattle.path_planner.specs.Least.{ScanStep}
@@ -149,7 +149,7 @@ module _ (net : Net) (form : Items) (n : IsNet net) (d : Describes net form) (w 
       driven t =
           let (m, l, a) = in_part (λ mux. mux.select.items) b net.muxes.items (selected b (select_bits net) t) in
           let none = among_all (IsUndriven b) inst net.insts.items (among_all (DrivesNone net) b (selects_of net m) (w m l).undriven a) i in
-          let yes = any_true (λ (p : PortIn). list_any (is_signal b) p.bits.items) port inst.ins.items j (any_true (is_signal b) (Bit b inverted) port.bits.items k (place_itself b)) in
+          let yes = any_true (λ (p : PortIn). list_any (is_bit b) p.bits.items) port inst.ins.items j (any_true (is_bit b) (Bit b inverted) port.bits.items k (place_itself b)) in
           true≢false (sym yes ∙ none)
 
   same_signal : (s t : Holds) (inst : Inst) (port : PortIn) (sig : Sig) (outs : Outputs) → ((b : BitId) → is_select net b ≡ false → hold_at t b ≡ hold_at s b) → Among inst net.insts.items → Among port inst.ins.items → Among sig port.bits.items → signal outs t sig ≡ signal outs s sig
