@@ -16,7 +16,7 @@ use Rattle.net_graph.specs.declared.net.Sig.TheVariants.{Absent, Zero, One, Bit,
 use Rattle.net_graph.specs.declared.net.Point.TheVariants.{Reg as FromReg, Mux as FromMux}
 use Rattle.net_graph.specs.Nets.{IsNet}
 use Rattle.net_graph.specs.Signals.{Holds, Outputs, bits_at, hold_at, signal, some_matches}
-use Rattle.net_graph.specs.Path.{active, row_of, rows_of, row_from, mux_source, select_value, select_bits, is_select, same_place, route_of, is_bit}
+use Rattle.net_graph.specs.Path.{active, row_of, rows_of, row_from, mux_source, select_value, select_bits, is_select, same_place, route_of, is_bit, is_in}
 use Rattle.net_graph.proofs.Shapes.{shape, widths}
 use Rattle.net_tree.specs.Form.{Items, Describes}
 use Rattle.net_tree.specs.Lawful.{IsLawful, IsOutside, IsUnshared, IsUndriven, DrivesNone, selects_of}
@@ -25,7 +25,7 @@ use Rattle.net_tree.proofs.Walks.{has_walk}
 use Rattle.path_planner.specs.Least.{ScanStep}
 use Rattle.path_planner.specs.Opening.{InputsStay}
 use Rattle.path_planner.specs.Scannable.{IsScannable}
-use Rattle.path_planner.specs.Settling.{is_on, agrees_off, values_of, is_in_row, settle}
+use Rattle.path_planner.specs.Settling.{agrees_off, values_of, is_in_row, settle}
 use Rattle.path_planner.proofs.Among.{Among, all_among, among_all, among_contains, off_false}
 use Rattle.path_planner.proofs.Apart.{Apart, apart_counts, in_part, part_in, one_part}
 use Rattle.path_planner.proofs.Rows.{in_row, row_in, value_for, Leaves, settle-shape, settle-off, settle-other, settle-takes}
@@ -177,8 +177,8 @@ module _ (net : Net) (form : Items) (n : IsNet net) (d : Describes net form) (w 
     pub after-shape : shape after ≡ shape holds
     after-shape = settle-shape net holds (route_of net holds) bs holds
 
-    pub after-off : (r : ℕ) → is_on path r ≡ false → bits_at after r ≡ bits_at holds r
-    after-off r f = settle-off net holds (route_of net holds) bs holds r (ap (λ p. is_on p r) path_is ∙ f)
+    pub after-off : (r : ℕ) → is_in path r ≡ false → bits_at after r ≡ bits_at holds r
+    after-off r f = settle-off net holds (route_of net holds) bs holds r (ap (λ p. is_in p r) path_is ∙ f)
 
     pub after-not : (r : ℕ) → (Among r path → ⊥) → bits_at after r ≡ bits_at holds r
     after-not r h = after-off r (off_false r path h)
