@@ -1,5 +1,5 @@
 // Whether SVF does what bit steps ask for.
-ghost use Rattle.std.specs.Prelude.{◌≡◌, ◌+◌, ◌<◌, ◌^◌, [], All, map, IfErr, IfOk, OnOk};
+ghost use Rattle.std.specs.Prelude.{◌+◌, ◌<◌, ◌^◌, [], All, map, IfErr, IfOk, OnOk};
 ghost use Rattle.net_graph.specs.Nets.{IsNet};
 ghost use Rattle.net_graph.specs.SeenSteps.{seen_step};
 ghost use Rattle.net_graph.specs.Steps.{IsStep};
