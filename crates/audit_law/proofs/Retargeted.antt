@@ -6,7 +6,7 @@ use Rattle.net_graph.specs.declared.device.Device.{Device}
 use Rattle.net_graph.specs.declared.net.Net.{Net}
 use Rattle.net_graph.specs.Chain.{IsRoute, chain, put_chain}
 use Rattle.net_graph.specs.Nets.{IsNet}
-use Rattle.net_graph.specs.Path.{AreListed}
+use Rattle.net_graph.specs.Path.{AreListed, route_of}
 use Rattle.net_graph.specs.Resets.{reset_holds, start_holds}
 use Rattle.net_graph.specs.SeenSteps.{SeenGroup, SeenStep}
 use Rattle.net_graph.specs.Signals.{Holds}
@@ -21,7 +21,7 @@ use Rattle.path_planner.proofs.Plans.{planned}
 use Rattle.path_planner.proofs.Starting.{start_scannable, reset_scannable}
 use Rattle.svf_writer.specs.SeenCommands.{SeenCommand}
 use Rattle.headline.specs.Script.{script_commands}
-use Rattle.svf_audit.specs.Audit.{Reading, Yes, audit, path_of}
+use Rattle.svf_audit.specs.Audit.{Reading, Yes, audit}
 use Rattle.group_scans.specs.Scans.{scan_of, scans_of, holds_after}
 use Rattle.group_scans.specs.Retargeting.{PlannedGroup, PlannedStep, Applies, Runs, Resets, rounds_of, holds_after_rounds, script_of, IsPlannedGroup, GroupsArePlanned, StepsArePlanned, IsRetargetable}
 use Rattle.group_scans.proofs.Retargeting.{can_open, does, rounds_listed, plans_are_scripts}
@@ -31,7 +31,7 @@ use Rattle.audit_law.specs.Own.{PlansList, PlansPass, PlanTextsPass}
 use Rattle.audit_law.proofs.Own.{planned_scripts_pass, planned_texts_pass}
 
 -- behind the scan of a plan are the writes of the plan
-scan_lands : (net : Net) → IsNet net → (h : Holds) (p : SeenGroup) → IsScan net h p → behind_scan net h (scan_of net h (path_of net h) p) ≡ write_all h p.writes
+scan_lands : (net : Net) → IsNet net → (h : Holds) (p : SeenGroup) → IsScan net h p → behind_scan net h (scan_of net h (route_of net h) p) ≡ write_all h p.writes
 scan_lands net w h p s =
     let path = s.step.path in
     let after = write_all h p.writes in

@@ -9,7 +9,7 @@ ghost use Rattle.pdl_targets.specs.Laws.{rounds_in};
 ghost use Rattle.svf_audit.specs.Audit.{audit};
 ghost use Rattle.tap_machine.specs.Play.{scans_in};
 
-use crate::counts::{round_count, scan_count};
+use crate::counts::round_count;
 use crate::line::{is_yes, put_answer};
 use crate::listed::list_steps;
 use bit_steps::BitSteps;
@@ -18,6 +18,7 @@ use net_graph::{Device, Net};
 use std::alloc::Global;
 use svf_audit::audit_svf;
 use svf_writer::Commands;
+use tap_machine::scan_count;
 
 /// Audits the commands of some SVF for the bit steps of a procedure (IEEE 1687-2014, PDL level 0; Serial Vector Format, revision
 /// E), and writes one line that tells what the audit says. Answers whether it says yes.

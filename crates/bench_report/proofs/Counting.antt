@@ -1,10 +1,7 @@
 -- Compares clock by clock.
-use Rattle.std.proofs.Common.{◌≡◌, ℕ, ◌+◌, ◌≤◌, Bool, true, false, cond, List, [], ◌∷◌, ◌++◌, length, Option, Some, None, refl, ap, sym, ◌∙◌, arith, append_assoc, append-nil, length-append, ◌<◌, drop}
-use Rattle.std.specs.Prelude.{get_or, Result, Ok, Err, OnOk, OnErr}
+use Rattle.std.proofs.Common.{◌≡◌, ℕ, ◌+◌, ◌≤◌, Bool, true, false, cond, List, [], ◌∷◌, ◌++◌, length, Option, Some, None, refl, ap, sym, ◌∙◌, arith, append_assoc, append-nil, length-append}
+use Rattle.std.specs.Prelude.{Result, Ok, Err, OnOk, OnErr}
 use Rattle.net_graph.specs.declared.step.ReadBit.{ReadBit}
-use Rattle.std.proofs.lemmas.List.{at_drop_more}
-use Rattle.svf_writer.specs.SeenCommands.{SIR, SDR, Reset, Idle, Run, SeenCommand}
-use Rattle.tap_machine.specs.Play.{scans_in}
 use Rattle.ij_bits.specs.BitLists.{same_bit}
 use Rattle.net_bench.specs.Bench.{Chip, State, clock, tdo}
 use Rattle.report.specs.Differs.{differ_text}
@@ -85,16 +82,3 @@ module _ {L : Type 0} (chip : Chip L) (p : Pins) (ps qs : List Pins) (s t : Stat
 
   pub after_here : after_pins chip ps t ≡ after_pins chip qs s
   after_here = ap (after_pins chip ps) next ∙ sym (ap (λ l. after_pins chip l s) given)
-
--- ---- scans
-
-one_scan : (c : SeenCommand) (cs : List SeenCommand) → scans_in (c ∷ cs) ≡ scans_in (c ∷ []) + scans_in cs
-one_scan (SIR s) cs = omega arith
-one_scan (SDR s) cs = omega arith
-one_scan Reset cs = omega arith
-one_scan Idle cs = omega arith
-one_scan (Run n) cs = omega arith
-
-pub scans_next : (cs : List SeenCommand) (i : ℕ) (c : SeenCommand) → i < length cs → c ≡ get_or cs i c → scans_in (drop i cs) ≡ scans_in (c ∷ []) + scans_in (drop (i + 1) cs)
-scans_next cs i c within is =
-    at_drop_more scans_in cs i c within ∙ ap (λ d. scans_in (d ∷ drop (i + 1) cs)) (sym is) ∙ one_scan c (drop (i + 1) cs)

@@ -1,9 +1,8 @@
 // A whole play.
-ghost use Rattle.std.specs.Prelude.{◌≡◌, ◌≤◌, [], ◌∷◌, length, map, OnOk, OnErr, IfOk};
+ghost use Rattle.std.specs.Prelude.{◌≡◌, ◌≤◌, length, map, OnOk, OnErr, IfOk};
 ghost use Rattle.ij_io.specs.Bytes.{Adds, AddsPart};
 ghost use Rattle.ij_io.specs.Causes.{HasCause};
 ghost use Rattle.instruments.specs.Seen.{seen_model};
-ghost use Rattle.svf_writer.specs.SeenCommands.{seen_command};
 ghost use Rattle.tap_machine.specs.declared.Stable.TheVariants.{Reset as InReset};
 ghost use Rattle.tap_machine.specs.Play.{pins, scans_in};
 ghost use Rattle.net_bench.specs.Bench.{power_up};
@@ -21,33 +20,8 @@ use net_bench::Bench;
 use net_graph::{Device, Net};
 use report::{Totals, put_totals};
 use std::alloc::Global;
-use svf_writer::{Command, Commands};
-use tap_machine::{Player, Stable};
-
-/// The number of scans that a command is, 1 or 0.
-fn scans_of(command: &Command) -> u32
-    ensures { result ≡ scans_in (seen_command command.now ∷ []) }
-{
-    match command {
-        Command::Sir(_) => 1,
-        Command::Sdr(_) => 1,
-        Command::Reset => 0,
-        Command::Idle => 0,
-        Command::Run(_) => 0,
-    }
-}
-
-/// The number of scans among commands.
-fn scan_count(commands: &Commands) -> u32
-    requires { scans_in commands.now ≤ 1000000000 }
-    ensures { result ≡ scans_in commands.now }
-{
-    let mut scans = 0u32;
-    for i in 0..commands.len() {
-        scans += scans_of(commands.get(i));
-    }
-    scans
-}
+use svf_writer::Commands;
+use tap_machine::{Player, Stable, scan_count};
 
 /// Plays commands on a bench at power-up, and writes the report.
 fn put_report<N: ReadNames, K: Sink>(

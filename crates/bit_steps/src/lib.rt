@@ -5,10 +5,12 @@
 mod checking;
 mod fault;
 mod laws;
+mod next;
 mod progress;
 mod steps;
 
 pub use checking::check;
 pub use fault::StepFault;
 pub use laws::{bit_steps_are_bound, bit_steps_are_few, bit_steps_are_of_the_network};
+pub use next::next_step;
 pub use steps::BitSteps;

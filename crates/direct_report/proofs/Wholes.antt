@@ -13,8 +13,8 @@ use Rattle.net_graph.specs.declared.net.Net.{Net}
 use Rattle.net_graph.specs.SeenSteps.{SeenStep, Apply, Run, Reset}
 use Rattle.net_graph.specs.Steps.{IsStep}
 use Rattle.pdl_meaning.specs.Direct.{Direct, do_step, do_all, power_up}
-use Rattle.pdl_targets.specs.Laws.{rounds_in}
-use Rattle.direct_report.specs.Kept.{Kept, Keeps, round_count}
+use Rattle.pdl_targets.specs.Laws.{rounds_in, round_count}
+use Rattle.direct_report.specs.Kept.{Kept, Keeps}
 use Rattle.direct_report.specs.Report.{step_lines, steps_lines, end_text, direct_report}
 use Rattle.direct_report.specs.Whole.{lines_from, done_from, PrintsSteps, PrintsStepsPart, KeepsSteps}
 

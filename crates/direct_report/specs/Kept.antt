@@ -3,7 +3,6 @@ use Rattle.std.specs.Prelude.{◌≡◌, ℕ, List, length}
 use Rattle.instruments.specs.OnNetwork.{Running}
 use Rattle.instruments.specs.Seen.{SeenModel}
 use Rattle.instruments.specs.declared.Counts.{Counts}
-use Rattle.net_graph.specs.SeenSteps.{SeenStep, Apply, Run, Reset}
 use Rattle.net_graph.specs.Signals.{Holds}
 use Rattle.net_graph.specs.declared.net.Net.{Net}
 use Rattle.pdl_meaning.specs.Direct.{Direct}
@@ -24,9 +23,3 @@ pub record Keeps (k : Kept) (d : Direct Counts) : Type 0 where
   pub insts : k.insts ≡ d.insts
   pub reads : k.reads ≡ length d.reads
   pub differs : k.differs ≡ length (differing d)
-
--- how many rounds a step has
-abbrev pub round_count : SeenStep → ℕ
-round_count (Apply rounds) = length rounds
-round_count (Run n) = 0
-round_count Reset = 0

@@ -1,6 +1,7 @@
 // A procedure's direct meaning, printed while it goes on.
 ghost use Rattle.std.specs.Prelude.{◌≡◌, ◌<◌, ◌≤◌, ◌+◌, ◌*◌, ◌^◌, length, map, All, IfOk, OnOk, OnErr};
-ghost use Rattle.direct_report.specs.Kept.{Keeps, round_count};
+ghost use Rattle.pdl_targets.specs.Laws.{round_count};
+ghost use Rattle.direct_report.specs.Kept.{Keeps};
 ghost use Rattle.direct_report.specs.Report.{end_text, step_lines};
 ghost use Rattle.ij_io.specs.Bytes.{Adds, AddsPart};
 ghost use Rattle.ij_io.specs.Causes.{HasCause};

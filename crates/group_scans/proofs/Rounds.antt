@@ -17,7 +17,8 @@ use Rattle.path_planner.proofs.Inside.{IsAround, around}
 use Rattle.pdl_targets.specs.Rounds.{groups}
 use Rattle.pdl_targets.specs.Laws.{HaveOneRow, HasPaths}
 use Rattle.pdl_targets.proofs.Together.{need_one_row}
-use Rattle.group_scans.specs.Rounds.{RegistersNeedOneRow, places_in, GroupsNeedOneRowEach, StepIsPlannable, ProceduresArePlannable}
+use Rattle.pdl_targets.specs.SeenPlaces.{places_in}
+use Rattle.group_scans.specs.Rounds.{RegistersNeedOneRow, GroupsNeedOneRowEach, StepIsPlannable, ProceduresArePlannable}
 
 -- a place with a row in it is that of an item
 place_found : (xs : List Placed) (item : Point) (b : Branch) → Among b (find_place xs item) → (x : Placed) × Among x xs × (x.place ≡ find_place xs item)

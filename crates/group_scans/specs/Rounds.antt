@@ -11,16 +11,13 @@ use Rattle.net_graph.specs.Steps.{IsGroup, IsStep}
 use Rattle.net_tree.specs.Form.{Items, Describes}
 use Rattle.net_tree.specs.Needs.{needs, IsExclusive}
 use Rattle.net_tree.specs.Places.{place_of}
-use Rattle.pdl_targets.specs.Rounds.{Places, groups}
+use Rattle.pdl_targets.specs.Rounds.{groups}
 use Rattle.pdl_targets.specs.Laws.{HasPaths}
+use Rattle.pdl_targets.specs.SeenPlaces.{places_in}
 
 -- no register stands in two rows of one mux
 abbrev pub RegistersNeedOneRow : Type 0
 RegistersNeedOneRow = (net : Net) (form : Items) (r : ℕ) → Describes net form → ¬ IsExclusive (place_of form (Reg r))
-
--- where a form's registers stand
-abbrev pub places_in : Items → Places
-places_in form r = place_of form (Reg r)
 
 -- no group of an iApply needs two rows of one mux, whatever its queue is
 abbrev pub GroupsNeedOneRowEach : Type 0

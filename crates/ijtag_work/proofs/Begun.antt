@@ -1,8 +1,8 @@
 -- What a file holds that was begun and then grown.
 use Rattle.std.specs.Prelude.{unwrap_or, option_map, ◌⊎◌}
 use Rattle.std.proofs.Common.{◌≡◌, inl, inr, ℕ, Option, Some, None, List, [], ◌++◌, take, ap, ◌∙◌}
+use Rattle.svf_file.specs.Files.{HoldsPart}
 use Rattle.ij_io.specs.Files.{Files, file_at, GrowsPart}
-use Rattle.ijtag_work.specs.Runs.{HoldsPart}
 
 -- after a refused begin
 pub not_begun : (old new : Option Files) (name bytes : List ℕ) → (file_at new name ≡ file_at old name) ⊎ (file_at new name ≡ option_map (λ f. Some []) old) → HoldsPart old new name bytes

@@ -1,6 +1,7 @@
 -- How a command ends, from how its parts do.
 use Rattle.std.specs.Prelude.{option_map, IsTrue}
 use Rattle.std.proofs.Common.{◌≡◌, ◌⊎◌, inl, inr, ⊎_elim, ℕ, Bool, false, Option, Some, List, [], refl, ap, ◌∙◌, subst}
+use Rattle.svf_file.specs.Files.{HoldsPart}
 use Rattle.ij_io.specs.Bytes.{Adds, AddsPart}
 use Rattle.ij_io.specs.Causes.{Rose}
 use Rattle.ij_io.specs.Files.{Files, file_at}
@@ -13,7 +14,7 @@ use Rattle.ijtag_work.specs.Headline.{IsRetargeted}
 use Rattle.ijtag_work.specs.Order.{SeenCompilable, SeenPlayable, SeenRunnable, loaded, accepted, written_text, filed, told, read_tables_of, playable, played, runnable, meant, SeenAuditable, auditable, audited, work_on, work}
 use Rattle.bench_file.specs.Written.{tables_text as written_tables}
 use Rattle.table_file.specs.Tables.{SeenTable}
-use Rattle.ijtag_work.specs.Runs.{IsDone, IsPartDone, HoldsPart, Counts, IsStop}
+use Rattle.ijtag_work.specs.Runs.{IsDone, IsPartDone, Counts, IsStop}
 use Rattle.ijtag_work.specs.Seen.{seen_stop, stop_from}
 use Rattle.ijtag_work.specs.Stops.{Stop, Usage, Refuses, ReadFault, WriteFault, OutputFault, NoMemory}
 use Rattle.ijtag_stages.specs.declared.refusal.StageFault.{StageFault}

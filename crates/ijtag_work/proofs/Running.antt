@@ -2,6 +2,7 @@
 use Rattle.std.specs.Prelude.{option_map}
 use Rattle.std.proofs.Common.{◌≡◌, ◌∙◌, ◌≤◌, inl, inr, sym, ap, refl, ℕ, Bool, Option, Some, List, [], ◌∷◌, length, arith}
 use Rattle.std.proofs.lemmas.List.{take_all}
+use Rattle.svf_file.specs.Files.{HoldsPart}
 use Rattle.bench_report.specs.Report.{named_report}
 use Rattle.group_scans.specs.Retargeting.{PlannedStep, script_of}
 use Rattle.headline.specs.Script.{script_commands}
@@ -20,7 +21,7 @@ use Rattle.ijtag_work.specs.Headline.{IsRunRetargeted}
 use Rattle.ijtag_work.specs.Leaves.{Leaves}
 use Rattle.ijtag_work.specs.Order.{SeenRunnable, compilable_of, commands_of, run_report, run_differs, reads_differ, run_of, ran, any_differs, loaded, runnable, written_text, work}
 use Rattle.ijtag_work.specs.Late.{IsPartOf}
-use Rattle.ijtag_work.specs.Runs.{HoldsPart, Seen, IsDone}
+use Rattle.ijtag_work.specs.Runs.{Seen, IsDone}
 
 any_alike : {A B : Type 0} (xs : List A) (ys : List B) → is_empty xs ≡ is_empty ys → any_differs xs ≡ any_differs ys
 any_alike [] [] same = refl

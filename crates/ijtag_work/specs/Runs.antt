@@ -1,9 +1,10 @@
 -- What a run of any command accepts, leaves and stops at: said once, of the work of its command.
-use Rattle.std.specs.Prelude.{◌≡◌, ◌⊎◌, ℕ, Bool, true, false, List, [], ◌∷◌, Option, Some, None, take, IsTrue, IfSome}
+use Rattle.std.specs.Prelude.{◌≡◌, ◌⊎◌, ℕ, Bool, true, false, List, [], ◌∷◌, Option, Some, None, IsTrue, IfSome}
 use Rattle.std.specs.Option.{option_map}
 use Rattle.ij_io.specs.Bytes.{Adds, AddsPart}
 use Rattle.ij_io.specs.Causes.{Rose}
 use Rattle.ij_io.specs.Files.{Files, file_at}
+use Rattle.svf_file.specs.Files.{HoldsPart}
 use Rattle.ijtag_work.specs.Command.{Command, Compiles, Plays, Directs, Runs, Makes, Migrates, Audits, Load, loads, names_of, writes, first_writes, made_names, prints, IsOneOf, IsNoneOf}
 use Rattle.ijtag_stages.specs.Work.{IsDecided}
 use Rattle.ijtag_work.specs.Leaves.{Leaves, Written}
@@ -19,11 +20,6 @@ use Rattle.ijtag_work.specs.declared.status.Status.TheVariants.{Good, Differs, U
 abbrev pub AllHold : List Written → Option Files → Option Files → Type 0
 AllHold [] old new = Unit {0}
 AllHold (w ∷ ws) old new = (file_at new w.name ≡ option_map (λ _. Some w.bytes) old) × AllHold ws old new
-
--- the file is as before, or holds some first bytes
-abbrev pub HoldsPart : Option Files → Option Files → List ℕ → List ℕ → Type 0
-HoldsPart old new name bytes =
-    (file_at new name ≡ file_at old name) ⊎ ((count : ℕ) × (file_at new name ≡ option_map (λ _. Some (take count bytes)) old))
 
 -- each of these files is as before
 abbrev pub AllStay : List Written → Option Files → Option Files → Type 0

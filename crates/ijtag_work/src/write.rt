@@ -1,9 +1,9 @@
 // A file that is written.
 ghost use Rattle.std.specs.Prelude.{◌≡◌, Some, OnOk, OnErr};
 ghost use Rattle.std.specs.Option.{option_map};
+ghost use Rattle.svf_file.specs.Files.{HoldsPart};
 ghost use Rattle.ij_io.specs.Causes.{HasCauseAt, SameCounts};
 ghost use Rattle.ij_io.specs.Files.{file_at, OthersStay};
-ghost use Rattle.ijtag_work.specs.Runs.{HoldsPart};
 
 use ij_io::{Shelf, StoreFault};
 

@@ -10,7 +10,7 @@ ghost use Rattle.runners.specs.Runners.{AreModels};
 ghost use Rattle.tap_machine.specs.declared.Stable.TheVariants.{Reset as InReset};
 ghost use Rattle.tap_machine.specs.Play.{pins, scans_in};
 
-use crate::play::{played, scan_count};
+use crate::play::played;
 use ij_bits::List;
 use ij_io::{Sink, StoreFault};
 use instruments::Model;
@@ -18,6 +18,7 @@ use net_graph::{Device, Net, register_count};
 use report::{Totals, put_totals};
 use std::alloc::Global;
 use svf_writer::Commands;
+use tap_machine::scan_count;
 
 /// Plays commands from power-up on a device with a scan network and its instruments, and prints one line:
 /// `made registers R muxes M instruments I groups G scans S clocks C differs D`. R, M and I are what the network has (IEEE 1687-2014),

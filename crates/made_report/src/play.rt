@@ -1,11 +1,10 @@
 // A play that is counted and not printed.
-ghost use Rattle.std.specs.Prelude.{◌≡◌, ◌≤◌, [], ◌∷◌, length, map, IfOk};
+ghost use Rattle.std.specs.Prelude.{◌≡◌, ◌≤◌, length, map, IfOk};
 ghost use Rattle.bench_report.specs.Report.{chip_of, differs_of};
 ghost use Rattle.instruments.specs.Seen.{seen_model};
 ghost use Rattle.net_bench.specs.Playing.{compare_of, compares, differing};
 ghost use Rattle.net_graph.specs.Nets.{IsNet};
 ghost use Rattle.runners.specs.Runners.{AreModels};
-ghost use Rattle.svf_writer.specs.SeenCommands.{seen_command};
 ghost use Rattle.tap_machine.specs.declared.Stable.TheVariants.{Reset as InReset};
 ghost use Rattle.tap_machine.specs.Play.{pins, scans_in};
 
@@ -14,7 +13,7 @@ use instruments::Model;
 use net_bench::Bench;
 use net_graph::{Device, Net};
 use std::alloc::Global;
-use svf_writer::{Command, Commands};
+use svf_writer::Commands;
 use tap_machine::{Pins, Player, Stable};
 
 /// How many clocks a play took, and how many of its compares differ.
@@ -22,31 +21,6 @@ use tap_machine::{Pins, Player, Stable};
 pub(crate) struct Counted {
     pub clocks: u64,
     pub differs: u64,
-}
-
-/// The number of scans that a command is, 1 or 0.
-fn scans_of(command: &Command) -> u32
-    ensures { result ≡ scans_in (seen_command command.now ∷ []) }
-{
-    match command {
-        Command::Sir(_) => 1,
-        Command::Sdr(_) => 1,
-        Command::Reset => 0,
-        Command::Idle => 0,
-        Command::Run(_) => 0,
-    }
-}
-
-/// The number of scans among commands.
-pub(crate) fn scan_count(commands: &Commands) -> u32
-    requires { scans_in commands.now ≤ 1000000000 }
-    ensures { result ≡ scans_in commands.now }
-{
-    let mut scans = 0u32;
-    for i in 0..commands.len() {
-        scans += scans_of(commands.get(i));
-    }
-    scans
 }
 
 /// How many compares of a clock differ, 1 or 0.

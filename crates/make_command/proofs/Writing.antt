@@ -2,11 +2,12 @@
 use Rattle.std.specs.Prelude.{option_map, take}
 use Rattle.std.proofs.Common.{◌≡◌, ◌∙◌, inl, inr, refl, sym, ap, subst, ℕ, Option, Some, None, List, [], ◌∷◌, ◌++◌, length, arith}
 use Rattle.std.proofs.lemmas.List.{take_all}
+use Rattle.svf_file.specs.Files.{HoldsPart}
 use Rattle.ij_io.specs.Causes.{Rose}
 use Rattle.ij_io.specs.Files.{Files, file_at, OthersStay}
 use Rattle.ijtag_work.specs.Command.{IsNoneOf, IsOneOf}
 use Rattle.ijtag_work.specs.Leaves.{Written}
-use Rattle.ijtag_work.specs.Runs.{AllHold, AllStay, HoldInTurn, HoldsPart, OnlyTheseRise}
+use Rattle.ijtag_work.specs.Runs.{AllHold, AllStay, HoldInTurn, OnlyTheseRise}
 use Rattle.ijtag_work.specs.Stops.{Stop, Usage, Refuses, ReadFault, WriteFault, OutputFault, NoMemory}
 use Rattle.make_command.specs.Files.{IsWriteStopOf, OthersAllStay, file_names}
 

@@ -1,12 +1,13 @@
 // The files of a made design.
 ghost use Rattle.std.specs.Prelude.{◌≡◌, Some, [], ◌∷◌, map, OnOk, OnErr, IfErr};
 ghost use Rattle.std.specs.Option.{option_map};
+ghost use Rattle.svf_file.specs.Files.{HoldsPart};
 ghost use Rattle.ij_io.specs.Causes.{SameCounts};
 ghost use Rattle.ij_io.specs.Files.{file_at, OthersStay};
 ghost use Rattle.ijtag_stages.specs.Follows.{Follows};
 ghost use Rattle.ijtag_work.specs.Command.{made_names};
 ghost use Rattle.ijtag_work.specs.Order.{taken, taken_one, written_as};
-ghost use Rattle.ijtag_work.specs.Runs.{AllHold, HoldInTurn, HoldsPart, OnlyTheseRise};
+ghost use Rattle.ijtag_work.specs.Runs.{AllHold, HoldInTurn, OnlyTheseRise};
 ghost use Rattle.ijtag_work.specs.Seen.{seen_stop};
 ghost use Rattle.make_command.specs.Files.{AreApart, IsWriteStopOf, OthersAllStay, file_names, seen_file, text_of, texts_of};
 

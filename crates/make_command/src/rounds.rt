@@ -1,36 +1,13 @@
 // How many rounds a procedure has.
-ghost use Rattle.std.specs.Prelude.{◌≡◌, ◌≤◌, [], ◌∷◌, MatchOption, IfOk};
-ghost use Rattle.bit_steps.specs.BitSteps.{given_first_bit, nothing_left};
-ghost use Rattle.net_graph.specs.SeenSteps.{seen_step};
+ghost use Rattle.std.specs.Prelude.{◌≡◌, ◌≤◌, IfOk};
 ghost use Rattle.pdl_targets.specs.Laws.{rounds_in};
 ghost use Rattle.ijtag_work.specs.Seen.{IsRunnable, seen_runnable};
 
-use bit_steps::{BitSteps, bit_steps_are_few};
+use bit_steps::{BitSteps, bit_steps_are_few, next_step};
 use ij_bits::OutOfMemory;
 use ijtag_work::{Runnable, steps_again};
-use net_graph::BitStep;
+use pdl_targets::rounds_of;
 use std::alloc::Global;
-
-/// The next bit step of a procedure that ends in no fault: all that it refuses by is want of memory.
-fn next_step(steps: &mut BitSteps<'_>) -> Result<Option<BitStep>, OutOfMemory>
-    ensures { IfOk result (λ o. MatchOption o (steps.old ≡ nothing_left) (λ s. steps.old ≡ given_first_bit (seen_step s) steps.new)) }
-{
-    match steps.next() {
-        Ok(step) => Ok(step),
-        Err(_) => Err(OutOfMemory),
-    }
-}
-
-/// The number of rounds that a bit step has.
-fn rounds_of(step: &BitStep) -> usize
-    ensures { result ≡ rounds_in (seen_step step.now ∷ []) }
-{
-    match step {
-        BitStep::Apply(rounds) => rounds.len(),
-        BitStep::Run(_) => 0,
-        BitStep::Reset => 0,
-    }
-}
 
 /// The number of rounds of all bit steps that are left.
 fn count_rounds(steps: &mut BitSteps<'_>) -> Result<u32, OutOfMemory>

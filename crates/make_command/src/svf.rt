@@ -2,7 +2,6 @@
 ghost use Rattle.std.specs.Prelude.{◌≡◌, ◌≤◌, ◌⊎◌, ℕ, List, [], ◌∷◌, length, IsErrOf, OnErr, IfOk, IfErr};
 ghost use Rattle.ij_io.specs.Causes.{HasCauseAt, SameCounts};
 ghost use Rattle.ij_io.specs.Files.{OthersStay};
-ghost use Rattle.run_law.specs.Laws.{RunsDifferAlike};
 ghost use Rattle.tap_machine.specs.declared.Stable.TheVariants.{Reset as InReset};
 ghost use Rattle.tap_machine.specs.Play.{pins, scans_in};
 ghost use Rattle.ijtag_work.specs.Command.{made_svf};
@@ -17,7 +16,7 @@ use crate::totals::put_report;
 use compile_command::{make_svf, read_commands};
 use ij_io::{Shelf, Sink, StoreFault};
 use ijtag_work::{MadeName, Runnable, Stop, Verdict, write_file};
-use run_law::runs_are_meant;
+use run_law::runs_differ_alike;
 use std::alloc::Global;
 use svf_writer::Commands;
 
@@ -72,13 +71,6 @@ fn write_svf<'a, S: Shelf>(
         Err(StoreFault::Failed) => Err(Stop::WriteMade(name)),
         Err(StoreFault::OutOfMemory) => Err(Stop::OutOfMemory),
     }
-}
-
-/// A run and the direct meaning of its procedure differ together.
-fn runs_differ_alike()
-    ensures { RunsDifferAlike }
-{
-    runs_are_meant();
 }
 
 /// Writes the SVF file of an accepted procedure of a made design, plays the commands of its text and prints the line of totals.

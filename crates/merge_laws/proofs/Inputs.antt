@@ -18,8 +18,9 @@ use Rattle.net_graph.specs.Writes.{write_bit, write_all}
 use Rattle.net_graph.proofs.Shapes.{shape, length_at}
 use Rattle.net_graph.proofs.Writing.{IsHeld, same_bit_id, set_hold-at, set_hold-other, set_hold-shape}
 use Rattle.net_graph.proofs.Places.{place_self}
+use Rattle.net_graph.specs.Path.{is_bit}
 use Rattle.instruments.specs.OnNetwork.{inputs_at, port_numbers}
-use Rattle.merge_laws.specs.Seeing.{feeds, inputs_of, is_bit}
+use Rattle.merge_laws.specs.Seeing.{feeds, inputs_of}
 
 module _ (test : BitId → Bool) where
   -- the bits that pass are alike

@@ -4,19 +4,9 @@ use Rattle.std.specs.List.{list_any}
 use Rattle.net_graph.specs.declared.net.BitId.{BitId}
 use Rattle.net_graph.specs.declared.net.Net.{Net}
 use Rattle.net_graph.specs.declared.net.PortIn.{PortIn}
-use Rattle.net_graph.specs.declared.net.Sig.{Sig}
-use Rattle.net_graph.specs.declared.net.Sig.TheVariants.{Absent, Zero, One, Bit, Out}
-use Rattle.net_graph.specs.Path.{same_place}
+use Rattle.net_graph.specs.Path.{is_bit}
 use Rattle.instruments.specs.Machine.{Event, Change, Run, Reset}
 use Rattle.pdl_meaning.specs.Direct.{Direct}
-
--- a signal is a register bit, or its inverse
-abbrev pub is_bit : BitId → Sig → Bool
-is_bit b Absent = false
-is_bit b Zero = false
-is_bit b One = false
-is_bit b (Bit c inverted) = same_place b c
-is_bit b (Out inst port pos inverted) = false
 
 -- the input ports of an instrument
 abbrev pub inputs_of : Net → ℕ → List PortIn

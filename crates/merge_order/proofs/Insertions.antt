@@ -8,9 +8,10 @@ use Rattle.std.proofs.lemmas.Bool.Decides.{eqb_tells}
 use Rattle.net_graph.specs.SeenSteps.{SeenGroup}
 use Rattle.net_graph.specs.declared.step.Group.{Group}
 use Rattle.pdl_targets.specs.Rounds.{Places}
+use Rattle.pdl_targets.specs.SeenRounds.{seen_groups}
 use Rattle.merge_order.specs.Merge.{all_joins, behind_first, both, can_join, first_join, joined, joins_upto, unjoined}
 use Rattle.merge_order.specs.Insertion.{is_closed, join_at, no_group, open_round, put_all, put_at, put_round, takes, with_round}
-use Rattle.merge_order.specs.SeenJoins.{seen_joins, seen_rounds}
+use Rattle.merge_order.specs.SeenJoins.{seen_joins}
 use Rattle.merge_order.proofs.Turning.{behind_few}
 
 module _ (places : Places) where
@@ -205,21 +206,21 @@ put_behind h (join ∷ joins) (suc p) past = ap (λ js. join ∷ js) (put_behind
 
 -- a join that is written
 pub written_join : (items : List (Vec Group Global)) (p : ℕ) (join new : Vec Group Global) (old now : List Group) (h : SeenGroup) → p < length items → join ≡ get_or items p join
-    → old ≡ join.items → new.items ≡ now → (is_closed (seen_rounds old) ≡ false → seen_rounds now ≡ with_round (seen_rounds old) h)
+    → old ≡ join.items → new.items ≡ now → (is_closed (seen_groups old) ≡ false → seen_groups now ≡ with_round (seen_groups old) h)
     → is_closed (join_at (seen_joins items) p) ≡ false → seen_joins (set items p new) ≡ put_at p h (seen_joins items)
 written_join items p join new old now h within is old_is now_is put open_join =
-    let rounds = λ (j : Vec Group Global). seen_rounds j.items in
-    let there : seen_rounds old ≡ join_at (seen_joins items) p = ap seen_rounds old_is ∙ ap rounds is ∙ sym (get_or-map rounds items p join (no_group ∷ []) within) in
+    let rounds = λ (j : Vec Group Global). seen_groups j.items in
+    let there : seen_groups old ≡ join_at (seen_joins items) p = ap seen_groups old_is ∙ ap rounds is ∙ sym (get_or-map rounds items p join (no_group ∷ []) within) in
     let len = length-map items rounds in
     map-set rounds items p new
-    ∙ ap (λ r. set (seen_joins items) p r) (ap seen_rounds now_is ∙ put (ap is_closed there ∙ open_join) ∙ ap (λ j. with_round j h) there)
+    ∙ ap (λ r. set (seen_joins items) p r) (ap seen_groups now_is ∙ put (ap is_closed there ∙ open_join) ∙ ap (λ j. with_round j h) there)
     ∙ sym (put_set h (seen_joins items) p (omega (arith, within, len)))
 
 -- a join that is pushed
 pub pushed_join : (items new : List (Vec Group Global)) (p : ℕ) (join : Vec Group Global) (h : SeenGroup) → length items ≤ p → new ≡ items ++ join ∷ []
-    → seen_rounds join.items ≡ h ∷ [] → seen_joins new ≡ put_at p h (seen_joins items)
+    → seen_groups join.items ≡ h ∷ [] → seen_joins new ≡ put_at p h (seen_joins items)
 pushed_join items new p join h past is one =
-    let rounds = λ (j : Vec Group Global). seen_rounds j.items in
+    let rounds = λ (j : Vec Group Global). seen_groups j.items in
     let len = length-map items rounds in
     ap seen_joins is
     ∙ map-append rounds items (join ∷ [])

@@ -8,8 +8,8 @@ use Rattle.net_graph.specs.declared.step.BitStep.TheVariants.{Apply as ApplyStep
 use Rattle.net_graph.specs.declared.step.Group.{Group}
 use Rattle.net_graph.specs.SeenSteps.{SeenGroup, SeenStep, Apply, seen_step}
 use Rattle.pdl_targets.specs.Rounds.{Places}
+use Rattle.pdl_targets.specs.SeenRounds.{seen_groups}
 use Rattle.merge_order.specs.Merge.{Branch, behind_first, firsts, joins, later, longest, merged, turn, turns, unjoined, with_first}
-use Rattle.merge_order.specs.SeenJoins.{seen_rounds}
 use Rattle.merge_order.specs.SeenTurns.{seen_slices, seen_steps}
 
 -- ---- joins
@@ -68,7 +68,7 @@ turn_smaller (s ∷ ss) bs = let l = longest_later ((s ∷ ss) ∷ bs) in let fe
 
 -- ---- loops
 
-pub pushed_apply : (old new : List BitStep) (rounds : Listed Group) → new ≡ old ++ ApplyStep rounds ∷ [] → seen_steps new ≡ seen_steps old ++ Apply (seen_rounds rounds.items) ∷ []
+pub pushed_apply : (old new : List BitStep) (rounds : Listed Group) → new ≡ old ++ ApplyStep rounds ∷ [] → seen_steps new ≡ seen_steps old ++ Apply (seen_groups rounds.items) ∷ []
 pushed_apply old new rounds h = ap seen_steps h ∙ map-append seen_step old (ApplyStep rounds ∷ [])
 
 pub fewer_branches : (n : ℕ) (empty : Bool) (lefts xs nexts : List (Bor (List BitStep))) → xs ≡ lefts → length xs ≡ n → empty ≡ (n == 0) → empty ≡ false

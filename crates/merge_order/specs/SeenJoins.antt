@@ -2,14 +2,12 @@
 use Rattle.std.specs.Prelude.{List, Vec, map}
 use Rattle.std.specs.declared.alloc.Global.{Global}
 use Rattle.std.specs.Borrow.{Bor}
-use Rattle.net_graph.specs.SeenSteps.{SeenGroup, seen_group}
+use Rattle.net_graph.specs.SeenSteps.{SeenGroup}
 use Rattle.net_graph.specs.declared.step.Group.{Group}
-
-abbrev pub seen_rounds : List Group → List SeenGroup
-seen_rounds rounds = map seen_group rounds
+use Rattle.pdl_targets.specs.SeenRounds.{seen_groups}
 
 abbrev pub seen_applies : List (Bor (List Group)) → List (List SeenGroup)
-seen_applies applies = map (λ a. seen_rounds a.now) applies
+seen_applies applies = map (λ a. seen_groups a.now) applies
 
 abbrev pub seen_joins : List (Vec Group Global) → List (List SeenGroup)
-seen_joins joins = map (λ j. seen_rounds j.items) joins
+seen_joins joins = map (λ j. seen_groups j.items) joins

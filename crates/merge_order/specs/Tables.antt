@@ -6,21 +6,18 @@ use Rattle.net_graph.specs.declared.branch.Branch.{Branch}
 use Rattle.net_graph.specs.declared.net.BitId.{BitId}
 use Rattle.net_graph.specs.SeenSteps.{SeenGroup}
 use Rattle.pdl_targets.specs.Rounds.{Places}
-use Rattle.round_sets.specs.Sets.{StampedSet, has_round, no_set}
+use Rattle.round_sets.specs.Sets.{StampedSet, has_round}
+use Rattle.round_sets.specs.Rows.{row_at}
 
 -- ---- bits
 
--- the joins that name the bit at a position
-abbrev pub set_at : List StampedSet → ℕ → StampedSet
-set_at sets pos = slice_index_or sets pos no_set
-
--- those of each position of a register
+-- at each position of a register the joins that name the bit there
 abbrev pub sets_of : List (List StampedSet) → ℕ → List StampedSet
 sets_of regs reg = slice_index_or regs reg []
 
 -- no set has a stamp above this one
 abbrev pub AreStamped : ℕ → List StampedSet → Type 0
-AreStamped stamp sets = (pos : ℕ) → (set_at sets pos).stamp ≤ stamp
+AreStamped stamp sets = (pos : ℕ) → (row_at sets pos).stamp ≤ stamp
 
 -- a set for each bit, and one for the joins that nothing joins
 pub record StampedBits : Type 0 where
@@ -30,7 +27,7 @@ pub record StampedBits : Type 0 where
 
 -- a join names a bit
 abbrev pub has_bit : StampedBits → BitId → ℕ → Bool
-has_bit t b k = has_round t.stamp (set_at (sets_of t.regs b.reg) b.pos) k
+has_bit t b k = has_round t.stamp (row_at (sets_of t.regs b.reg) b.pos) k
 
 -- a join names a bit that a round names
 abbrev pub names_one : StampedBits → SeenGroup → ℕ → Bool

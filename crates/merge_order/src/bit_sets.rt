@@ -6,8 +6,9 @@ ghost use Rattle.net_graph.specs.declared.net.BitId.{BitId as ABit};
 ghost use Rattle.net_graph.specs.Path.{same_place};
 ghost use Rattle.net_graph.specs.SeenSteps.{seen_group};
 ghost use Rattle.round_sets.specs.Sets.{has_round, word_of};
+ghost use Rattle.round_sets.specs.Rows.{row_at};
 ghost use Rattle.merge_order.specs.Merge.{names};
-ghost use Rattle.merge_order.specs.Tables.{AreStamped, has_bit, is_shut, names_one, set_at, sets_of};
+ghost use Rattle.merge_order.specs.Tables.{AreStamped, has_bit, is_shut, names_one, sets_of};
 
 use ij_bits::OutOfMemory;
 use net_graph::{BitId, Group, ReadBit, WriteBit};
@@ -33,7 +34,7 @@ impl Model for RegSets {
 /// Makes room for so many positions.
 fn grow(alloc: Global, sets: &mut Vec<RoundSet>, len: usize) -> Result<(), OutOfMemory>
     ensures long { OnOk result (len ≤ vec_len sets.new) }
-    ensures same { (pos : ℕ) → set_at sets.new.items pos ≡ set_at sets.old.items pos }
+    ensures same { (pos : ℕ) → row_at sets.new.items pos ≡ row_at sets.old.items pos }
 {
     while sets.len() < len {
         sets.push(RoundSet::new(alloc))?;
@@ -53,7 +54,7 @@ impl RegSets {
 
     /// The joins from `64 * w` on that name the bit at a position, the first of them the lowest bit.
     fn word(&self, stamp: u32, pos: u32, w: usize) -> u64
-        ensures { result ≡ word_of stamp (set_at self.now pos) w }
+        ensures { result ≡ word_of stamp (row_at self.now pos) w }
     {
         let pos = pos as usize;
         if pos < self.sets.len() {
@@ -65,7 +66,7 @@ impl RegSets {
 
     /// A join names the bit at a position.
     fn put(&mut self, alloc: Global, stamp: u32, pos: u32, join: u32) -> Result<(), OutOfMemory>
-        ensures put { OnOk result ((p k : ℕ) → has_round stamp (set_at self.new p) k ≡ (k == join && p == pos || has_round stamp (set_at self.old p) k)) }
+        ensures put { OnOk result ((p k : ℕ) → has_round stamp (row_at self.new p) k ≡ (k == join && p == pos || has_round stamp (row_at self.old p) k)) }
         ensures stamps { AreStamped stamp self.old → AreStamped stamp self.new }
     {
         let pos = pos as usize;
@@ -95,7 +96,7 @@ fn put(
     bit: BitId,
     join: u32,
 ) -> Result<(), OutOfMemory>
-    ensures put { OnOk result ((b : ABit) (k : ℕ) → has_round stamp (set_at (sets_of regs.new.items b.reg) b.pos) k ≡ (k == join && same_place b bit || has_round stamp (set_at (sets_of regs.old.items b.reg) b.pos) k)) }
+    ensures put { OnOk result ((b : ABit) (k : ℕ) → has_round stamp (row_at (sets_of regs.new.items b.reg) b.pos) k ≡ (k == join && same_place b bit || has_round stamp (row_at (sets_of regs.old.items b.reg) b.pos) k)) }
     ensures stamps { ((reg : ℕ) → AreStamped stamp (sets_of regs.old.items reg)) → (reg : ℕ) → AreStamped stamp (sets_of regs.new.items reg) }
 {
     let reg = bit.reg as usize;

@@ -1,8 +1,8 @@
 // Copies of rounds.
 ghost use Rattle.std.specs.Prelude.{◌≡◌, ◌++◌, IfOk, OnOk};
+ghost use Rattle.pdl_targets.specs.SeenRounds.{seen_groups};
 ghost use Rattle.net_graph.specs.SeenSteps.{seen_group};
 ghost use Rattle.merge_order.specs.Merge as merge;
-ghost use Rattle.merge_order.specs.SeenJoins.{seen_rounds};
 
 use ij_bits::{List, OutOfMemory};
 use net_graph::{Group, ReadBit, WriteBit};
@@ -51,7 +51,7 @@ pub(crate) fn copied(alloc: Global, group: &Group) -> Result<Group, OutOfMemory>
 
 /// Copies of rounds.
 pub(crate) fn copied_rounds(alloc: Global, rounds: &[Group]) -> Result<Vec<Group>, OutOfMemory>
-    ensures { IfOk result (λ gs. seen_rounds gs.items ≡ seen_rounds rounds.now) }
+    ensures { IfOk result (λ gs. seen_groups gs.items ≡ seen_groups rounds.now) }
 {
     let mut copies = Vec::new(alloc);
     for round in rounds {

@@ -2,10 +2,11 @@
 ghost use Rattle.std.specs.Prelude.{◌≡◌, ◌≤◌, ◌++◌, ◌∷◌, [], true, false, length, IfOk, OnOk};
 ghost use Rattle.net_graph.specs.SeenSteps.{seen_group};
 ghost use Rattle.pdl_targets.specs.SeenPlaces.{places_in};
+ghost use Rattle.pdl_targets.specs.SeenRounds.{seen_groups};
 ghost use Rattle.merge_order.specs.Insertion.{is_closed, join_at, put_at, put_in, put_round, with_round};
 ghost use Rattle.merge_order.specs.Merge as merge;
 ghost use Rattle.merge_order.specs.Named.{Tells};
-ghost use Rattle.merge_order.specs.SeenJoins.{seen_applies, seen_joins, seen_rounds};
+ghost use Rattle.merge_order.specs.SeenJoins.{seen_applies, seen_joins};
 
 use crate::around::rows_around;
 use crate::copies::{add_group, copied, copied_rounds};
@@ -24,7 +25,7 @@ fn count_of(joins: &[Vec<Group>]) -> Result<u32, OutOfMemory>
 
 /// Puts a round into the round of a join that has one.
 fn add_round(join: &mut [Group], round: &Group) -> Result<(), OutOfMemory>
-    ensures { is_closed (seen_rounds join.old) ≡ false → OnOk result (seen_rounds join.new ≡ with_round (seen_rounds join.old) (seen_group round.now)) }
+    ensures { is_closed (seen_groups join.old) ≡ false → OnOk result (seen_groups join.new ≡ with_round (seen_groups join.old) (seen_group round.now)) }
 {
     match join {
         [group] => add_group(group, round),
@@ -34,7 +35,7 @@ fn add_round(join: &mut [Group], round: &Group) -> Result<(), OutOfMemory>
 
 /// A join of one round.
 fn alone(alloc: Global, round: &Group) -> Result<Vec<Group>, OutOfMemory>
-    ensures { IfOk result (λ j. seen_rounds j.items ≡ seen_group round.now ∷ []) }
+    ensures { IfOk result (λ j. seen_groups j.items ≡ seen_group round.now ∷ []) }
 {
     let mut join = Vec::with_capacity(alloc, 1)?;
     join.push_reserved(copied(alloc, round)?);
@@ -91,8 +92,8 @@ fn put_rounds(
     rounds: &[Group],
 ) -> Result<(), OutOfMemory>
     requires tells { Tells (places_in _tree.now) named.old (seen_joins joins.old.items) }
-    requires closed { is_closed (seen_rounds rounds.now) ≡ true }
-    ensures joins { OnOk result (seen_joins joins.new.items ≡ seen_joins joins.old.items ++ seen_rounds rounds.now ∷ []) }
+    requires closed { is_closed (seen_groups rounds.now) ≡ true }
+    ensures joins { OnOk result (seen_joins joins.new.items ≡ seen_joins joins.old.items ++ seen_groups rounds.now ∷ []) }
     ensures tells { OnOk result (Tells (places_in _tree.now) named.new (seen_joins joins.new.items)) }
 {
     let count = count_of(joins)?;
@@ -110,7 +111,7 @@ fn put_in(
     rounds: &[Group],
 ) -> Result<(), OutOfMemory>
     requires { Tells (places_in tree.now) named.old (seen_joins joins.old.items) }
-    ensures joins { OnOk result (seen_joins joins.new.items ≡ put_in (places_in tree.now) (seen_joins joins.old.items) (seen_rounds rounds.now)) }
+    ensures joins { OnOk result (seen_joins joins.new.items ≡ put_in (places_in tree.now) (seen_joins joins.old.items) (seen_groups rounds.now)) }
     ensures tells { OnOk result (Tells (places_in tree.now) named.new (seen_joins joins.new.items)) }
 {
     match rounds {

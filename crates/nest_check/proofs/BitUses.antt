@@ -10,7 +10,7 @@ use Rattle.ij_bits.specs.BitLists.{bit}
 use Rattle.net_graph.specs.Held.{AreHolds, set_hold}
 use Rattle.net_graph.specs.Named.{IsBitOf, IsInputOf}
 use Rattle.net_graph.specs.Nets.{IsInst, IsMux, IsNet}
-use Rattle.net_graph.specs.Path.{same_place, select_bits}
+use Rattle.net_graph.specs.Path.{same_place, select_bits, is_bit}
 use Rattle.net_graph.specs.Resets.{zero_holds}
 use Rattle.net_graph.specs.Signals.{Holds, hold_at}
 use Rattle.net_graph.specs.declared.net.BitId.{BitId}
@@ -23,7 +23,7 @@ use Rattle.net_graph.proofs.Shapes.{shape}
 use Rattle.net_graph.proofs.Writing.{IsHeld, set_hold-at, set_hold-other, set_hold-shape}
 use Rattle.net_graph.proofs.Places.{place_is, place_self}
 use Rattle.net_graph.proofs.Widths.{zeros_held}
-use Rattle.net_tree.specs.Lawful.{is_signal, drives, IsUnshared, DrivesNone}
+use Rattle.net_tree.specs.Lawful.{drives, IsUnshared, DrivesNone}
 use Rattle.nest_check.specs.Uses.{Selected, no_flags, noted, note, note_all, HaveFlags, driving, driving_all, inputs_of, inputs}
 
 other_place : (a b : BitId) → same_place a b ≡ false → a ≢ b
@@ -159,7 +159,7 @@ pub driving_all_fits : (net : Net) (ss : List Sig) (flags : Holds) → AreHolds 
 driving_all_fits net [] flags h = h
 driving_all_fits net (s ∷ ss) flags h = driving_all_fits net ss (driving flags s) (driving_fits net flags s h)
 
-driving_at : (net : Net) (flags : Holds) (s : Sig) (b : BitId) → AreHolds net flags → IsInputOf net s → hold_at (driving flags s) b ≡ (hold_at flags b || is_signal b s)
+driving_at : (net : Net) (flags : Holds) (s : Sig) (b : BitId) → AreHolds net flags → IsInputOf net s → hold_at (driving flags s) b ≡ (hold_at flags b || is_bit b s)
 driving_at net flags Absent b h is = sym (or_false (hold_at flags b))
 driving_at net flags Zero b h is = sym (or_false (hold_at flags b))
 driving_at net flags One b h is = sym (or_false (hold_at flags b))
@@ -173,12 +173,12 @@ driving_at net flags (Bit c inverted) b h is = by_place (same_place b c) refl
     by_place false e =
         set_hold-other flags c b true (other_place b c e) ∙ sym (ap (λ f. hold_at flags b || f) e ∙ or_false (hold_at flags b))
 
-driving_all_at : (net : Net) (ss : List Sig) (flags : Holds) (b : BitId) → AreHolds net flags → All (IsInputOf net) ss → hold_at (driving_all flags ss) b ≡ (hold_at flags b || list_any (is_signal b) ss)
+driving_all_at : (net : Net) (ss : List Sig) (flags : Holds) (b : BitId) → AreHolds net flags → All (IsInputOf net) ss → hold_at (driving_all flags ss) b ≡ (hold_at flags b || list_any (is_bit b) ss)
 driving_all_at net [] flags b h a = sym (or_false (hold_at flags b))
 driving_all_at net (s ∷ ss) flags b h a =
     driving_all_at net ss (driving flags s) b (driving_fits net flags s h) (All-tail (IsInputOf net) s ss a)
-    ∙ ap (λ f. f || list_any (is_signal b) ss) (driving_at net flags s b h (All-head (IsInputOf net) s ss a))
-    ∙ or_both (hold_at flags b) (is_signal b s) (list_any (is_signal b) ss)
+    ∙ ap (λ f. f || list_any (is_bit b) ss) (driving_at net flags s b h (All-head (IsInputOf net) s ss a))
+    ∙ or_both (hold_at flags b) (is_bit b s) (list_any (is_bit b) ss)
 
 flat_any : {A B : Type 0} (p : B → Bool) (f : A → List B) (xs : List A) → list_any p (flat_map f xs) ≡ list_any (λ x. list_any p (f x)) xs
 flat_any p f [] = refl
@@ -188,9 +188,9 @@ same_any : {A : Type 0} (p q : A → Bool) (xs : List A) → ((x : A) → p x �
 same_any p q [] e = refl
 same_any p q (x ∷ xs) e = ap (λ b. b || list_any p xs) (e x) ∙ ap (λ b. q x || b) (same_any p q xs e)
 
-drives_inputs : (net : Net) (b : BitId) → list_any (is_signal b) (inputs net) ≡ list_any (drives b) net.insts.items
+drives_inputs : (net : Net) (b : BitId) → list_any (is_bit b) (inputs net) ≡ list_any (drives b) net.insts.items
 drives_inputs net b =
-    flat_any (is_signal b) inputs_of net.insts.items ∙ same_any (λ inst. list_any (is_signal b) (inputs_of inst)) (drives b) net.insts.items (λ inst. flat_any (is_signal b) (λ port. port.bits.items) inst.ins.items)
+    flat_any (is_bit b) inputs_of net.insts.items ∙ same_any (λ inst. list_any (is_bit b) (inputs_of inst)) (drives b) net.insts.items (λ inst. flat_any (is_bit b) (λ port. port.bits.items) inst.ins.items)
 
 or_left_false : (a b : Bool) → (a || b) ≡ false → a ≡ false
 or_left_false true b e = e
@@ -220,7 +220,7 @@ all_inputs net n =
 -- the flagged bits are those that drive
 pub driver_flags : (net : Net) (flags : Holds) (b : BitId) → IsNet net → flags ≡ driving_all (zero_holds net) (inputs net) → IsFalse (hold_at flags b) ↔ DrivesNone net b
 driver_flags net flags b n e =
-    let at : hold_at flags b ≡ list_any (drives b) net.insts.items = ap (λ h. hold_at h b) e ∙ driving_all_at net (inputs net) (zero_holds net) b (zeros_held net) (all_inputs net n) ∙ ap (λ f. f || list_any (is_signal b) (inputs net)) (nothing_flagged net b) ∙ drives_inputs net b in
+    let at : hold_at flags b ≡ list_any (drives b) net.insts.items = ap (λ h. hold_at h b) e ∙ driving_all_at net (inputs net) (zero_holds net) b (zeros_held net) (all_inputs net n) ∙ ap (λ f. f || list_any (is_bit b) (inputs net)) (nothing_flagged net b) ∙ drives_inputs net b in
     ((λ f. none_of (drives b) net.insts.items (sym at ∙ f)), (λ a. at ∙ list_any_none (drives b) net.insts.items a))
 
 pub drivers_fit : (net : Net) (flags : Holds) → flags ≡ driving_all (zero_holds net) (inputs net) → AreHolds net flags

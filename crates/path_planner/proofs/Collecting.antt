@@ -10,7 +10,7 @@ use Rattle.net_graph.specs.declared.net.BitId.{BitId}
 use Rattle.net_graph.specs.declared.net.Net.{Net}
 use Rattle.net_graph.specs.declared.step.WriteBit.{WriteBit}
 use Rattle.ij_bits.specs.Different.{AreDifferent}
-use Rattle.net_graph.specs.Path.{select_bits}
+use Rattle.net_graph.specs.Path.{select_bits, is_in}
 use Rattle.net_graph.specs.Signals.{Holds, bits_at, hold_at}
 use Rattle.net_graph.specs.Held.{set_hold}
 use Rattle.net_graph.specs.Writes.{write_all}
@@ -18,7 +18,7 @@ use Rattle.net_graph.proofs.Shapes.{shape}
 use Rattle.net_graph.proofs.Writing.{IsHeld}
 use Rattle.net_tree.specs.Lawful.{selects_of}
 use Rattle.path_planner.specs.Collecting.{select_writes, value_writes, row_writes, settle_writes}
-use Rattle.path_planner.specs.Settling.{is_on, set_selects, is_in_row, settle_rows}
+use Rattle.path_planner.specs.Settling.{set_selects, is_in_row, settle_rows}
 use Rattle.path_planner.proofs.Among.{Among, among-cases, among_map_back, contains_among}
 use Rattle.path_planner.proofs.Apart.{Apart, apart_part, one_part}
 use Rattle.path_planner.proofs.Values.{TakesOn}
@@ -39,7 +39,7 @@ module _ (path : List ℕ) where
   taken_same [] vs h t = refl
   taken_same (b ∷ bs) [] h t = refl
   taken_same (b ∷ bs) (v ∷ vs) h t =
-      ap (set_selects path bs vs) (one (is_on path b.reg) t.0) ∙ taken_same bs vs h t.1
+      ap (set_selects path bs vs) (one (is_in path b.reg) t.0) ∙ taken_same bs vs h t.1
     where
       one : (o : Bool) → (o ≡ true → hold_at h b ≡ v) → elim o [ true ↦ set_hold h b v | false ↦ h ] ≡ h
       one true f = same_bit_set h b v (f refl)
@@ -48,27 +48,27 @@ module _ (path : List ℕ) where
   writes_select : (bs : List BitId) (vs : List Bool) (h : Holds) → write_all h (select_writes path bs vs) ≡ set_selects path bs vs h
   writes_select [] vs h = refl
   writes_select (b ∷ bs) [] h = refl
-  writes_select (b ∷ bs) (v ∷ vs) h = one (is_on path b.reg) (writes_select bs vs)
+  writes_select (b ∷ bs) (v ∷ vs) h = one (is_in path b.reg) (writes_select bs vs)
     where
       one : (o : Bool) → ((k : Holds) → write_all k (select_writes path bs vs) ≡ set_selects path bs vs k) → write_all h (elim o [ true ↦ record { bit = b; value = v } ∷ [] | false ↦ [] ] ++ select_writes path bs vs) ≡ set_selects path bs vs (elim o [ true ↦ set_hold h b v | false ↦ h ])
       one true f = f (set_hold h b v)
       one false f = f h
 
   -- they name select bits on the path, each once
-  select_written : (bs : List BitId) (vs : List Bool) (w : WriteBit) → Among w (select_writes path bs vs) → Among w.bit bs × (is_on path w.bit.reg ≡ true)
+  select_written : (bs : List BitId) (vs : List Bool) (w : WriteBit) → Among w (select_writes path bs vs) → Among w.bit bs × (is_in path w.bit.reg ≡ true)
   select_written [] vs w a = absurd a
   select_written (b ∷ bs) [] w a = absurd a
-  select_written (b ∷ bs) (v ∷ vs) w a = one (is_on path b.reg) refl a (select_written bs vs w)
+  select_written (b ∷ bs) (v ∷ vs) w a = one (is_in path b.reg) refl a (select_written bs vs w)
     where
-      one : (o : Bool) → is_on path b.reg ≡ o → Among w (elim o [ true ↦ record { bit = b; value = v } ∷ [] | false ↦ [] ] ++ select_writes path bs vs) → (Among w (select_writes path bs vs) → Among w.bit bs × (is_on path w.bit.reg ≡ true)) → Among w.bit (b ∷ bs) × (is_on path w.bit.reg ≡ true)
+      one : (o : Bool) → is_in path b.reg ≡ o → Among w (elim o [ true ↦ record { bit = b; value = v } ∷ [] | false ↦ [] ] ++ select_writes path bs vs) → (Among w (select_writes path bs vs) → Among w.bit bs × (is_in path w.bit.reg ≡ true)) → Among w.bit (b ∷ bs) × (is_in path w.bit.reg ≡ true)
       one true e i f =
-          ⊎_elim (λ q. (inl (ap (λ (z : WriteBit). z.bit) q), ap (λ (z : WriteBit). is_on path z.bit.reg) (sym q) ∙ e)) (λ j. let r = f j in (inr r.0, r.1)) i
+          ⊎_elim (λ q. (inl (ap (λ (z : WriteBit). z.bit) q), ap (λ (z : WriteBit). is_in path z.bit.reg) (sym q) ∙ e)) (λ j. let r = f j in (inr r.0, r.1)) i
       one false e i f = let r = f i in (inr r.0, r.1)
 
   select_once : (bs : List BitId) (vs : List Bool) → Apart bs → Apart (map (λ (w : WriteBit). w.bit) (select_writes path bs vs))
   select_once [] vs h = tt
   select_once (b ∷ bs) [] h = tt
-  select_once (b ∷ bs) (v ∷ vs) h = one (is_on path b.reg) (select_once bs vs h.1)
+  select_once (b ∷ bs) (v ∷ vs) h = one (is_in path b.reg) (select_once bs vs h.1)
     where
       one : (o : Bool) → Apart (map (λ (w : WriteBit). w.bit) (select_writes path bs vs)) → Apart (map (λ (w : WriteBit). w.bit) (elim o [ true ↦ record { bit = b; value = v } ∷ [] | false ↦ [] ] ++ select_writes path bs vs))
       one true f =
@@ -135,10 +135,10 @@ module _ (net : Net) (before : Holds) (path : List ℕ) (once : Apart (select_bi
       go false None = refl
       go false (Some t) = writes_select path (selects_of net b.mux) t.value.items h
 
-  row_written : (b : Branch) (w : WriteBit) → Among w (row_writes net before path b) → Among w.bit (selects_of net b.mux) × (is_on path w.bit.reg ≡ true)
+  row_written : (b : Branch) (w : WriteBit) → Among w (row_writes net before path b) → Among w.bit (selects_of net b.mux) × (is_in path w.bit.reg ≡ true)
   row_written b w a = go (is_in_row net before b) (value_for net before path b) a
     where
-      go : (r : Bool) (o : Option Tern) → Among w (elim r [ true ↦ [] | false ↦ value_writes path (selects_of net b.mux) o ]) → Among w.bit (selects_of net b.mux) × (is_on path w.bit.reg ≡ true)
+      go : (r : Bool) (o : Option Tern) → Among w (elim r [ true ↦ [] | false ↦ value_writes path (selects_of net b.mux) o ]) → Among w.bit (selects_of net b.mux) × (is_in path w.bit.reg ≡ true)
       go true o i = absurd i
       go false None i = absurd i
       go false (Some t) i = select_written path (selects_of net b.mux) t.value.items w i
@@ -184,12 +184,12 @@ module _ (net : Net) (before : Holds) (path : List ℕ) (once : Apart (select_bi
           write_all-append h (row_writes net before path b) (settle_writes net before path mark bs) ∙ ap (λ k. write_all k (settle_writes net before path mark bs)) (row_step b h) ∙ rest (next b h) (step-shape net before path (is_in_row net before b) (value_for net before path b) b h) fresh
 
   -- each write is a select bit on the path, of a needed mux that wasn't done
-  pub settle_written : (bs : List Branch) (done : List Bool) (w : WriteBit) → Among w (settle_writes net before path done bs) → (b : Branch) × Among b bs × Among w.bit (selects_of net b.mux) × (is_on path w.bit.reg ≡ true)
+  pub settle_written : (bs : List Branch) (done : List Bool) (w : WriteBit) → Among w (settle_writes net before path done bs) → (b : Branch) × Among b bs × Among w.bit (selects_of net b.mux) × (is_in path w.bit.reg ≡ true)
   settle_written [] done w a = absurd a
   settle_written (b ∷ bs) done w a =
       ⊎_elim (λ i. go (bit done b.mux) i) (λ i. let (c, j, r, o) = settle_written bs (slice_set done b.mux true) w i in (c, inr j, r, o)) (among-cases w (first_writes (bit done b.mux) b) (settle_writes net before path (slice_set done b.mux true) bs) a)
     where
-      go : (d : Bool) → Among w (first_writes d b) → (c : Branch) × Among c (b ∷ bs) × Among w.bit (selects_of net c.mux) × (is_on path w.bit.reg ≡ true)
+      go : (d : Bool) → Among w (first_writes d b) → (c : Branch) × Among c (b ∷ bs) × Among w.bit (selects_of net c.mux) × (is_in path w.bit.reg ≡ true)
       go true i = absurd i
       go false i = let r = row_written b w i in (b, inl refl, r.0, r.1)
 

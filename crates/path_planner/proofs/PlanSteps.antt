@@ -13,7 +13,7 @@ use Rattle.net_graph.specs.declared.net.BitId.{BitId}
 use Rattle.net_graph.specs.Named.{IsBitOf}
 use Rattle.net_graph.proofs.Selecting.{is_held}
 use Rattle.net_graph.specs.Held.{IsHeld}
-use Rattle.net_graph.specs.Path.{row_of, path as scan_path, mux_source, is_select, select_bits}
+use Rattle.net_graph.specs.Path.{row_of, path as scan_path, mux_source, is_select, select_bits, route_of, is_in}
 use Rattle.net_graph.specs.SeenSteps.{SeenGroup}
 use Rattle.net_graph.specs.Signals.{Holds}
 use Rattle.net_graph.specs.Writes.{write_all}
@@ -28,7 +28,7 @@ use Rattle.path_planner.specs.Opening.{CanOpen}
 use Rattle.path_planner.specs.Plans.{Settles, ArePlans}
 use Rattle.path_planner.specs.Scannable.{IsScannable}
 use Rattle.path_planner.specs.Registers.{add_registers}
-use Rattle.path_planner.specs.Settling.{is_on, path_or_none, all_on}
+use Rattle.path_planner.specs.Settling.{all_on}
 use Rattle.path_planner.proofs.Among.{Among, all_among, among_all}
 use Rattle.path_planner.proofs.Apart.{in_part}
 use Rattle.path_planner.proofs.FirstRows.{first_writes}
@@ -54,13 +54,13 @@ AreOpen net form g h q =
 
 module _ (net : Net) (form : Items) (g : SeenGroup) where
   -- the registers of a group are on the path from scan-in to scan-out where they are on the traced one
-  all_on_path : (holds : Holds) (p : List ℕ) (t : Bool) → scan_path net holds ≡ Some p → t ≡ list_all (is_on p) (registers_of g) → all_on net (registers_of g) holds ≡ t
+  all_on_path : (holds : Holds) (p : List ℕ) (t : Bool) → scan_path net holds ≡ Some p → t ≡ list_all (is_in p) (registers_of g) → all_on net (registers_of g) holds ≡ t
   all_on_path holds p t e f = same (registers_of g) ∙ sym f
     where
-      same : (rs : List ℕ) → list_all (is_on (path_or_none net holds)) rs ≡ list_all (is_on p) rs
+      same : (rs : List ℕ) → list_all (is_in (route_of net holds)) rs ≡ list_all (is_in p) rs
       same [] = refl
       same (r ∷ rs) =
-          ap (λ b. b && list_all (is_on (path_or_none net holds)) rs) (sym (on_scan_path net holds p r e)) ∙ ap (λ b. is_on p r && b) (same rs)
+          ap (λ b. b && list_all (is_in (route_of net holds)) rs) (sym (on_scan_path net holds p r e)) ∙ ap (λ b. is_in p r && b) (same rs)
 
   pub none_open : (holds : Holds) → AreOpen net form g holds 0
   none_open holds b a l = absurd (omega (arith, l))
@@ -79,12 +79,12 @@ module _ (net : Net) (form : Items) (g : SeenGroup) where
         subst (λ h. AreOpen net form g h (suc q)) (sym s.settled) (deeper net form c.well_formed c.describes c.lawful (needs form g) (is_needed net form g holds c) holds q c.listed o)
 
   -- its registers are, where those that were collected are
-  pub asked_on : (holds : Holds) (path p regs : List ℕ) (t : Bool) → scan_path net holds ≡ Some path → p ≡ path → regs ≡ add_registers [] (registers_of g) → t ≡ list_all (is_on p) regs → all_on net (registers_of g) holds ≡ t
+  pub asked_on : (holds : Holds) (path p regs : List ℕ) (t : Bool) → scan_path net holds ≡ Some path → p ≡ path → regs ≡ add_registers [] (registers_of g) → t ≡ list_all (is_in p) regs → all_on net (registers_of g) holds ≡ t
   asked_on holds path p regs t e f n a =
-      all_on_path holds path t e (subst (λ z. t ≡ list_all (is_on z) (registers_of g)) f (a ∙ same_all (is_on p) regs (registers_of g) n))
+      all_on_path holds path t e (subst (λ z. t ≡ list_all (is_in z) (registers_of g)) f (a ∙ same_all (is_in p) regs (registers_of g) n))
 
   -- the plan made in a step
-  pub opening_plan : (now : Holds) (path p q asked regs : List ℕ) (rows : List Branch) (t : Bool) (plan : SeenGroup) → CanOpen net form g now → scan_path net now ≡ Some path → p ≡ path → q ≡ path → asked ≡ add_registers [] (registers_of g) → regs ≡ add_registers [] (registers_of g) → t ≡ list_all (is_on p) asked → t ≡ false → rows ≡ first_rows (replicate (length net.muxes.items) false) (flat_map (λ r. place_of form (FromReg r)) regs) → plan.writes ≡ flat_map (row_writes net now q) rows → plan.reads ≡ [] → Settles net form g now plan
+  pub opening_plan : (now : Holds) (path p q asked regs : List ℕ) (rows : List Branch) (t : Bool) (plan : SeenGroup) → CanOpen net form g now → scan_path net now ≡ Some path → p ≡ path → q ≡ path → asked ≡ add_registers [] (registers_of g) → regs ≡ add_registers [] (registers_of g) → t ≡ list_all (is_in p) asked → t ≡ false → rows ≡ first_rows (replicate (length net.muxes.items) false) (flat_map (λ r. place_of form (FromReg r)) regs) → plan.writes ≡ flat_map (row_writes net now q) rows → plan.reads ≡ [] → Settles net form g now plan
   opening_plan now path p q asked regs rows t plan c e f h n m a o k w r =
       settles net form g now c path plan (asked_on now path p asked t e f n a ∙ o) e (subst (λ z. plan.writes ≡ settle_writes net now z (replicate (length net.muxes.items) false) (needs form g)) h (w ∙ ap (flat_map (row_writes net now q)) k ∙ first_writes net now q (flat_map (λ r. place_of form (FromReg r)) regs) (replicate (length net.muxes.items) false) ∙ same_writes net form g now c now q regs m)) r
 
@@ -117,6 +117,6 @@ module _ (net : Net) (form : Items) (g : SeenGroup) where
     fewer_left o t = omega (arith, one_more, not_deep now (length plans) c o t)
 
   -- the group itself comes last
-  pub last_plan : (first now : Holds) (path p regs : List ℕ) (t : Bool) (plans more : List ScanPlan) → ¬ IsEmpty g → scan_path net now ≡ Some path → p ≡ path → regs ≡ add_registers [] (registers_of g) → t ≡ list_all (is_on p) regs → t ≡ true → ((p : SeenGroup) (ps : List SeenGroup) → ArePlans net form g now (p ∷ ps) → ArePlans net form g first (map seen_plan plans ++ p ∷ ps)) → map seen_plan more ≡ map seen_plan plans ++ g ∷ [] → ArePlans net form g first (map seen_plan more)
+  pub last_plan : (first now : Holds) (path p regs : List ℕ) (t : Bool) (plans more : List ScanPlan) → ¬ IsEmpty g → scan_path net now ≡ Some path → p ≡ path → regs ≡ add_registers [] (registers_of g) → t ≡ list_all (is_in p) regs → t ≡ true → ((p : SeenGroup) (ps : List SeenGroup) → ArePlans net form g now (p ∷ ps) → ArePlans net form g first (map seen_plan plans ++ p ∷ ps)) → map seen_plan more ≡ map seen_plan plans ++ g ∷ [] → ArePlans net form g first (map seen_plan more)
   last_plan first now path p regs t plans more some e f n a o h j =
       subst (ArePlans net form g first) (sym j) (h g [] (some, refl, asked_on now path p regs t e f n a ∙ o))

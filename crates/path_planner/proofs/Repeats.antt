@@ -12,6 +12,7 @@ use Rattle.net_graph.specs.declared.step.WriteBit.{WriteBit}
 use Rattle.net_graph.specs.Groups.{registers_of}
 use Rattle.net_graph.specs.SeenSteps.{SeenGroup}
 use Rattle.net_graph.specs.Signals.{Holds}
+use Rattle.net_graph.specs.Path.{is_in}
 use Rattle.net_tree.specs.Form.{Items}
 use Rattle.net_tree.specs.Needs.{needs}
 use Rattle.net_tree.specs.Places.{place_of}
@@ -19,7 +20,6 @@ use Rattle.path_planner.specs.Collecting.{all_done, settle_writes}
 use Rattle.path_planner.specs.Opening.{CanOpen}
 use Rattle.path_planner.specs.Planning.{IsBranchOf}
 use Rattle.path_planner.specs.Registers.{ends_in, add_register, add_registers}
-use Rattle.path_planner.specs.Settling.{is_on}
 use Rattle.path_planner.proofs.Again.{AreDone, done_again, none_again, now_done}
 use Rattle.path_planner.proofs.Among.{Among, all_among, among-flat, on_true, true_on}
 use Rattle.path_planner.proofs.Joining.{settle_writes-append, length-all_done}
@@ -87,18 +87,18 @@ module _ (f : ℕ → Bool) where
   pub same_all : (regs xs : List ℕ) → regs ≡ add_registers [] xs → list_all f regs ≡ list_all f xs
   same_all regs xs e = ap (list_all f) e ∙ same_added (list_all f) Any all_twice [] xs (λ r a. tt)
 
-on_twice : (k : ℕ) (front : List ℕ) (r : ℕ) (rest : List ℕ) → Any r → is_on (front ++ r ∷ (r ∷ rest)) k ≡ is_on (front ++ r ∷ rest) k
+on_twice : (k : ℕ) (front : List ℕ) (r : ℕ) (rest : List ℕ) → Any r → is_in (front ++ r ∷ (r ∷ rest)) k ≡ is_in (front ++ r ∷ rest) k
 on_twice k (x ∷ front) r rest u = ap (λ b. (x == k) || b) (on_twice k front r rest u)
 on_twice k [] r rest u = go (r == k)
   where
-    go : (b : Bool) → (b || (b || is_on rest k)) ≡ (b || is_on rest k)
+    go : (b : Bool) → (b || (b || is_in rest k)) ≡ (b || is_in rest k)
     go true = refl
     go false = refl
 
 -- no other register is added
 among_added : (xs : List ℕ) (r : ℕ) → Among r (add_registers [] xs) → Among r xs
 among_added xs r a =
-    true_on r xs (sym (same_added (λ l. is_on l r) Any (on_twice r) [] xs (λ k b. tt)) ∙ on_true r (add_registers [] xs) a)
+    true_on r xs (sym (same_added (λ l. is_in l r) Any (on_twice r) [] xs (λ k b. tt)) ∙ on_true r (add_registers [] xs) a)
 
 flat_append : {A B : Type 0} (f : A → List B) (xs ys : List A) → flat_map f (xs ++ ys) ≡ flat_map f xs ++ flat_map f ys
 flat_append f [] ys = refl

@@ -6,7 +6,8 @@ use Rattle.net_graph.specs.Signals.{Holds, bits_at, hold_at}
 use Rattle.net_graph.proofs.Shapes.{shape}
 use Rattle.net_graph.proofs.Writing.{IsHeld, set_hold-at, set_hold-off, set_hold-shape, set_hold-other}
 use Rattle.net_graph.specs.Held.{set_hold}
-use Rattle.path_planner.specs.Settling.{is_on, set_selects}
+use Rattle.net_graph.specs.Path.{is_in}
+use Rattle.path_planner.specs.Settling.{set_selects}
 use Rattle.path_planner.proofs.Among.{Among}
 use Rattle.path_planner.proofs.Apart.{Apart}
 use Rattle.path_planner.proofs.Values.{TakesOn}
@@ -32,29 +33,29 @@ module _ (path : List ℕ) where
   set_selects-shape [] vs holds = refl
   set_selects-shape (b ∷ bs) [] holds = refl
   set_selects-shape (b ∷ bs) (v ∷ vs) holds =
-      set_selects-shape bs vs (one_set (is_on path b.reg) holds b v) ∙ one_set-shape (is_on path b.reg) holds b v
+      set_selects-shape bs vs (one_set (is_in path b.reg) holds b v) ∙ one_set-shape (is_in path b.reg) holds b v
 
   -- other bits stay
   pub set_selects-other : (bs : List BitId) (vs : List Bool) (holds : Holds) (c : BitId) → (Among c bs → ⊥) → hold_at (set_selects path bs vs holds) c ≡ hold_at holds c
   set_selects-other [] vs holds c n = refl
   set_selects-other (b ∷ bs) [] holds c n = refl
   set_selects-other (b ∷ bs) (v ∷ vs) holds c n =
-      set_selects-other bs vs (one_set (is_on path b.reg) holds b v) c (λ a. n (inr a)) ∙ one_set-other (is_on path b.reg) holds b c v (λ e. n (inl (sym e)))
+      set_selects-other bs vs (one_set (is_in path b.reg) holds b v) c (λ a. n (inr a)) ∙ one_set-other (is_in path b.reg) holds b c v (λ e. n (inl (sym e)))
 
   -- registers off the path stay
-  pub set_selects-off : (bs : List BitId) (vs : List Bool) (holds : Holds) (r : ℕ) → is_on path r ≡ false → bits_at (set_selects path bs vs holds) r ≡ bits_at holds r
+  pub set_selects-off : (bs : List BitId) (vs : List Bool) (holds : Holds) (r : ℕ) → is_in path r ≡ false → bits_at (set_selects path bs vs holds) r ≡ bits_at holds r
   set_selects-off [] vs holds r f = refl
   set_selects-off (b ∷ bs) [] holds r f = refl
   set_selects-off (b ∷ bs) (v ∷ vs) holds r f =
-      set_selects-off bs vs (one_set (is_on path b.reg) holds b v) r f ∙ one_set-off (is_on path b.reg) holds b v r (λ t e. true≢false (sym t ∙ ap (is_on path) (sym e) ∙ f))
+      set_selects-off bs vs (one_set (is_in path b.reg) holds b v) r f ∙ one_set-off (is_in path b.reg) holds b v r (λ t e. true≢false (sym t ∙ ap (is_in path) (sym e) ∙ f))
 
   -- those on the path take the value
   pub set_selects-on : (bs : List BitId) (vs : List Bool) (holds : Holds) → Apart bs → ((b : BitId) → Among b bs → IsHeld (shape holds) b) → TakesOn path (set_selects path bs vs holds) bs vs
   set_selects-on [] vs holds a h = tt
   set_selects-on (b ∷ bs) [] holds a h = tt
   set_selects-on (b ∷ bs) (v ∷ vs) holds a h =
-      let one = one_set (is_on path b.reg) holds b v in
-      (λ t. set_selects-other bs vs one b (λ c. a.0 b c refl) ∙ ap (λ o. hold_at (one_set o holds b v) b) t ∙ set_hold-at holds b v (h b (inl refl)), set_selects-on bs vs one a.1 (λ c i. subst (λ w. IsHeld w c) (sym (one_set-shape (is_on path b.reg) holds b v)) (h c (inr i))))
+      let one = one_set (is_in path b.reg) holds b v in
+      (λ t. set_selects-other bs vs one b (λ c. a.0 b c refl) ∙ ap (λ o. hold_at (one_set o holds b v) b) t ∙ set_hold-at holds b v (h b (inl refl)), set_selects-on bs vs one a.1 (λ c i. subst (λ w. IsHeld w c) (sym (one_set-shape (is_in path b.reg) holds b v)) (h c (inr i))))
 
   -- what was taken stays where the bits stay
   pub takes_stay : (s t : Holds) (bs : List BitId) (vs : List Bool) → ((b : BitId) → Among b bs → hold_at t b ≡ hold_at s b) → TakesOn path s bs vs → TakesOn path t bs vs

@@ -16,16 +16,16 @@ use Rattle.net_graph.specs.declared.net.Sig.TheVariants.{Absent, Zero, One, Bit,
 use Rattle.net_graph.specs.declared.net.Point.TheVariants.{Reg as FromReg, Mux as FromMux}
 use Rattle.net_graph.specs.Nets.{IsNet}
 use Rattle.net_graph.specs.Signals.{Holds, Outputs, bits_at, hold_at, signal, some_matches}
-use Rattle.net_graph.specs.Path.{active, row_of, rows_of, row_from, mux_source, select_value, select_bits, is_select, same_place}
+use Rattle.net_graph.specs.Path.{active, row_of, rows_of, row_from, mux_source, select_value, select_bits, is_select, same_place, route_of, is_bit, is_in}
 use Rattle.net_graph.proofs.Shapes.{shape, widths}
 use Rattle.net_tree.specs.Form.{Items, Describes}
-use Rattle.net_tree.specs.Lawful.{IsLawful, IsOutside, IsUnshared, IsUndriven, DrivesNone, is_signal, selects_of}
+use Rattle.net_tree.specs.Lawful.{IsLawful, IsOutside, IsUnshared, IsUndriven, DrivesNone, selects_of}
 use Rattle.net_tree.specs.Places.{place_of}
 use Rattle.net_tree.proofs.Walks.{has_walk}
 use Rattle.path_planner.specs.Least.{ScanStep}
 use Rattle.path_planner.specs.Opening.{InputsStay}
 use Rattle.path_planner.specs.Scannable.{IsScannable}
-use Rattle.path_planner.specs.Settling.{is_on, agrees_off, values_of, is_in_row, path_or_none, settle}
+use Rattle.path_planner.specs.Settling.{agrees_off, values_of, is_in_row, settle}
 use Rattle.path_planner.proofs.Among.{Among, all_among, among_all, among_contains, off_false}
 use Rattle.path_planner.proofs.Apart.{Apart, apart_counts, in_part, part_in, one_part}
 use Rattle.path_planner.proofs.Rows.{in_row, row_in, value_for, Leaves, settle-shape, settle-off, settle-other, settle-takes}
@@ -149,7 +149,7 @@ module _ (net : Net) (form : Items) (n : IsNet net) (d : Describes net form) (w 
       driven t =
           let (m, l, a) = in_part (λ mux. mux.select.items) b net.muxes.items (selected b (select_bits net) t) in
           let none = among_all (IsUndriven b) inst net.insts.items (among_all (DrivesNone net) b (selects_of net m) (w m l).undriven a) i in
-          let yes = any_true (λ (p : PortIn). list_any (is_signal b) p.bits.items) port inst.ins.items j (any_true (is_signal b) (Bit b inverted) port.bits.items k (place_itself b)) in
+          let yes = any_true (λ (p : PortIn). list_any (is_bit b) p.bits.items) port inst.ins.items j (any_true (is_bit b) (Bit b inverted) port.bits.items k (place_itself b)) in
           true≢false (sym yes ∙ none)
 
   same_signal : (s t : Holds) (inst : Inst) (port : PortIn) (sig : Sig) (outs : Outputs) → ((b : BitId) → is_select net b ≡ false → hold_at t b ≡ hold_at s b) → Among inst net.insts.items → Among port inst.ins.items → Among sig port.bits.items → signal outs t sig ≡ signal outs s sig
@@ -168,17 +168,17 @@ module _ (net : Net) (form : Items) (n : IsNet net) (d : Describes net form) (w 
     abbrev pub after : Holds
     after = settle net bs holds
 
-    path_is : path_or_none net holds ≡ path
+    path_is : route_of net holds ≡ path
     path_is = ap (λ o. unwrap_or o []) e
 
     pub held : (m : ℕ) (c : BitId) → m < length net.muxes.items → Among c (selects_of net m) → IsHeld (shape holds) c
     held m c l a = subst (λ ws. IsHeld ws c) (sym s.widths) (select_held m c l a)
 
     pub after-shape : shape after ≡ shape holds
-    after-shape = settle-shape net holds (path_or_none net holds) bs holds
+    after-shape = settle-shape net holds (route_of net holds) bs holds
 
-    pub after-off : (r : ℕ) → is_on path r ≡ false → bits_at after r ≡ bits_at holds r
-    after-off r f = settle-off net holds (path_or_none net holds) bs holds r (ap (λ p. is_on p r) path_is ∙ f)
+    pub after-off : (r : ℕ) → is_in path r ≡ false → bits_at after r ≡ bits_at holds r
+    after-off r f = settle-off net holds (route_of net holds) bs holds r (ap (λ p. is_in p r) path_is ∙ f)
 
     pub after-not : (r : ℕ) → (Among r path → ⊥) → bits_at after r ≡ bits_at holds r
     after-not r h = after-off r (off_false r path h)
@@ -188,9 +188,9 @@ module _ (net : Net) (form : Items) (n : IsNet net) (d : Describes net form) (w 
 
     -- a needed mux that is in its row stays there
     pub stays_in : (b : Branch) → Among b bs → row_of net holds b.mux ≡ Some b.row → row_of net after b.mux ≡ Some b.row
-    stays_in b a f = same_row holds after b.mux (λ c i. settle-other net holds (path_or_none net holds) bs holds c (leaves c i)) ∙ f
+    stays_in b a f = same_row holds after b.mux (λ c i. settle-other net holds (route_of net holds) bs holds c (leaves c i)) ∙ f
       where
-        leaves : (c : BitId) → Among c (selects_of net b.mux) → (x : Branch) → Among x bs → Leaves net holds (path_or_none net holds) c x
+        leaves : (c : BitId) → Among c (selects_of net b.mux) → (x : Branch) → Among x bs → Leaves net holds (route_of net holds) c x
         leaves c i x j =
             ⊎_elim (λ g. inl (ap (is_in_row net holds) (k.single b x a j g) ∙ row_in net holds b f)) (λ g. inr (inr (λ z. g (one_part (λ mux. mux.select.items) c net.muxes.items x.mux b.mux once z i)))) (cases_eq x.mux b.mux)
 
@@ -200,7 +200,7 @@ module _ (net : Net) (form : Items) (n : IsNet net) (d : Describes net form) (w 
         ⊎_elim (λ f. stays_in b a (in_row net holds b f)) (λ f. now f) (cases_Bool (is_in_row net holds b))
       where
         on : List ℕ
-        on = path_or_none net holds
+        on = route_of net holds
 
         agrees : agrees_off holds on (selects_of net b.mux) t.value.items t.care.items ≡ true
         agrees = subst (λ p. agrees_off holds p (selects_of net b.mux) t.value.items t.care.items ≡ true) (sym path_is) g
@@ -229,24 +229,24 @@ module _ (net : Net) (form : Items) (n : IsNet net) (d : Describes net form) (w 
         ⊎_elim (λ f. inl (x, inl refl, f)) (λ f. ⊎_elim (λ (b, a, g). inl (b, inr a, g)) (λ g. inr (λ b a. ⊎_elim (λ h z. f (ap (λ y. y.mux) h ∙ z)) (λ h. g b h) a)) (needed_mux xs m)) (cases_eq x.mux m)
 
     -- where its one needed row takes no value, a mux keeps its select value
-    keeps : (b : Branch) → Among b bs → value_for net holds (path_or_none net holds) b ≡ None → (c : BitId) → Among c (selects_of net b.mux) → hold_at after c ≡ hold_at holds c
+    keeps : (b : Branch) → Among b bs → value_for net holds (route_of net holds) b ≡ None → (c : BitId) → Among c (selects_of net b.mux) → hold_at after c ≡ hold_at holds c
     keeps b a f c i =
-        settle-other net holds (path_or_none net holds) bs holds c (λ x j. ⊎_elim (λ g. inr (inl (ap (value_for net holds (path_or_none net holds)) (k.single b x a j g) ∙ f))) (λ g. inr (inr (λ z. g (one_part (λ mux. mux.select.items) c net.muxes.items x.mux b.mux once z i)))) (cases_eq x.mux b.mux))
+        settle-other net holds (route_of net holds) bs holds c (λ x j. ⊎_elim (λ g. inr (inl (ap (value_for net holds (route_of net holds)) (k.single b x a j g) ∙ f))) (λ g. inr (inr (λ z. g (one_part (λ mux. mux.select.items) c net.muxes.items x.mux b.mux once z i)))) (cases_eq x.mux b.mux))
 
     keeps_in : (b : Branch) → Among b bs → row_of net holds b.mux ≡ Some b.row → (c : BitId) → Among c (selects_of net b.mux) → hold_at after c ≡ hold_at holds c
     keeps_in b a f c i =
-        settle-other net holds (path_or_none net holds) bs holds c (λ x j. ⊎_elim (λ g. inl (ap (is_in_row net holds) (k.single b x a j g) ∙ row_in net holds b f)) (λ g. inr (inr (λ z. g (one_part (λ mux. mux.select.items) c net.muxes.items x.mux b.mux once z i)))) (cases_eq x.mux b.mux))
+        settle-other net holds (route_of net holds) bs holds c (λ x j. ⊎_elim (λ g. inl (ap (is_in_row net holds) (k.single b x a j g) ∙ row_in net holds b f)) (λ g. inr (inr (λ z. g (one_part (λ mux. mux.select.items) c net.muxes.items x.mux b.mux once z i)))) (cases_eq x.mux b.mux))
 
     pub mux_after : (m : ℕ) → ((c : BitId) → Among c (selects_of net m) → hold_at after c ≡ hold_at holds c) ⊎ Sets m
     mux_after m = ⊎_elim (λ (b, a, g). needed b a g) (λ g. inl (λ c i. none g c i)) (needed_mux bs m)
       where
         none : ((b : Branch) → Among b bs → b.mux ≢ m) → (c : BitId) → Among c (selects_of net m) → hold_at after c ≡ hold_at holds c
         none g c i =
-            settle-other net holds (path_or_none net holds) bs holds c (λ x j. inr (inr (λ z. g x j (one_part (λ mux. mux.select.items) c net.muxes.items x.mux m once z i))))
+            settle-other net holds (route_of net holds) bs holds c (λ x j. inr (inr (λ z. g x j (one_part (λ mux. mux.select.items) c net.muxes.items x.mux m once z i))))
 
         needed : (b : Branch) → Among b bs → b.mux ≡ m → ((c : BitId) → Among c (selects_of net m) → hold_at after c ≡ hold_at holds c) ⊎ Sets m
         needed b a g =
-            ⊎_elim (λ f. inl (subst (λ z. (c : BitId) → Among c (selects_of net z) → hold_at after c ≡ hold_at holds c) g (keeps_in b a (in_row net holds b f)))) (λ f. ⊎_elim (λ o. inl (subst (λ z. (c : BitId) → Among c (selects_of net z) → hold_at after c ≡ hold_at holds c) g (keeps b a o))) (λ (t, o). let (j, good) = first_agrees holds (path_or_none net holds) (selects_of net b.mux) (values_of net b) t o in inr (record { branch = b; needed = a; mux_is = g; out = f; now_in = subst (λ z. row_of net after z ≡ Some b.row) g (set_in b t a j (subst (λ p. agrees_off holds p (selects_of net b.mux) t.value.items t.care.items ≡ true) path_is good)) })) (none_or_some (value_for net holds (path_or_none net holds) b))) (cases_Bool (is_in_row net holds b))
+            ⊎_elim (λ f. inl (subst (λ z. (c : BitId) → Among c (selects_of net z) → hold_at after c ≡ hold_at holds c) g (keeps_in b a (in_row net holds b f)))) (λ f. ⊎_elim (λ o. inl (subst (λ z. (c : BitId) → Among c (selects_of net z) → hold_at after c ≡ hold_at holds c) g (keeps b a o))) (λ (t, o). let (j, good) = first_agrees holds (route_of net holds) (selects_of net b.mux) (values_of net b) t o in inr (record { branch = b; needed = a; mux_is = g; out = f; now_in = subst (λ z. row_of net after z ≡ Some b.row) g (set_in b t a j (subst (λ p. agrees_off holds p (selects_of net b.mux) t.value.items t.care.items ≡ true) path_is good)) })) (none_or_some (value_for net holds (route_of net holds) b))) (cases_Bool (is_in_row net holds b))
 
     pub after_listed : IsScannable net after
     after_listed =
@@ -255,4 +255,4 @@ module _ (net : Net) (form : Items) (n : IsNet net) (d : Describes net form) (w 
     -- bits that select nothing stay
     pub data_stays : (c : BitId) → is_select net c ≡ false → hold_at after c ≡ hold_at holds c
     data_stays c f =
-        settle-other net holds (path_or_none net holds) bs holds c (λ x j. inr (inr (λ z. true≢false (sym (selects c (select_bits net) (part_in (λ mux. mux.select.items) c net.muxes.items x.mux z)) ∙ f))))
+        settle-other net holds (route_of net holds) bs holds c (λ x j. inr (inr (λ z. true≢false (sym (selects c (select_bits net) (part_in (λ mux. mux.select.items) c net.muxes.items x.mux z)) ∙ f))))

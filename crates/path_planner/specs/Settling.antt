@@ -1,6 +1,6 @@
 -- Opening the muxes that a group needs: in one scan each of them that can be set is set.
-use Rattle.std.specs.Prelude.{◌≡◌, ℕ, ◌==◌, Bool, true, false, not, ◌&&◌, ◌||◌, List, [], ◌∷◌, map, get_or, Option, Some, None, unwrap_or}
-use Rattle.std.specs.List.{list_any, list_all}
+use Rattle.std.specs.Prelude.{◌≡◌, ℕ, ◌==◌, Bool, true, false, not, ◌&&◌, ◌||◌, List, [], ◌∷◌, map, get_or, Option, Some, None}
+use Rattle.std.specs.List.{list_all}
 use Rattle.ij_bits.specs.BitLists.{same_bit}
 use Rattle.net_graph.specs.declared.branch.Branch.{Branch}
 use Rattle.net_graph.specs.declared.net.Net.{Net}
@@ -9,14 +9,11 @@ use Rattle.net_graph.specs.declared.net.BitId.{BitId}
 use Rattle.net_graph.specs.SeenSteps.{SeenGroup}
 use Rattle.net_graph.specs.Signals.{Holds, hold_at}
 use Rattle.net_graph.specs.Held.{set_hold}
-use Rattle.net_graph.specs.Path.{active, row_of, rows_of}
+use Rattle.net_graph.specs.Path.{row_of, rows_of, route_of, is_in}
 use Rattle.net_tree.specs.Form.{Items}
 use Rattle.net_graph.specs.Groups.{registers_of}
 use Rattle.net_tree.specs.Needs.{needs}
 use Rattle.net_tree.specs.Lawful.{selects_of}
-
-abbrev pub is_on : List ℕ → ℕ → Bool
-is_on path r = list_any (λ x. x == r) path
 
 -- whether a value agrees with what is held at the select bits off the path; an x agrees with both
 abbrev pub agrees_off : Holds → List ℕ → List BitId → List Bool → List Bool → Bool
@@ -24,7 +21,7 @@ agrees_off holds path [] vs cs = true
 agrees_off holds path (b ∷ bs) [] cs = true
 agrees_off holds path (b ∷ bs) (v ∷ vs) [] = true
 agrees_off holds path (b ∷ bs) (v ∷ vs) (c ∷ cs) =
-    (is_on path b.reg || (not c || same_bit v (hold_at holds b))) && agrees_off holds path bs vs cs
+    (is_in path b.reg || (not c || same_bit v (hold_at holds b))) && agrees_off holds path bs vs cs
 
 -- the first value of a row that agrees
 abbrev pub first_value : Holds → List ℕ → List BitId → List Tern → Option Tern
@@ -37,7 +34,7 @@ abbrev pub set_selects : List ℕ → List BitId → List Bool → Holds → Hol
 set_selects path [] vs holds = holds
 set_selects path (b ∷ bs) [] holds = holds
 set_selects path (b ∷ bs) (v ∷ vs) holds =
-    set_selects path bs vs (elim (is_on path b.reg) [ true ↦ set_hold holds b v | false ↦ holds ])
+    set_selects path bs vs (elim (is_in path b.reg) [ true ↦ set_hold holds b v | false ↦ holds ])
 
 abbrev pub values_of : Net → Branch → List Tern
 values_of net b = get_or (map (λ row. row.values.items) (rows_of net b.mux)) b.row []
@@ -55,15 +52,12 @@ settle_rows net before path [] holds = holds
 settle_rows net before path (b ∷ bs) holds =
     settle_rows net before path bs (elim (is_in_row net before b) [ true ↦ holds | false ↦ settle_row net before path b holds ])
 
-abbrev pub path_or_none : Net → Holds → List ℕ
-path_or_none net holds = unwrap_or (active net holds) []
-
 -- each needed mux that isn't in its row takes the first value of that row that agrees off the path
 abbrev pub settle : Net → List Branch → Holds → Holds
-settle net bs holds = settle_rows net holds (path_or_none net holds) bs holds
+settle net bs holds = settle_rows net holds (route_of net holds) bs holds
 
 abbrev pub all_on : Net → List ℕ → Holds → Bool
-all_on net regs holds = list_all (is_on (path_or_none net holds)) regs
+all_on net regs holds = list_all (is_in (route_of net holds)) regs
 
 -- settlings, one after the other, until every named register is on the path
 abbrev pub IsOpening : Net → Items → SeenGroup → Holds → List Holds → Type 0

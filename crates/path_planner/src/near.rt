@@ -1,17 +1,17 @@
 // Where a register stands on a path.
 ghost use Rattle.std.specs.Prelude.{◌≡◌, true, is_some, IsTrue};
-ghost use Rattle.path_planner.specs.Settling as settling;
+ghost use Rattle.net_graph.specs.Path.{is_in};
 
 /// Whether a register stands at a place of a path.
 fn is_at(path: &[u32], i: usize, reg: u32) -> bool
-    ensures { IsTrue result → settling.is_on path.now reg ≡ true }
+    ensures { IsTrue result → is_in path.now reg ≡ true }
 {
     i < path.len() && path[i] == reg
 }
 
 /// Where a register stands on a path.
 fn place_on(path: &[u32], reg: u32) -> Option<usize>
-    ensures { is_some result ≡ settling.is_on path.now reg }
+    ensures { is_some result ≡ is_in path.now reg }
 {
     for i in 0..path.len() {
         if path[i] == reg {
@@ -23,7 +23,7 @@ fn place_on(path: &[u32], reg: u32) -> Option<usize>
 
 /// The same, looked for behind a place first, and in front of it.
 pub(crate) fn place_near(path: &[u32], last: usize, reg: u32) -> Option<usize>
-    ensures { is_some result ≡ settling.is_on path.now reg }
+    ensures { is_some result ≡ is_in path.now reg }
 {
     let behind = last.saturating_add(1);
     if is_at(path, behind, reg) {

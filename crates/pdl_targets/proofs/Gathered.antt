@@ -6,9 +6,9 @@ use Rattle.ij_bits.specs.Different.{AreDifferent}
 use Rattle.net_graph.specs.declared.net.BitId.{BitId}
 use Rattle.net_graph.specs.declared.step.WriteBit.{WriteBit}
 use Rattle.net_graph.specs.declared.step.ReadBit.{ReadBit}
-use Rattle.net_graph.specs.Path.{same_place}
+use Rattle.net_graph.specs.Path.{same_place, is_in}
 use Rattle.net_graph.proofs.Places.{place_self, place_is}
-use Rattle.pdl_targets.specs.Rounds.{is_in, mention, put_write, put_writes, put_read, put_reads}
+use Rattle.pdl_targets.specs.Rounds.{mention, put_write, put_writes, put_read, put_reads}
 use Rattle.pdl_targets.specs.Laws.{AreItsRegisters, AreOnce, AreReadOnce, written_at, read_at}
 use Rattle.pdl_targets.proofs.Apart.{all_nil, all_cons}
 use Rattle.pdl_targets.proofs.Mentioned.{mentions_are_once, each_is_mentioned, or_more}

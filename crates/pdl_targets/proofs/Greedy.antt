@@ -2,7 +2,8 @@
 use Rattle.std.proofs.Common.{◌≡◌, ◌⊎◌, inl, inr, ⊎_elim, ◌≤◌, ℕ, zero, suc, ◌==◌, Bool, true, false, cond, List, [], ◌∷◌, ◌++◌, length, refl, sym, ap, ◌∙◌, arith}
 use Rattle.std.specs.Prelude.{All, not, ◌||◌, filter}
 use Rattle.std.proofs.lemmas.Bool.{eqb-true, eq-eqb, or_left, or_right, or_parts}
-use Rattle.pdl_targets.specs.Rounds.{Places, clash, clashes, is_in, round, left_over, rounds_upto}
+use Rattle.net_graph.specs.Path.{is_in}
+use Rattle.pdl_targets.specs.Rounds.{Places, clash, clashes, round, left_over, rounds_upto}
 use Rattle.pdl_targets.specs.Laws.{times, AreEachOnce, IsInOrder, FirstRoundIsGreedy, RoundsGoOn, RoundsKeepTheOrder}
 use Rattle.pdl_targets.proofs.Apart.{all_nil, all_cons, fewer}
 

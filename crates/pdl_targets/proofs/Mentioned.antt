@@ -2,7 +2,7 @@
 use Rattle.std.proofs.Common.{◌≡◌, ◌≤◌, ◌+◌, ℕ, suc, Bool, true, false, cond, List, [], ◌∷◌, ◌++◌, refl, sym, ap, ◌∙◌, subst, arith}
 use Rattle.std.specs.Prelude.{◌==◌, ◌||◌}
 use Rattle.std.proofs.lemmas.Bool.{eqb-true}
-use Rattle.pdl_targets.specs.Rounds.{is_in}
+use Rattle.net_graph.specs.Path.{is_in}
 use Rattle.pdl_targets.specs.Laws.{times, MentionsAreOnce, EachIsMentioned}
 
 pub none_in : (rs : List ℕ) (r : ℕ) → is_in rs r ≡ false → times rs r ≡ 0

@@ -7,7 +7,8 @@ use Rattle.std.proofs.lemmas.List.Elements.{filter-append}
 use Rattle.net_graph.specs.declared.step.WriteBit.{WriteBit}
 use Rattle.net_graph.specs.declared.step.ReadBit.{ReadBit}
 use Rattle.net_graph.specs.SeenSteps.{SeenGroup}
-use Rattle.pdl_targets.specs.Rounds.{Places, is_in, rounds, part_on}
+use Rattle.net_graph.specs.Path.{is_in}
+use Rattle.pdl_targets.specs.Rounds.{Places, rounds, part_on}
 use Rattle.pdl_targets.specs.Laws.{times, times_in_all, AreEachOnce, IsPartOn, GroupsAreOfRounds, GroupsHaveEachWrite, GroupsHaveEachRead}
 use Rattle.pdl_targets.proofs.Apart.{are_the_queue}
 use Rattle.pdl_targets.proofs.Mentioned.{none_in}

@@ -7,8 +7,9 @@ use Rattle.net_graph.specs.declared.step.WriteBit.{WriteBit}
 use Rattle.net_graph.specs.declared.step.ReadBit.{ReadBit}
 use Rattle.net_graph.specs.declared.step.Group.{Group}
 use Rattle.net_graph.specs.SeenSteps.{SeenGroup, seen_group}
+use Rattle.net_graph.specs.Path.{is_in}
 use Rattle.pdl_targets.specs.Laws.{times, times_in_all}
-use Rattle.pdl_targets.specs.Rounds.{is_in, part_on}
+use Rattle.pdl_targets.specs.Rounds.{part_on}
 use Rattle.pdl_targets.specs.SeenRounds.{AreOnceInAll, IsRoundOf, TakesRead, TakesWrite, is_in_any, seen_groups, with_read, with_write}
 use Rattle.pdl_targets.proofs.Parted.{some_in}
 

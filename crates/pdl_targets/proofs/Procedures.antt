@@ -12,10 +12,11 @@ use Rattle.net_graph.specs.Nets.{IsNet}
 use Rattle.net_graph.specs.SeenSteps.{SeenGroup, SeenStep, Run}
 use Rattle.net_graph.specs.Signals.{capture_signal}
 use Rattle.net_graph.specs.Steps.{IsDataBit, IsReadable, IsGroup, IsStep}
+use Rattle.net_graph.specs.Path.{is_in}
 use Rattle.pdl_parser.specs.Values.{AValue, ANumber, AWord, AnArgument}
 use Rattle.pdl_expand.specs.Values.{ADeed, Writes, Reads, Applies, Runs, Resets, BeginsMerge, EndsBranch, EndsMerge, AStep}
 use Rattle.pdl_targets.specs.Targets.{AFault, Found, Is, Fails, write_bits, read_bits}
-use Rattle.pdl_targets.specs.Rounds.{Places, is_in, rounds, part_on, groups}
+use Rattle.pdl_targets.specs.Rounds.{Places, rounds, part_on, groups}
 use Rattle.pdl_targets.specs.Binding.{Queue, empty, Answer, Bound, with_step, applied, run_of, run, run_value, feed, bound_from, bound}
 use Rattle.pdl_targets.specs.Laws.{OfFound, rounds_of, DoesTheQueue, AppliesDoTheQueue, IsQueue, QueueBegins, QueueGoesOn, IsForOnePath, HasPaths, AppliesHavePaths, StepsAreOfTheNetwork}
 use Rattle.pdl_targets.proofs.Apart.{all_nil, all_cons}

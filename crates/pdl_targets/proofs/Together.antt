@@ -9,7 +9,8 @@ use Rattle.net_graph.specs.declared.step.WriteBit.{WriteBit}
 use Rattle.net_graph.specs.declared.step.ReadBit.{ReadBit}
 use Rattle.net_graph.specs.Groups.{IsEmpty, registers_of}
 use Rattle.net_graph.specs.SeenSteps.{SeenGroup}
-use Rattle.pdl_targets.specs.Rounds.{Places, exclude, clash, clashes, is_in, rounds, part_on}
+use Rattle.net_graph.specs.Path.{is_in}
+use Rattle.pdl_targets.specs.Rounds.{Places, exclude, clash, clashes, rounds, part_on}
 use Rattle.pdl_targets.specs.Laws.{AreApart, IsInOrder, AreItsRegisters, AreTogether, HaveOneRow, GroupsAreTogether, GroupsNeedOneRow, NoGroupIsEmpty}
 use Rattle.pdl_targets.proofs.Apart.{all_nil, all_cons, have_registers, are_apart}
 use Rattle.pdl_targets.proofs.Mentioned.{is_in_last}

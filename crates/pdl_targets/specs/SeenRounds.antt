@@ -6,8 +6,9 @@ use Rattle.net_graph.specs.declared.step.Group.{Group}
 use Rattle.net_graph.specs.declared.step.ReadBit.{ReadBit}
 use Rattle.net_graph.specs.declared.step.WriteBit.{WriteBit}
 use Rattle.net_graph.specs.SeenSteps.{SeenGroup, seen_group}
+use Rattle.net_graph.specs.Path.{is_in}
 use Rattle.pdl_targets.specs.Laws.{times_in_all}
-use Rattle.pdl_targets.specs.Rounds.{is_in, part_on}
+use Rattle.pdl_targets.specs.Rounds.{part_on}
 
 abbrev pub seen_rounds : List (Listed ℕ) → List (List ℕ)
 seen_rounds rounds = map (λ registers. registers.items) rounds

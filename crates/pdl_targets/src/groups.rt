@@ -1,8 +1,9 @@
 // The groups of an iApply, one for each round.
 ghost use Rattle.std.specs.Prelude.{◌≡◌, [], map, true, IfOk, OnOk};
 ghost use Rattle.net_graph.specs.SeenSteps.{seen_group};
+ghost use Rattle.net_graph.specs.Path.{is_in};
 ghost use Rattle.pdl_targets.specs.Laws.{AreEachOnce};
-ghost use Rattle.pdl_targets.specs.Rounds.{groups, is_in};
+ghost use Rattle.pdl_targets.specs.Rounds.{groups};
 ghost use Rattle.pdl_targets.specs.SeenPlaces.{places_in};
 ghost use Rattle.pdl_targets.specs.SeenRounds.{AreGroups, AreOnceInAll, IsRoundOf, TakesRead, TakesWrite, seen_groups, seen_rounds, with_read, with_write};
 

@@ -1,17 +1,16 @@
 // The names of the cells, in an index.
-ghost use Rattle.std.specs.Prelude.{◌≡◌, ◌<◌, ◌+◌, ◌^◌, ◌++◌, length, map, take, IfOk};
-ghost use Rattle.ij_text.specs.Numbering.{AreDistinct};
+ghost use Rattle.std.specs.Prelude.{◌≡◌, ◌++◌, length, map, take, IfOk};
 ghost use Rattle.net_graph.specs.Nets.{IsNet};
 ghost use Rattle.pdl_parser.specs.Views.{bytes_of};
-ghost use Rattle.pdl_expand.specs.Values.{cell_of};
-ghost use Rattle.pdl_expand.specs.Expansion.{dotted, dotted_paths};
+ghost use Rattle.pdl_expand.specs.Expansion.{dotted};
 ghost use Rattle.pdl_targets.specs.Index.{IsIndex};
 
 use crate::captors::{Captors, captors_of};
 use bit_marks::{BitMarks, selects_of};
 use ij_bits::{List, OutOfMemory};
 use ij_text::{Name, Names, with_dotted};
-use net_graph::{Net, Node, Thing};
+use net_graph::{Net, Thing};
+use pdl_expand::dotted_paths;
 use std::alloc::Global;
 
 /// What is looked up in a network for each step.
@@ -36,20 +35,6 @@ pub(crate) fn put_names(text: Name, names: &[Name]) -> Result<Name, OutOfMemory>
         text = with_dotted(text, name.as_slice())?;
     }
     Ok(text)
-}
-
-/// The dotted paths of cells, none of which stands twice.
-fn dotted_paths(alloc: Global, nodes: &[Node]) -> Result<Names, OutOfMemory>
-    requires distinct { AreDistinct (dotted_paths (map cell_of nodes.now)) }
-    requires few { length nodes.now < 2 ^ 32 }
-    ensures { IfOk result (λ names. names ≡ dotted_paths (map cell_of nodes.now)) }
-{
-    let mut names = Names::new(alloc);
-    for node in nodes {
-        let text = put_names(List::new(alloc), node.path.as_slice())?;
-        names.intern(&text)?;
-    }
-    Ok(names)
 }
 
 /// What a thing is looked up by: its name and the cell that it stands in.

@@ -1,8 +1,9 @@
 // The queue of writes and reads up to the next iApply.
 ghost use Rattle.std.specs.Prelude.{◌≡◌, ◌<◌, ◌≤◌, ◌+◌, ◌^◌, [], ◌∷◌, length, map, All};
 ghost use Rattle.net_graph.specs.Named.{IsBitOf};
+ghost use Rattle.net_graph.specs.Path.{is_in};
 ghost use Rattle.pdl_targets.specs.Marked.{AreNumbered, bits_compared, bits_written, first_bits};
-ghost use Rattle.pdl_targets.specs.Rounds.{is_in, mention, put_read, put_reads, put_write, put_writes};
+ghost use Rattle.pdl_targets.specs.Rounds.{mention, put_read, put_reads, put_write, put_writes};
 
 use bit_marks::{BitMarks, is_in, mark_next, read_at, written_at};
 use ij_bits::List;

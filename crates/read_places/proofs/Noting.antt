@@ -7,19 +7,18 @@ use Rattle.net_graph.specs.declared.net.Net.{Net}
 use Rattle.net_graph.specs.declared.step.ReadBit.{ReadBit}
 use Rattle.net_graph.specs.Chain.{position}
 use Rattle.net_graph.specs.Held.{AreHolds}
-use Rattle.net_graph.specs.Path.{active, path as scan_path}
+use Rattle.net_graph.specs.Path.{active, path as scan_path, route_of}
 use Rattle.net_graph.specs.Resets.{zero_holds}
 use Rattle.net_graph.specs.Signals.{Holds, bits_at}
 use Rattle.net_graph.proofs.Tracing.{map_some}
 use Rattle.net_graph.proofs.Shapes.{length_at}
-use Rattle.path_planner.specs.Settling.{path_or_none}
 use Rattle.scan_packer.proofs.Filling.{zero_bits}
 use Rattle.read_places.specs.Noting.{place_on}
 use Rattle.read_places.specs.Places.{place_in, scan_places}
 use Rattle.read_places.specs.declared.place.ReadPlace.{ReadPlace}
 
 -- the route of a walk, turned round, is the active path
-pub turned : (net : Net) (holds : Holds) (route : List ℕ) → scan_path net holds ≡ Some route → path_or_none net holds ≡ reverse route
+pub turned : (net : Net) (holds : Holds) (route : List ℕ) → scan_path net holds ≡ Some route → route_of net holds ≡ reverse route
 turned net holds route e =
     let (x, f, g) = map_some reverse (active net holds) route e in
     ap (λ (o : Option (List ℕ)). unwrap_or o []) f ∙ sym (reverse-reverse x) ∙ ap reverse g

@@ -16,11 +16,10 @@ use Rattle.net_graph.specs.Resets.{start_holds}
 use Rattle.net_graph.specs.SeenSteps.{SeenStep, Apply, Run, Reset}
 use Rattle.net_graph.specs.Signals.{Holds}
 use Rattle.net_tree.specs.Form.{Items}
-use Rattle.pdl_targets.specs.Laws.{rounds_in}
+use Rattle.pdl_targets.specs.Laws.{rounds_in, round_count}
 use Rattle.group_scans.specs.Retargeting.{PlannedStep, seen_of, holds_after_step}
 use Rattle.group_scans.proofs.StepKinds.{no_head}
 use Rattle.retargeter.specs.Plans.{AreStepsOf}
-use Rattle.retargeter.specs.Writing.{round_count}
 use Rattle.read_places.specs.Noting.{NotesStep, ScansStep, HoldsStep}
 use Rattle.read_places.specs.Places.{places, read_at, step_places, steps_places, scans_after_step}
 use Rattle.read_places.specs.Reaching.{CanGoOn, IsCursor, Stands, StandsOn}

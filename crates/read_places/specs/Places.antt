@@ -8,14 +8,14 @@ use Rattle.net_graph.specs.Resets.{start_holds}
 use Rattle.net_graph.specs.SeenSteps.{SeenGroup}
 use Rattle.net_graph.specs.Signals.{Holds}
 use Rattle.net_graph.specs.Writes.{write_all}
-use Rattle.path_planner.specs.Settling.{path_or_none}
+use Rattle.net_graph.specs.Path.{route_of}
 use Rattle.group_scans.specs.Retargeting.{PlannedGroup, PlannedStep, Applies, Runs, Resets, holds_after_step}
 use Rattle.group_scans.specs.Scans.{holds_after}
 use Rattle.read_places.specs.declared.place.ReadPlace.{ReadPlace}
 
 -- where a read stands in a scan: at its bit's position on the active path that the scan goes through
 abbrev pub place_in : Net → Holds → ℕ → ReadBit → ReadPlace
-place_in net holds scan r = record { scan = scan; bit = position (path_or_none net holds) holds r.bit; read = r }
+place_in net holds scan r = record { scan = scan; bit = position (route_of net holds) holds r.bit; read = r }
 
 abbrev pub scan_places : Net → Holds → ℕ → List ReadBit → List ReadPlace
 scan_places net holds scan reads = map (place_in net holds scan) reads

@@ -1,5 +1,6 @@
 // How far the reads of a procedure are noted.
 ghost use Rattle.std.specs.Prelude.{◌≡◌, ◌⊎◌, ◌+◌, ◌*◌, ◌<◌, ◌≤◌, ◌^◌, [], None, MatchOption, length, map, IfOk, OnOk, true, false};
+ghost use Rattle.pdl_targets.specs.Laws.{round_count};
 ghost use Rattle.bit_steps.specs.BitSteps.{bit_steps, given_first_bit, nothing_left};
 ghost use Rattle.ij_text.specs.Numbering.{AreDistinct};
 ghost use Rattle.net_graph.specs.SeenSteps.{seen_step};
@@ -9,7 +10,6 @@ ghost use Rattle.pdl_parser.specs.Grammar.{full_names};
 ghost use Rattle.pdl_parser.specs.Views.{seen_proc};
 ghost use Rattle.group_scans.specs.Retargeting.{IsRetargetable};
 ghost use Rattle.group_scans.specs.Rounds.{StepIsPlannable};
-ghost use Rattle.retargeter.specs.Writing.{round_count};
 ghost use Rattle.read_places.specs.Noting.{NotesStep, ScansStep, HoldsStep};
 ghost use Rattle.read_places.specs.Places.{read_at};
 ghost use Rattle.read_places.specs.Procedure.{CanRetarget};

@@ -1,5 +1,6 @@
 // The reads of plans, of a group, of the rounds of an iApply and of a bit step.
 ghost use Rattle.std.specs.Prelude.{◌≡◌, ◌++◌, ◌+◌, ◌*◌, ◌<◌, ◌≤◌, ◌^◌, All, length, map, OnOk, IfOk};
+ghost use Rattle.pdl_targets.specs.Laws.{round_count};
 ghost use Rattle.net_graph.specs.Nets.{IsNet};
 ghost use Rattle.net_graph.specs.SeenSteps.{seen_group, seen_step};
 ghost use Rattle.net_tree.specs.Form.{Describes};
@@ -11,7 +12,7 @@ ghost use Rattle.group_scans.specs.Retargeting.{IsRetargetable};
 ghost use Rattle.group_scans.specs.Rounds.{IsPlannable, StepIsPlannable};
 ghost use Rattle.group_scans.specs.Scans.{holds_after};
 ghost use Rattle.retargeter.specs.Scanning.{CanScanAll};
-ghost use Rattle.retargeter.specs.Writing.{IsAfterGroup, round_count};
+ghost use Rattle.retargeter.specs.Writing.{IsAfterGroup};
 ghost use Rattle.read_places.specs.Places.{plans_places, scan_places};
 ghost use Rattle.read_places.specs.Noting.{NotesGroup, ScansGroup, NotesRounds, ScansRounds, HoldsRounds, NotesStep, ScansStep, HoldsStep};
 

@@ -5,14 +5,13 @@ use Rattle.std.proofs.lemmas.List.{reverse-reverse}
 use Rattle.net_graph.specs.Chain.{chain}
 use Rattle.net_graph.specs.declared.net.Net.{Net}
 use Rattle.net_graph.specs.declared.step.ReadBit.{ReadBit}
-use Rattle.net_graph.specs.Path.{active, path as scan_path}
+use Rattle.net_graph.specs.Path.{active, path as scan_path, route_of}
 use Rattle.net_graph.specs.SeenSteps.{SeenGroup}
 use Rattle.net_graph.specs.Signals.{Holds}
 use Rattle.net_graph.specs.Writes.{write_all}
 use Rattle.net_graph.proofs.Shapes.{length-chain_same}
 use Rattle.net_graph.proofs.Tracing.{map_some}
 use Rattle.net_graph.proofs.Writing.{write_all-shape}
-use Rattle.path_planner.specs.Settling.{path_or_none}
 use Rattle.scan_packer.specs.Packed.{tdi_bits, tdo_bits, mask_bits}
 use Rattle.tap_machine.specs.Play.{is_empty}
 use Rattle.group_scans.specs.Scans.{scan_of}
@@ -24,7 +23,7 @@ some_read (r ∷ rs) n = refl
 
 module _ (net : Net) (holds : Holds) (route : List ℕ) (e : scan_path net holds ≡ Some route) where
   -- the route of a walk, turned round, is the active path
-  turned : path_or_none net holds ≡ reverse route
+  turned : route_of net holds ≡ reverse route
   turned =
       let (x, f, g) = map_some reverse (active net holds) route e in
       ap (λ (o : Option (List ℕ)). unwrap_or o []) f ∙ sym (reverse-reverse x) ∙ ap reverse g
@@ -33,7 +32,7 @@ module _ (net : Net) (holds : Holds) (route : List ℕ) (e : scan_path net holds
   as_long plan = length-chain_same (reverse route) (write_all holds plan.writes) holds (write_all-shape plan.writes holds)
 
   module _ (plan : SeenGroup) (tdi : List Bool) (t : tdi ≡ tdi_bits holds (reverse route) plan) where
-    pub quiet : (rs : List ReadBit) → rs ≡ plan.reads → rs ≡ [] → quiet_scan tdi ≡ scan_of net holds (path_or_none net holds) plan
+    pub quiet : (rs : List ReadBit) → rs ≡ plan.reads → rs ≡ [] → quiet_scan tdi ≡ scan_of net holds (route_of net holds) plan
     quiet rs r n =
         let empty : is_empty plan.reads ≡ true = ap is_empty (sym r ∙ n) in
         ap quiet_scan t
@@ -41,7 +40,7 @@ module _ (net : Net) (holds : Holds) (route : List ℕ) (e : scan_path net holds
         ∙ ap (λ (b : Bool). record (quiet_scan (tdi_bits holds (reverse route) plan)) { len = length (chain (reverse route) holds); tdo = cond b None (Some (tdo_bits net (reverse route) plan)); mask = cond b None (Some (mask_bits net (reverse route) plan)) }) (sym empty)
         ∙ ap (λ p. scan_of net holds p plan) (sym turned)
 
-    pub comparing : (tdo mask : List Bool) (rs : List ReadBit) → tdo ≡ tdo_bits net (reverse route) plan → mask ≡ mask_bits net (reverse route) plan → rs ≡ plan.reads → ¬ (rs ≡ []) → comparing_scan tdi tdo mask ≡ scan_of net holds (path_or_none net holds) plan
+    pub comparing : (tdo mask : List Bool) (rs : List ReadBit) → tdo ≡ tdo_bits net (reverse route) plan → mask ≡ mask_bits net (reverse route) plan → rs ≡ plan.reads → ¬ (rs ≡ []) → comparing_scan tdi tdo mask ≡ scan_of net holds (route_of net holds) plan
     comparing tdo mask rs d m r n =
         let some : is_empty plan.reads ≡ false = some_read plan.reads (λ z. n (r ∙ z)) in
         ap (λ x. comparing_scan x tdo mask) t

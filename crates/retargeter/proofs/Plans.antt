@@ -8,10 +8,10 @@ use Rattle.ij_io.proofs.Fronts.{AddsFront, front_start, front_next, front_part, 
 use Rattle.net_graph.specs.declared.net.Net.{Net}
 use Rattle.net_graph.specs.Signals.{Holds}
 use Rattle.net_graph.specs.Writes.{write_all}
+use Rattle.net_graph.specs.Path.{route_of}
 use Rattle.net_tree.specs.declared.plan.ScanPlan.{ScanPlan}
 use Rattle.net_tree.specs.ScanPlans.{seen_plan}
 use Rattle.path_planner.specs.Scannable.{IsScannable}
-use Rattle.path_planner.specs.Settling.{path_or_none}
 use Rattle.scan_packer.specs.Packing.{CanScan}
 use Rattle.svf_writer.specs.SeenCommands.{SDR}
 use Rattle.svf_writer.specs.Written.{text_of, texts_of}
@@ -24,7 +24,7 @@ text net holds ps = texts_of (map SDR (scans_of net holds (map seen_plan ps)))
 
 -- the text of one of them
 abbrev pub scan_text : Net → Holds → ScanPlan → List ℕ
-scan_text net holds p = text_of (SDR (scan_of net holds (path_or_none net holds) (seen_plan p)))
+scan_text net holds p = text_of (SDR (scan_of net holds (route_of net holds) (seen_plan p)))
 
 pub record Goes (net : Net) (first : Holds) (ps : List ScanPlan) (old : Option (List ℕ)) (i : ℕ) (now : Holds) (new : Option (List ℕ)) : Type 0 where
   pub front : AddsFront old new (text net now (drop i ps)) (text net first ps)

@@ -1,9 +1,9 @@
 -- What is written of a group, of the rounds of an iApply, and of a bit step: the text of their plans, whatever plans were
 -- found. There are plans, and all have one text.
-use Rattle.std.specs.Prelude.{◌≡◌, ◌==◌, cond, ℕ, List, ◌++◌, length, map, Option}
+use Rattle.std.specs.Prelude.{◌≡◌, ◌==◌, cond, ℕ, List, ◌++◌, map, Option}
 use Rattle.ij_io.specs.Bytes.{Adds, AddsPart}
 use Rattle.net_graph.specs.declared.net.Net.{Net}
-use Rattle.net_graph.specs.SeenSteps.{SeenGroup, SeenStep, Apply, Run, Reset}
+use Rattle.net_graph.specs.SeenSteps.{SeenGroup, SeenStep}
 use Rattle.net_graph.specs.Signals.{Holds}
 use Rattle.net_tree.specs.Form.{Items}
 use Rattle.svf_writer.specs.SeenCommands.{SDR}
@@ -71,9 +71,3 @@ module _ (s : Session) (step : SeenStep) where
   abbrev pub IsAfterStep : Session → Type 0
   IsAfterStep after =
       (x : PlannedStep) → IsPlanOf s.net s.form s.holds step x → after ≡ record s { holds = holds_after_step s.net s.holds x; applies = applies_after s.applies (scanned_of s.net s.holds x) }
-
--- how many rounds a bit step has
-abbrev pub round_count : SeenStep → ℕ
-round_count (Apply rounds) = length rounds
-round_count (Run n) = 0
-round_count Reset = 0

@@ -1,5 +1,6 @@
 // The SVF of bit steps, one after the other.
 ghost use Rattle.std.specs.Prelude.{◌≡◌, ◌+◌, ◌<◌, ◌≤◌, ◌^◌, length, map, All, IfOk, OnOk, OnErr};
+ghost use Rattle.pdl_targets.specs.Laws.{round_count};
 ghost use Rattle.ij_io.specs.Bytes.{Adds, AddsPart};
 ghost use Rattle.ij_io.specs.Causes.{HasCause};
 ghost use Rattle.net_graph.specs.Devices.{IsDevice};
@@ -9,7 +10,7 @@ ghost use Rattle.svf_writer.specs.SeenCommands.{Run as RunTest};
 ghost use Rattle.svf_writer.specs.Written.{text_of};
 ghost use Rattle.group_scans.specs.Rounds.{IsPlannable, StepIsPlannable};
 ghost use Rattle.group_scans.specs.Retargeting.{IsRetargetable};
-ghost use Rattle.retargeter.specs.Writing.{HasPlan, WritesStep, WritesStepPart, IsAfterStep, round_count};
+ghost use Rattle.retargeter.specs.Writing.{HasPlan, WritesStep, WritesStepPart, IsAfterStep};
 
 use crate::buffers::Buffers;
 use crate::rounds::put_rounds;

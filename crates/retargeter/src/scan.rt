@@ -3,10 +3,10 @@ ghost use Rattle.std.specs.Prelude.{OnOk, OnErr};
 ghost use Rattle.ij_io.specs.Bytes.{Adds, AddsPart};
 ghost use Rattle.ij_io.specs.Causes.{HasCause};
 ghost use Rattle.net_graph.specs.Nets.{IsNet};
+ghost use Rattle.net_graph.specs.Path.{route_of};
 ghost use Rattle.net_tree.specs.Form.{Describes};
 ghost use Rattle.net_tree.specs.ScanPlans.{seen_plan};
 ghost use Rattle.path_planner.specs.Scannable.{IsScannable};
-ghost use Rattle.path_planner.specs.Settling.{path_or_none};
 ghost use Rattle.scan_packer.specs.Packing.{CanScan};
 ghost use Rattle.svf_writer.specs.SeenCommands.{SDR};
 ghost use Rattle.svf_writer.specs.Written.{text_of};
@@ -69,8 +69,8 @@ pub(crate) fn put_plan<K: Sink>(
     requires scannable { IsScannable net.now holds.now }
     requires plan { CanScan net.now holds.now (seen_plan plan.now) }
     requires room { HasScanRoom net.now buffers.old }
-    ensures whole { OnOk result (Adds (K.taken k.old) (K.taken k.new) (text_of (SDR (scan_of net.now holds.now (path_or_none net.now holds.now) (seen_plan plan.now))))) }
-    ensures part { OnErr result (AddsPart (K.taken k.old) (K.taken k.new) (text_of (SDR (scan_of net.now holds.now (path_or_none net.now holds.now) (seen_plan plan.now))))) }
+    ensures whole { OnOk result (Adds (K.taken k.old) (K.taken k.new) (text_of (SDR (scan_of net.now holds.now (route_of net.now holds.now) (seen_plan plan.now))))) }
+    ensures part { OnErr result (AddsPart (K.taken k.old) (K.taken k.new) (text_of (SDR (scan_of net.now holds.now (route_of net.now holds.now) (seen_plan plan.now))))) }
     ensures cause { HasCause (K.faults k.old) (K.faults k.new) result StoreFault.Failed }
     ensures room { HasScanRoom net.now buffers.new }
 {

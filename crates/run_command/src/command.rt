@@ -6,7 +6,6 @@ ghost use Rattle.ij_io.specs.Files.{file_at, OthersStay};
 ghost use Rattle.bit_steps.specs.BitSteps.{bit_steps};
 ghost use Rattle.pdl_parser.specs.Views.{seen_procs};
 ghost use Rattle.read_places.specs.Procedure.{CanRetarget};
-ghost use Rattle.run_law.specs.Laws.{RunsDifferAlike};
 ghost use Rattle.tap_machine.specs.declared.Stable.TheVariants.{Reset as InReset};
 ghost use Rattle.tap_machine.specs.Play.{pins, scans_in};
 ghost use Rattle.ijtag_work.specs.Command.{Runs, direct_loads, run_procedure, names_of};
@@ -25,7 +24,7 @@ use group_scans::procedures_are_plannable;
 use ij_bits::OutOfMemory;
 use ij_io::{Shelf, Sink, StoreFault};
 use ijtag_work::{DirectWords, RunWords, Runnable, Stop, Verdict, load_all, write_file};
-use run_law::runs_are_meant;
+use run_law::runs_differ_alike;
 use run_report::put_run;
 use std::alloc::Global;
 use svf_writer::Commands;
@@ -97,13 +96,6 @@ fn put_report<O: Sink>(
     let verdict = put_lines(alloc, it, procedure, commands, out)?;
     out.flush()?;
     Ok(verdict)
-}
-
-/// A run and the direct meaning of its procedure differ together.
-fn runs_differ_alike()
-    ensures { RunsDifferAlike }
-{
-    runs_are_meant();
 }
 
 /// Writes the SVF file of an accepted procedure, and then plays the commands of its text and prints the report.

@@ -15,12 +15,12 @@ use Rattle.net_graph.specs.Writes.{write_all}
 use Rattle.net_graph.proofs.Placing.{not_contained}
 use Rattle.net_graph.proofs.Shapes.{shape, widths}
 use Rattle.net_graph.proofs.Steps.{DifferOn, put_chain-to}
+use Rattle.net_graph.specs.Path.{route_of}
 use Rattle.net_tree.specs.Form.{Items}
 use Rattle.path_planner.specs.Least.{ScanStep}
 use Rattle.path_planner.specs.Opening.{CanOpen}
 use Rattle.path_planner.specs.Plans.{ArePlans, Settles}
 use Rattle.path_planner.specs.Scannable.{IsScannable}
-use Rattle.path_planner.specs.Settling.{path_or_none}
 use Rattle.path_planner.proofs.Plans.{at, planned}
 use Rattle.path_planner.proofs.Starting.{start_scannable, reset_scannable}
 use Rattle.instruments.specs.Machine.{Log, Machine}
@@ -73,11 +73,11 @@ module _ {L : Type 0} (log : Log L) (net : Net) (form : Items) (device : Device)
   Agree s d = Together log net device machines n u s d
 
   -- what an opening scan leaves is what its plan writes
-  opened_is : (h next : Holds) (p : SeenGroup) (x : SeenScan) → shape h ≡ widths net → IsOpening net h next x → x.tdi ≡ Some (chain (path_or_none net h) (write_all h p.writes)) → ScanStep net h (write_all h p.writes) → next ≡ write_all h p.writes
+  opened_is : (h next : Holds) (p : SeenGroup) (x : SeenScan) → shape h ≡ widths net → IsOpening net h next x → x.tdi ≡ Some (chain (route_of net h) (write_all h p.writes)) → ScanStep net h (write_all h p.writes) → next ≡ write_all h p.writes
   opened_is h next p x e o tdi step =
       let after = write_all h p.writes in
       let path = o.scans.path in
-      let traced : path_or_none net h ≡ path = ap (λ q. unwrap_or q []) o.scans.traced in
+      let traced : route_of net h ≡ path = ap (λ q. unwrap_or q []) o.scans.traced in
       let stepped : step.path ≡ path = ap (λ q. unwrap_or q []) (sym step.traced ∙ o.scans.traced) in
       let long : length net.regs.items ≡ length h = sym (length-map net.regs.items (λ reg. reg.width)) ∙ ap length (sym e) ∙ length-map h length in
       let route : IsRoute (length h) path = subst (λ k. IsRoute k path) long (n.routes h path o.scans.traced) in
@@ -99,9 +99,9 @@ module _ {L : Type 0} (log : Log L) (net : Net) (form : Items) (device : Device)
       ap (λ cs. read_compare k path h (finds chip d r) ∷ cs) (compares_are k path h d rs)
 
   -- the last scan of a group
-  last_added : (k : ℕ) (h : Holds) (d : Direct L) (g : SeenGroup) → AreAdded (map (λ r. read_compare k (path_or_none net h) h (finds chip d r)) g.reads) (scan_places net h k g.reads) d.reads (means_round chip d (record { group = g; scans = [] })).reads
+  last_added : (k : ℕ) (h : Holds) (d : Direct L) (g : SeenGroup) → AreAdded (map (λ r. read_compare k (route_of net h) h (finds chip d r)) g.reads) (scan_places net h k g.reads) d.reads (means_round chip d (record { group = g; scans = [] })).reads
   last_added k h d g =
-      record { new = map (finds chip d) g.reads; reads = refl; in_order = reads_at k (path_or_none net h) h d g.reads; compares = compares_are k (path_or_none net h) h d g.reads }
+      record { new = map (finds chip d) g.reads; reads = refl; in_order = reads_at k (route_of net h) h d g.reads; compares = compares_are k (route_of net h) h d g.reads }
 
   abbrev done : Direct L → SeenGroup → Direct L
   done d g = means_round chip d (record { group = g; scans = [] })
@@ -112,14 +112,14 @@ module _ {L : Type 0} (log : Log L) (net : Net) (form : Items) (device : Device)
       let one : suc scans ≡ scans + 1 = omega arith in
       let is : scan_places net h (scans + 1) g.reads ≡ plans_places net h scans (p ∷ []) = ap (λ k. scan_places net h k g.reads) (sym one) ∙ ap (λ (q : SeenGroup). scan_places net h (suc scans) q.reads) (sym a.1) ∙ sym (append-nil (scan_places net h (suc scans) p.reads)) in
       let here = last_added (scans + 1) h d g in
-      let there = subst (λ ps. AreAdded (map (λ r. read_compare (scans + 1) (path_or_none net h) h (finds chip d r)) g.reads) ps d.reads (done d g).reads) is here in
-      subst (λ z. AreAdded (map (λ r. read_compare (scans + 1) (path_or_none net z) z (finds chip d r)) g.reads) (plans_places net h scans (p ∷ [])) d.reads (done d g).reads) (sym e) there
+      let there = subst (λ ps. AreAdded (map (λ r. read_compare (scans + 1) (route_of net h) h (finds chip d r)) g.reads) ps d.reads (done d g).reads) is here in
+      subst (λ z. AreAdded (map (λ r. read_compare (scans + 1) (route_of net z) z (finds chip d r)) g.reads) (plans_places net h scans (p ∷ [])) d.reads (done d g).reads) (sym e) there
   group_added g named (p ∷ (q ∷ ps)) h scans s d t e can a =
       let plans = p ∷ (q ∷ ps) in
       let after = holds_after h plans in
       let next = write_all h p.writes in
-      let x = scan_of net h (path_or_none net h) p in
-      let y = scan_of net next (path_or_none net next) q in
+      let x = scan_of net h (route_of net h) p in
+      let y = scan_of net next (route_of net next) q in
       let ys = scans_of net (write_all next q.writes) ps in
       let all = planned net form g h plans can a in
       let (opened, o, rest) = (plans_do_groups net form g h plans can named a).planned.scans in

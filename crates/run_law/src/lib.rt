@@ -31,3 +31,10 @@ pub fn runs_are_meant()
     planned_steps_law();
     places_are_one();
 }
+
+/// A run and the direct meaning of its procedure differ together: the clause `alike` of [`runs_are_meant`] alone.
+pub fn runs_differ_alike()
+    ensures { RunsDifferAlike }
+{
+    runs_are_meant();
+}

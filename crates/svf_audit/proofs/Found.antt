@@ -8,13 +8,13 @@ use Rattle.net_graph.specs.declared.net.BitId.{BitId}
 use Rattle.net_graph.specs.Chain.{IsRoute, chain, put_chain}
 use Rattle.net_graph.specs.Held.{set_hold, AreHolds, IsHeld}
 use Rattle.net_graph.specs.Named.{IsBitOf}
-use Rattle.net_graph.specs.Path.{is_select, same_place}
+use Rattle.net_graph.specs.Path.{is_select, same_place, route_of}
 use Rattle.net_graph.specs.Signals.{Holds, hold_at}
 use Rattle.net_graph.proofs.Chains.{chain-put_chain}
 use Rattle.net_graph.proofs.Selecting.{is_held}
 use Rattle.net_graph.proofs.Shapes.{put_chain-shape}
 use Rattle.net_graph.proofs.Widths.{chain_fits}
-use Rattle.svf_audit.specs.Audit.{bits_on, has_row, path_of}
+use Rattle.svf_audit.specs.Audit.{bits_on, has_row}
 use Rattle.svf_audit.specs.Registers.{differing, differs, path_in, to_move, AreFound, AreRegisters, AreShifted, IsTurned}
 use Rattle.svf_audit.specs.declared.registers.Registers.{Registers}
 use Rattle.svf_audit.proofs.Moving.{bits_kept, moved_is, select_stays, stays, OthersSame}
@@ -101,15 +101,15 @@ select_stay r s e =
 pub rows_stay : (r : Registers) → AreShifted r → list_any (is_select r.net.now) r.moved.items ≡ false → list_all (has_row r.holds) r.net.now.muxes.items ≡ list_all (has_row r.after) r.net.now.muxes.items
 rows_stay r s e = rows_same r.net.now r.holds r.after (select_stay r s e)
 
-pub path_stays : (r : Registers) → AreShifted r → list_any (is_select r.net.now) r.moved.items ≡ false → path_in r ≡ path_of r.net.now r.after
+pub path_stays : (r : Registers) → AreShifted r → list_any (is_select r.net.now) r.moved.items ≡ false → path_in r ≡ route_of r.net.now r.after
 path_stays r s e = path_same r.net.now r.holds r.after (select_stay r s e)
 
 -- what was found is what is active behind the update
 pub ready_then : (r : Registers) (now : Holds) → AreRegisters r → AreFound r → AreShifted r → list_any (is_select r.net.now) r.moved.items ≡ false → now ≡ r.after
-    → (r.path.items ≡ path_of r.net.now now) × (r.bits.items ≡ bits_on now (path_of r.net.now now)) × (r.chain.items ≡ chain (path_of r.net.now now) now)
+    → (r.path.items ≡ route_of r.net.now now) × (r.bits.items ≡ bits_on now (route_of r.net.now now)) × (r.chain.items ≡ chain (route_of r.net.now now) now)
 ready_then r now k f s e is =
     let stays = path_stays r s e in
-    let there : path_in r ≡ path_of r.net.now now = stays ∙ ap (path_of r.net.now) (sym is) in (
+    let there : path_in r ≡ route_of r.net.now now = stays ∙ ap (route_of r.net.now) (sym is) in (
       f.path ∙ there,
       f.bits
           ∙ bits_kept r.holds r.after (path_in r) r.chain.items s.after s.fits

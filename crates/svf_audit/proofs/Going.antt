@@ -10,12 +10,13 @@ use Rattle.net_graph.specs.declared.net.Net.{Net}
 use Rattle.net_graph.specs.Chain.{chain, put_chain}
 use Rattle.net_graph.specs.SeenSteps.{SeenGroup}
 use Rattle.net_graph.specs.Signals.{Holds}
+use Rattle.net_graph.specs.Path.{route_of}
 use Rattle.svf_writer.specs.SeenCommands.{SeenScan}
 use Rattle.tap_machine.specs.declared.Stable.TheVariants.{Idle as InIdle}
 use Rattle.tap_machine.specs.Play.{LastScan, after_scan, expected, is_empty, played}
 use Rattle.svf_audit.specs.declared.answer.Cause.TheVariants.{Length, Compare, Select, Step, Write, Read, Run, Reset}
 use Rattle.svf_audit.specs.declared.kept.Kept.{Kept}
-use Rattle.svf_audit.specs.Audit.{Reading, State, changed, compares, do_group, does_reads, does_writes, has_row, load, need, need_some, note, pass, path_of, reset, scan, scanned, was_reset}
+use Rattle.svf_audit.specs.Audit.{Reading, State, changed, compares, do_group, does_reads, does_writes, has_row, load, need, need_some, note, pass, reset, scan, scanned, was_reset}
 use Rattle.svf_audit.specs.Auditing.{act, ok}
 use Rattle.svf_audit.specs.Kept.{looked_for, seen_kept, seen_tdi}
 use Rattle.svf_audit.specs.Work.{Work, Group, Cycle, Reset as ResetWork, due, group_first, behind_cycles, behind_reset}
@@ -67,7 +68,7 @@ module _ (net : Net) (device : Device) (a : State) (x : SeenScan) where
   -- ---- a data scan of the network
 
   abbrev path : List ℕ
-  path = path_of net a.holds
+  path = route_of net a.holds
 
   abbrev after : Holds
   after = put_chain path (played a.dr x).tdi a.holds
@@ -90,7 +91,7 @@ module _ (net : Net) (device : Device) (a : State) (x : SeenScan) where
 
 module _ (net : Net) (device : Device) (a : State) (x : SeenScan) (now : Holds) where
   abbrev way : List ℕ
-  way = path_of net a.holds
+  way = route_of net a.holds
 
   pub group_goes : (g : SeenGroup) (ws : List Work) → group_first (due a.holds a.left) ≡ Some (g, ws) → do_group net device a x now ≡ need (does_writes g (changed net way a.holds now) now) Write (need (does_reads g way a.holds (played a.dr x).expects) Read (ok (scanned net device a x now (note a g) ws)))
   group_goes g ws e =

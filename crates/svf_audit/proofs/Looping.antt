@@ -1,5 +1,5 @@
 -- An audit goes through its commands one by one.
-use Rattle.std.proofs.Common.{◌≡◌, ℕ, ◌+◌, ◌<◌, List, [], ◌∷◌, length, drop, Option, sym, ap, ◌∙◌, subst, arith}
+use Rattle.std.proofs.Common.{◌≡◌, ℕ, ◌+◌, ◌<◌, List, [], ◌∷◌, length, drop, Option, sym, ap, ◌∙◌, subst}
 use Rattle.std.specs.Prelude.{get_or, Ok, Err}
 use Rattle.std.proofs.lemmas.List.{drop_more}
 use Rattle.net_graph.specs.declared.device.Device.{Device}
@@ -22,13 +22,6 @@ fits_next (SDR x) ir dr cs f = f
 fits_next Reset ir dr cs f = (tt, f)
 fits_next Idle ir dr cs f = (tt, f)
 fits_next (Run k) ir dr cs f = (tt, f)
-
-pub scans_first : (c : SeenCommand) (cs : List SeenCommand) → scans_in (c ∷ cs) ≡ scans_in (c ∷ []) + scans_in cs
-scans_first (SIR x) cs = omega arith
-scans_first (SDR x) cs = omega arith
-scans_first Reset cs = omega arith
-scans_first Idle cs = omega arith
-scans_first (Run k) cs = omega arith
 
 pub command_here : (cs : List SeenCommand) (i : ℕ) (c : SeenCommand) → i < length cs → c ≡ get_or cs i c → drop i cs ≡ c ∷ drop (i + 1) cs
 command_here cs i c l e = drop_more cs i c l ∙ ap (λ y. y ∷ drop (i + 1) cs) (sym e)

@@ -8,7 +8,7 @@ use Rattle.net_graph.specs.Chain.{IsRoute, chain}
 use Rattle.net_graph.specs.Held.{AreHolds}
 use Rattle.net_graph.specs.Named.{bits_from, width_of, IsBitOf}
 use Rattle.net_graph.specs.Nets.{IsNet}
-use Rattle.net_graph.specs.Path.{active}
+use Rattle.net_graph.specs.Path.{active, route_of}
 use Rattle.net_graph.specs.Resets.{start_holds}
 use Rattle.net_graph.specs.Signals.{Holds, bits_at}
 use Rattle.net_graph.specs.declared.net.BitId.{BitId}
@@ -17,18 +17,18 @@ use Rattle.net_graph.proofs.PlainNet.{length-bits_from}
 use Rattle.net_graph.proofs.Shapes.{length_at}
 use Rattle.net_graph.proofs.Tracing.{trace_route}
 use Rattle.net_graph.proofs.Widths.{as_many_held, chain_fits, started_held}
-use Rattle.svf_audit.specs.Audit.{bits_on, path_of}
+use Rattle.svf_audit.specs.Audit.{bits_on}
 
 -- the active path has different registers of the network
-pub route_is : (net : Net) (holds : Holds) → IsNet net → IsRoute (length net.regs.items) (path_of net holds)
+pub route_is : (net : Net) (holds : Holds) → IsNet net → IsRoute (length net.regs.items) (route_of net holds)
 route_is net holds w = by (active net holds) refl
   where
     by : (o : Option (List ℕ)) → active net holds ≡ o → IsRoute (length net.regs.items) (unwrap_or o [])
     by None e = tt
     by (Some met) e = trace_route net holds w (length net.regs.items + length net.muxes.items) net.out met w.output e
 
-pub route_in : (net : Net) (holds s : Holds) → IsNet net → AreHolds net s → IsRoute (length s) (path_of net holds)
-route_in net holds s w h = subst (λ n. IsRoute n (path_of net holds)) (sym (as_many_held net s h)) (route_is net holds w)
+pub route_in : (net : Net) (holds s : Holds) → IsNet net → AreHolds net s → IsRoute (length s) (route_of net holds)
+route_in net holds s w h = subst (λ n. IsRoute n (route_of net holds)) (sym (as_many_held net s h)) (route_is net holds w)
 
 -- ---- every path has room
 
@@ -115,7 +115,7 @@ both_next holds bits whole path old i k w l m e wide within last was =
     )
 
 -- the bits of the active path are few
-pub bits_fit : (net : Net) (holds : Holds) (path : List ℕ) → IsNet net → AreHolds net holds → path ≡ path_of net holds → length (bits_on holds path) ≤ 4096
+pub bits_fit : (net : Net) (holds : Holds) (path : List ℕ) → IsNet net → AreHolds net holds → path ≡ route_of net holds → length (bits_on holds path) ≤ 4096
 bits_fit net holds path w h e =
     omega (arith, length-bits_on holds path, chain_fits net path holds h (subst (IsRoute (length holds)) (sym e) (route_in net holds holds w h)), w.bits_within_limit)
 

@@ -6,13 +6,13 @@ use Rattle.net_graph.specs.declared.device.Device.{Device}
 use Rattle.net_graph.specs.declared.net.BitId.{BitId}
 use Rattle.net_graph.specs.declared.net.Net.{Net}
 use Rattle.net_graph.specs.Chain.{chain, put_chain}
-use Rattle.net_graph.specs.Path.{is_select}
+use Rattle.net_graph.specs.Path.{is_select, route_of}
 use Rattle.net_graph.specs.Resets.{reset_holds}
 use Rattle.net_graph.specs.Signals.{Holds}
 use Rattle.svf_writer.specs.SeenCommands.{SeenScan}
 use Rattle.tap_machine.specs.declared.Stable.TheVariants.{Reset as InReset, Idle}
 use Rattle.tap_machine.specs.Play.{after_scan, is_empty, played}
-use Rattle.svf_audit.specs.Audit.{Reading, State, bits_on, changed, compares, do_group, has_row, path_of, scan, scanned, was_reset}
+use Rattle.svf_audit.specs.Audit.{Reading, State, bits_on, changed, compares, do_group, has_row, scan, scanned, was_reset}
 use Rattle.svf_audit.specs.Auditing.{act, ok, state_of, Step, Stops}
 use Rattle.svf_audit.specs.Kept.{seen_kept}
 use Rattle.svf_audit.specs.Left.{work_left}
@@ -46,17 +46,17 @@ module _ (r : Registers) (s : AreShifted r) where
       ∙ ap (λ t. not (list_any plain r.moved.items) && not t) (sym c)
       ∙ not_or (list_any plain r.moved.items) some acts (sym e)
 
-pub act_silent : (net : Net) (device : Device) (a : State) (x : SeenScan) (now : Holds) → (is_empty (changed net (path_of net a.holds) a.holds now) && not (compares (played a.dr x))) ≡ true → act net device a x now ≡ ok (scanned net device a x now a.readings a.left)
+pub act_silent : (net : Net) (device : Device) (a : State) (x : SeenScan) (now : Holds) → (is_empty (changed net (route_of net a.holds) a.holds now) && not (compares (played a.dr x))) ≡ true → act net device a x now ≡ ok (scanned net device a x now a.readings a.left)
 act_silent net device a x now e =
     ap (λ t. elim t [ true ↦ ok (scanned net device a x now a.readings a.left) | false ↦ do_group net device a x now ]) e
 
-pub act_does : (net : Net) (device : Device) (a : State) (x : SeenScan) (now : Holds) → (is_empty (changed net (path_of net a.holds) a.holds now) && not (compares (played a.dr x))) ≡ false → act net device a x now ≡ do_group net device a x now
+pub act_does : (net : Net) (device : Device) (a : State) (x : SeenScan) (now : Holds) → (is_empty (changed net (route_of net a.holds) a.holds now) && not (compares (played a.dr x))) ≡ false → act net device a x now ≡ do_group net device a x now
 act_does net device a x now e =
     ap (λ t. elim t [ true ↦ ok (scanned net device a x now a.readings a.left) | false ↦ do_group net device a x now ]) e
 
 module _ (a : Auditor) (r : Registers) (x : SeenScan) (net : r.net.now ≡ a.registers.net.now) (holds : r.holds ≡ a.registers.holds) where
   abbrev path : List ℕ
-  path = path_of a.registers.net.now a.registers.holds
+  path = route_of a.registers.net.now a.registers.holds
 
   abbrev tdi : List Bool
   tdi = (played (seen_kept a.dr) x).tdi
@@ -66,13 +66,13 @@ module _ (a : Auditor) (r : Registers) (x : SeenScan) (net : r.net.now ≡ a.reg
 
   pub chain_as : length (chain (path_in r) r.holds) ≡ length (chain path a.registers.holds)
   chain_as =
-      ap (λ n. length (chain (path_of n r.holds) r.holds)) net ∙ ap (λ h. length (chain (path_of a.registers.net.now h) h)) holds
+      ap (λ n. length (chain (route_of n r.holds) r.holds)) net ∙ ap (λ h. length (chain (route_of a.registers.net.now h) h)) holds
 
   pub after_as : AreShifted r → r.chain.items ≡ tdi → r.after ≡ after
   after_as s t =
       s.after
-      ∙ ap (λ n. put_chain (path_of n r.holds) r.chain.items r.holds) net
-      ∙ ap (λ h. put_chain (path_of a.registers.net.now h) r.chain.items h) holds
+      ∙ ap (λ n. put_chain (route_of n r.holds) r.chain.items r.holds) net
+      ∙ ap (λ h. put_chain (route_of a.registers.net.now h) r.chain.items h) holds
       ∙ ap (λ bits. put_chain path bits a.registers.holds) t
 
   pub rows_as : r.after ≡ after → list_all (has_row r.after) r.net.now.muxes.items ≡ list_all (has_row after) a.registers.net.now.muxes.items
@@ -110,7 +110,7 @@ stops_as s t a f MemoryHalt h = tt
 stops_as s t a f (CauseHalt cause) h = λ rs. f rs cause (h rs)
 
 -- why a data scan of the network stops
-pub scan_stops : (a : Auditor) (r : Registers) (x : SeenScan) (net : r.net.now ≡ a.registers.net.now) (holds : r.holds ≡ a.registers.holds) → r.after ≡ after a r x net holds → x.len ≡ length (chain (path_of a.registers.net.now a.registers.holds) a.registers.holds) → list_all (has_row (after a r x net holds)) a.registers.net.now.muxes.items ≡ true → (halt : Halt) → Stops (λ n d s. act n d s x r.after) (record a { registers = r }) halt → Stops (λ n d s. scan n d s x) a halt
+pub scan_stops : (a : Auditor) (r : Registers) (x : SeenScan) (net : r.net.now ≡ a.registers.net.now) (holds : r.holds ≡ a.registers.holds) → r.after ≡ after a r x net holds → x.len ≡ length (chain (route_of a.registers.net.now a.registers.holds) a.registers.holds) → list_all (has_row (after a r x net holds)) a.registers.net.now.muxes.items ≡ true → (halt : Halt) → Stops (λ n d s. act n d s x r.after) (record a { registers = r }) halt → Stops (λ n d s. scan n d s x) a halt
 scan_stops a r x net holds s len rows MemoryHalt h = tt
 scan_stops a r x net holds s len rows (CauseHalt cause) h =
     λ rs. scan_acts a.registers.net.now a.device.now (state_of a rs) x len rows ∙ act_fails a r x net holds rs cause s (h rs)

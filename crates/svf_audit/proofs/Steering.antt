@@ -10,9 +10,9 @@ use Rattle.net_graph.specs.declared.net.Mux.{Mux}
 use Rattle.net_graph.specs.declared.net.Net.{Net}
 use Rattle.net_graph.specs.declared.net.Point.{Point}
 use Rattle.net_graph.specs.declared.net.Point.TheVariants.{Entry, Reg, Mux as FromMux}
-use Rattle.net_graph.specs.Path.{is_select, mux_source, reg_source, rows_of, same_place, trace}
+use Rattle.net_graph.specs.Path.{is_select, mux_source, reg_source, rows_of, same_place, trace, route_of}
 use Rattle.net_graph.specs.Signals.{Holds, hold_at, row_point, some_matches}
-use Rattle.svf_audit.specs.Audit.{has_row, path_of}
+use Rattle.svf_audit.specs.Audit.{has_row}
 use Rattle.svf_audit.proofs.Places.{place_of}
 
 -- two holds have these bits alike
@@ -65,7 +65,7 @@ module _ (net : Net) (s t : Holds) (same : (b : BitId) → is_select net b ≡ t
   trace_same (suc n) (FromMux m) =
       ap (option_and_then (trace net s n)) (source_same m) ∙ then_alike (trace net s n) (trace net t n) (trace_same n) (mux_source net t m)
 
-  pub path_same : path_of net s ≡ path_of net t
+  pub path_same : route_of net s ≡ route_of net t
   path_same = ap (λ o. unwrap_or o []) (trace_same (length net.regs.items + length net.muxes.items) net.out)
 
   pub rows_same : list_all (has_row s) net.muxes.items ≡ list_all (has_row t) net.muxes.items

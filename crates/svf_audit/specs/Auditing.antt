@@ -5,11 +5,12 @@ use Rattle.net_graph.specs.declared.net.Net.{Net}
 use Rattle.net_graph.specs.SeenSteps.{SeenGroup, seen_step}
 use Rattle.net_graph.specs.Steps.{IsStep}
 use Rattle.net_graph.specs.Signals.{Holds}
+use Rattle.net_graph.specs.Path.{route_of}
 use Rattle.bit_marks.specs.Numbered.{HaveMarks}
 use Rattle.svf_writer.specs.Fits.{FitsAfter}
 use Rattle.svf_writer.specs.SeenCommands.{SeenCommand, SeenScan, SIR, SDR, Reset, Idle, Run}
 use Rattle.tap_machine.specs.Play.{is_empty, played}
-use Rattle.svf_audit.specs.Audit.{Reading, State, Says, at_end, changed, compares, path_of, do_group as do_due, does_reads, does_writes, need, reset as reset_by, scan as scan_of, scanned, step as step_of, was_reset}
+use Rattle.svf_audit.specs.Audit.{Reading, State, Says, at_end, changed, compares, do_group as do_due, does_reads, does_writes, need, reset as reset_by, scan as scan_of, scanned, step as step_of, was_reset}
 use Rattle.svf_audit.specs.Kept.{AreKept, seen_kept}
 use Rattle.svf_audit.specs.Left.{IsWithin, work_left}
 use Rattle.svf_audit.specs.Registers.{path_in, AreRegisters, AreStill}
@@ -90,7 +91,7 @@ DidGroup old new x =
 -- what a data scan of the network does where it leaves these bits
 abbrev pub act : Net → Device → State → SeenScan → Holds → Result State Cause
 act net device a x now =
-    elim (is_empty (changed net (path_of net a.holds) a.holds now) && not (compares (played a.dr x))) [
+    elim (is_empty (changed net (route_of net a.holds) a.holds now) && not (compares (played a.dr x))) [
       | true ↦ Ok (scanned net device a x now a.readings a.left)
       | false ↦ do_due net device a x now
     ]

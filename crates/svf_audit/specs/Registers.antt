@@ -8,13 +8,14 @@ use Rattle.net_graph.specs.Held.{AreHolds}
 use Rattle.net_graph.specs.Nets.{IsNet}
 use Rattle.net_graph.specs.Resets.{start_holds}
 use Rattle.net_graph.specs.Signals.{Holds, hold_at}
+use Rattle.net_graph.specs.Path.{route_of}
 use Rattle.svf_audit.specs.declared.registers.Registers.{Registers}
-use Rattle.svf_audit.specs.Audit.{bits_on, has_row, path_of}
+use Rattle.svf_audit.specs.Audit.{bits_on, has_row}
 use Rattle.bit_marks.specs.Selects.{AreSelects}
 
 -- the active path
 abbrev pub path_in : Registers → List ℕ
-path_in r = path_of r.net.now r.holds
+path_in r = route_of r.net.now r.holds
 
 -- there is room for every path and its bits, and the bits of a path are known
 pub record AreRegisters (r : Registers) : Type 0 where

@@ -1,10 +1,9 @@
 // Whether SVF does what bit steps ask for.
-ghost use Rattle.std.specs.Prelude.{◌≡◌, ◌+◌, ◌<◌, ◌^◌, ◌∷◌, [], All, map, IfErr, IfOk, OnOk};
+ghost use Rattle.std.specs.Prelude.{◌+◌, ◌<◌, ◌^◌, [], All, map, IfErr, IfOk, OnOk};
 ghost use Rattle.net_graph.specs.Nets.{IsNet};
 ghost use Rattle.net_graph.specs.SeenSteps.{seen_step};
 ghost use Rattle.net_graph.specs.Steps.{IsStep};
 ghost use Rattle.svf_writer.specs.Fits.{AreFitAfter};
-ghost use Rattle.svf_writer.specs.SeenCommands.{seen_command};
 ghost use Rattle.tap_machine.specs.Play.{scans_in};
 ghost use Rattle.svf_audit.specs.Audit.{Says, audit, audit_from};
 ghost use Rattle.svf_audit.specs.Auditing.{AreNoted, Ends, IsAuditor, IsNo, state_of};
@@ -16,18 +15,8 @@ use ij_bits::{List, OutOfMemory};
 use net_graph::{BitStep, Device, Net};
 use std::alloc::Global;
 use std::mem::swap;
-use svf_writer::{Command, Commands};
-
-/// How many scans a command is.
-fn scans_of(command: &Command) -> u32
-    ensures { result ≡ scans_in (seen_command command.now ∷ []) }
-{
-    match command {
-        Command::Sir(_scan) => 1,
-        Command::Sdr(_scan) => 1,
-        _ => 0,
-    }
-}
+use svf_writer::Commands;
+use tap_machine::scans_of;
 
 /// What comes of the audit behind all commands.
 fn end(alloc: Global, auditor: &mut Auditor<'_>) -> Audit

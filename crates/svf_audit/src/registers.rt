@@ -6,10 +6,10 @@ ghost use Rattle.net_graph.specs.Chain.{IsRoute, chain};
 ghost use Rattle.net_graph.specs.Held.{AreHolds, IsHeld};
 ghost use Rattle.net_graph.specs.Named.{bits_from};
 ghost use Rattle.net_graph.specs.Nets.{IsNet};
-ghost use Rattle.net_graph.specs.Path.{is_select, same_place};
+ghost use Rattle.net_graph.specs.Path.{is_select, same_place, route_of};
 ghost use Rattle.net_graph.specs.Resets.{reset_holds, start_holds};
 ghost use Rattle.net_graph.specs.Signals.{hold_at};
-ghost use Rattle.svf_audit.specs.Audit.{bits_on, has_row, path_of};
+ghost use Rattle.svf_audit.specs.Audit.{bits_on, has_row};
 ghost use Rattle.svf_audit.specs.Kept.{AreKept, seen_tdi};
 ghost use Rattle.svf_audit.specs.Registers.{path_in, to_move, AreFound, AreListed, AreRegisters, AreShifted, AreStill, IsTurned};
 
@@ -51,7 +51,7 @@ fn find_path(net: &Net, holds: &Holds, path: &mut List<u32>)
     requires well_formed { IsNet net.now }
     requires holds { AreHolds net.now holds.now }
     requires room { length net.now.regs.items ≤ length path.old.items + path.old.spare }
-    ensures path { path.new.items ≡ path_of net.now holds.now }
+    ensures path { path.new.items ≡ route_of net.now holds.now }
     ensures room { length path.new.items + path.new.spare ≡ length path.old.items + path.old.spare }
 {
     path_into(net, holds, path);

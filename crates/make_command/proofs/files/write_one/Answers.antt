@@ -1,9 +1,10 @@
 use Rattle.std.specs.Prelude.{option_map}
 use Rattle.std.proofs.Common.{◌≡◌, ◌∙◌, inl, refl, rules, subst, ℕ, List, [], ◌∷◌, Option, Some}
+use Rattle.svf_file.specs.Files.{HoldsPart}
 use Rattle.ij_io.specs.Causes.{Rose}
 use Rattle.ij_io.specs.Files.{Files, file_at, OthersStay}
 use Rattle.ijtag_work.specs.Leaves.{Written}
-use Rattle.ijtag_work.specs.Runs.{HoldsPart, OnlyTheseRise}
+use Rattle.ijtag_work.specs.Runs.{OnlyTheseRise}
 use Rattle.make_command.specs.Files.{seen_file}
 use Rattle.make_command.proofs.files.write_one.Goals as goal
 

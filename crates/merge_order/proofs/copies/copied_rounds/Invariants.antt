@@ -1,6 +1,6 @@
 use Rattle.std.proofs.Common.{◌≡◌, take}
-use Rattle.merge_order.specs.SeenJoins.{seen_rounds}
+use Rattle.pdl_targets.specs.SeenRounds.{seen_groups}
 use Rattle.merge_order.proofs.copies.copied_rounds.Given as goal
 
 abbrev pub invariant-loop-round : goal.invariant-loop-round
-invariant-loop-round l = seen_rounds l.copies.items ≡ seen_rounds (take l.round-index l.rounds)
+invariant-loop-round l = seen_groups l.copies.items ≡ seen_groups (take l.round-index l.rounds)

@@ -2,8 +2,9 @@ use Rattle.std.proofs.Common.{◌≡◌, ◌≤◌, ◌<◌, length, sym, ap, �
 use Rattle.std.proofs.lemmas.List.{length-map}
 use Rattle.net_graph.specs.SeenSteps.{SeenGroup, seen_group}
 use Rattle.pdl_targets.specs.SeenPlaces.{places_in}
+use Rattle.pdl_targets.specs.SeenRounds.{seen_groups}
 use Rattle.merge_order.specs.Named.{Tells}
-use Rattle.merge_order.specs.SeenJoins.{seen_joins, seen_rounds}
+use Rattle.merge_order.specs.SeenJoins.{seen_joins}
 use Rattle.merge_order.proofs.Insertions.{open_there, put_there}
 use Rattle.merge_order.proofs.Tabled.{same_as}
 use Rattle.merge_order.proofs.joining.put_round.Goals as goal
@@ -14,7 +15,7 @@ returns c =
     let joins = seen_joins c.args.joins.now.items in
     let h = seen_group c.args.round.now in
     let place = c.first_join-place.result in
-    let len = length-map c.args.joins.now.items (λ j. seen_rounds j.items) in
+    let len = length-map c.args.joins.now.items (λ j. seen_groups j.items) in
     let count : c.in_ok-count.count ≡ length joins = c.in_ok-count.ensures ∙ ap length c.deref.ensures.value ∙ sym len in
     let seen = same_as c.as_slice.result.now c.in_ok-around.around.items _ c.as_slice.ensures c.in_ok-around.ensures in
     let again = same_as c.as_slice-2.result.now c.in_ok-around.around.items _ c.as_slice-2.ensures c.in_ok-around.ensures in

@@ -1,4 +1,4 @@
-use Rattle.net_bench.specs.Packed.{route_of}
+use Rattle.net_graph.specs.Path.{route_of}
 use Rattle.net_bench.specs.Playing.{resting}
 use Rattle.tap_machine.specs.Play.{pins}
 use Rattle.net_bench.proofs.Forgetting.{start_tallied, tdo_tallied, clock_tallied, pins_tallied, compares_tallied}

@@ -1,5 +1,5 @@
 use Rattle.std.proofs.Common.{◌≡◌, drop}
-use Rattle.pdl_targets.specs.Rounds.{is_in}
+use Rattle.net_graph.specs.Path.{is_in}
 use Rattle.pdl_targets.proofs.groups.is_in.Given as goal
 
 abbrev pub invariant-loop-one : goal.invariant-loop-one

@@ -1,8 +1,8 @@
 use Rattle.std.proofs.Common.{List, sym, ap, ◌∙◌, subst}
 use Rattle.std.proofs.lemmas.List.{length-map}
 use Rattle.net_graph.specs.declared.net.BitId.{BitId}
+use Rattle.net_graph.specs.Path.{is_in}
 use Rattle.pdl_targets.specs.Marked.{AreNumbered, first_bit, first_bits}
-use Rattle.pdl_targets.specs.Rounds.{is_in}
 use Rattle.bit_marks.proofs.Numbering.{bits_more, registers_differ}
 use Rattle.pdl_targets.proofs.queue.mention_one.Goals as goal
 

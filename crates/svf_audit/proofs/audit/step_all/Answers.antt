@@ -2,10 +2,11 @@ use Rattle.std.proofs.Common.{◌≡◌, ◌+◌, ◌∷◌, ap, sym, ◌∙◌,
 use Rattle.svf_writer.specs.Fits.{AreFitAfter}
 use Rattle.svf_writer.specs.SeenCommands.{seen_command}
 use Rattle.tap_machine.specs.Play.{scans_in}
+use Rattle.tap_machine.proofs.Scans.{scans_first}
 use Rattle.svf_audit.specs.Audit.{audit_from}
 use Rattle.svf_audit.specs.Auditing.{last_ir, state_of}
 use Rattle.svf_audit.specs.Kept.{last_length}
-use Rattle.svf_audit.proofs.Looping.{command_here, fits_next, leads_on, leads_to_no, scans_first, Leads}
+use Rattle.svf_audit.proofs.Looping.{command_here, fits_next, leads_on, leads_to_no, Leads}
 use Rattle.svf_audit.proofs.audit.step_all.Goals as goal
 
 pub loop-i-init : goal.loop-i-init

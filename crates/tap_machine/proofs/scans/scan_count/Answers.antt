@@ -1,7 +1,7 @@
 use Rattle.std.proofs.Common.{◌<◌, length, arith}
 use Rattle.svf_writer.specs.SeenCommands.{seen_command}
-use Rattle.bench_report.proofs.Counting.{scans_next}
-use Rattle.bench_report.proofs.play.scan_count.Goals as goal
+use Rattle.tap_machine.proofs.Scans.{scans_next}
+use Rattle.tap_machine.proofs.scans.scan_count.Goals as goal
 
 pub overflow_add-scans : goal.overflow_add-scans
 overflow_add-scans c =
