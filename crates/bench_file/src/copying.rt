@@ -4,8 +4,9 @@ ghost use Rattle.instruments.specs.Seen.{seen_word, seen_memory, seen_port, seen
 ghost use Rattle.table_file.specs.Tables.{named};
 ghost use Rattle.bench_file.specs.Fits.{in_port, out_port, no_out, out_named};
 
-use bench_lines::{is, to_name};
+use bench_lines::is;
 use ij_bits::{List, OutOfMemory};
+use ij_text::name_of;
 use instruments::{MemDef, OutDef, PortDef, WordDef};
 use net_graph::{PortIn, PortOut};
 use std::alloc::Global;
@@ -14,7 +15,7 @@ fn word_copy(alloc: Global, d: &WordDef) -> Result<WordDef, OutOfMemory>
     ensures { IfOk result (λ r. seen_word r ≡ seen_word d.now) }
 {
     Ok(WordDef {
-        name: to_name(alloc, d.name.as_slice())?,
+        name: name_of(alloc, d.name.as_slice())?,
         width: d.width,
         init: d.init,
         reset: d.reset,
@@ -35,7 +36,7 @@ fn mem_copy(alloc: Global, d: &MemDef) -> Result<MemDef, OutOfMemory>
     ensures { IfOk result (λ r. seen_memory r ≡ seen_memory d.now) }
 {
     Ok(MemDef {
-        name: to_name(alloc, d.name.as_slice())?,
+        name: name_of(alloc, d.name.as_slice())?,
         depth: d.depth,
         width: d.width,
         init: d.init,
@@ -63,7 +64,7 @@ fn port_def(alloc: Global, port: &PortIn) -> Result<PortDef, OutOfMemory>
     ensures { IfOk result (λ r. seen_port r ≡ in_port port.now) }
 {
     Ok(PortDef {
-        name: to_name(alloc, port.name.as_slice())?,
+        name: name_of(alloc, port.name.as_slice())?,
         width: port.bits.len() as u32,
     })
 }
@@ -97,7 +98,7 @@ fn out_copy(alloc: Global, d: &OutDef) -> Result<OutDef, OutOfMemory>
     ensures { IfOk result (λ r. seen_out r ≡ seen_out d.now) }
 {
     Ok(OutDef {
-        name: to_name(alloc, d.name.as_slice())?,
+        name: name_of(alloc, d.name.as_slice())?,
         word: d.word,
         left: d.left,
         right: d.right,

@@ -19,14 +19,6 @@ pub fn is(word: &[u8], wanted: &[u8]) -> bool
     wanted == word
 }
 
-/// A copy of a text.
-pub fn to_name(alloc: Global, text: &[u8]) -> Result<Name, OutOfMemory>
-    ensures { IfOk result (λ name. name.items ≡ text.now) }
-{
-    let vec = Vec::from_slice(alloc, text)?;
-    Ok(List::from(vec))
-}
-
 /// The number that a word says, if it says one.
 pub fn number(alloc: Global, text: &[u8]) -> Result<Option<Number>, OutOfMemory>
     ensures { IfOk result (λ n. option_map seen n ≡ number text.now) }

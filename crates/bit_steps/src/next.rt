@@ -1,5 +1,5 @@
 // The next bit step where a procedure ends in no fault.
-ghost use Rattle.std.specs.Prelude.{◌≡◌, MatchOption, IfOk};
+ghost use Rattle.std.specs.Prelude.{◌≡◌, None, MatchOption, IfOk};
 ghost use Rattle.net_graph.specs.SeenSteps.{seen_step};
 ghost use Rattle.bit_steps.specs.BitSteps.{nothing_left, given_first_bit};
 
@@ -13,7 +13,8 @@ use net_graph::BitStep;
 ///
 /// [`OutOfMemory`] where [`BitSteps::next`] refuses.
 pub fn next_step(steps: &mut BitSteps<'_>) -> Result<Option<BitStep>, OutOfMemory>
-    ensures { IfOk result (λ o. MatchOption o (steps.old ≡ nothing_left) (λ s. steps.old ≡ given_first_bit (seen_step s) steps.new)) }
+    ensures given { IfOk result (λ o. MatchOption o (steps.old ≡ nothing_left) (λ s. steps.old ≡ given_first_bit (seen_step s) steps.new)) }
+    ensures end { IfOk result (λ o. o ≡ None → steps.new ≡ nothing_left) }
 {
     match steps.next() {
         Ok(step) => Ok(step),

@@ -1,35 +1,22 @@
 // The direct meaning of a whole procedure, printed.
-ghost use Rattle.std.specs.Prelude.{◌≡◌, ◌<◌, ◌≤◌, ◌+◌, ◌*◌, ◌^◌, All, None, MatchOption, length, map, IfOk, IfErr, OnOk, OnErr};
-ghost use Rattle.bit_steps.specs.BitSteps.{nothing_left, given_first_bit};
+ghost use Rattle.std.specs.Prelude.{◌≡◌, ◌<◌, ◌≤◌, ◌+◌, ◌*◌, ◌^◌, All, None, length, map, IfOk, OnOk, OnErr};
 ghost use Rattle.direct_report.specs.Report.{direct_differs, direct_report};
 ghost use Rattle.direct_report.specs.Whole.{PrintsSteps, PrintsStepsPart, KeepsSteps};
 ghost use Rattle.ij_io.specs.Bytes.{Adds, AddsPart};
 ghost use Rattle.ij_io.specs.Causes.{HasCause};
 ghost use Rattle.instruments.specs.Seen.{seen_model};
 ghost use Rattle.net_graph.specs.Nets.{IsNet};
-ghost use Rattle.net_graph.specs.SeenSteps.{seen_step};
 ghost use Rattle.net_graph.specs.Steps.{IsStep};
 ghost use Rattle.pdl_targets.specs.Laws.{rounds_in};
 ghost use Rattle.runners.specs.Runners.{AreModels};
 
 use crate::play::DirectPlay;
-use bit_steps::BitSteps;
+use bit_steps::{BitSteps, next_step};
 use ij_bits::List;
 use ij_io::{Sink, StoreFault};
 use instruments::Model;
-use net_graph::{BitStep, Net};
+use net_graph::Net;
 use std::alloc::Global;
-
-/// The next bit step of a procedure that ends in no fault: all that it refuses by is want of memory.
-fn next_step<'b>(steps: &mut BitSteps<'b>) -> Result<Option<BitStep>, StoreFault>
-    ensures given { IfOk result (λ o. MatchOption o (steps.old ≡ nothing_left) (λ s. steps.old ≡ given_first_bit (seen_step s) steps.new)) }
-    ensures refused { IfErr result (λ e. e ≡ StoreFault.OutOfMemory) }
-{
-    match steps.next() {
-        Ok(step) => Ok(step),
-        Err(_) => Err(StoreFault::OutOfMemory),
-    }
-}
 
 /// Does the bit steps that are left of a procedure, and writes the reads that differ. After a refusal some first bytes are written.
 fn put_steps<'a, 'b, K: Sink>(

@@ -2,7 +2,6 @@
 #![tactic(auto)]
 
 mod bodies;
-mod ends;
 mod entries;
 mod fault;
 mod items;

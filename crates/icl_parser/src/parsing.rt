@@ -6,7 +6,6 @@ ghost use Rattle.icl_syntax.specs.Modules.{design};
 ghost use Rattle.icl_syntax.specs.Views.{seen_design};
 ghost use Rattle.icl_parser.specs.Refusals.{Blocks, IsFaultAt, IsFaultOf, OnRefusal};
 
-use crate::ends::end_of;
 use crate::fault::ParseFault;
 use crate::modules::read_design;
 use crate::words::is_left_out;
@@ -14,7 +13,7 @@ use icl_expressions::Stop;
 use icl_lexer::{Cursor, Lexeme};
 use icl_syntax::{Design, Limit};
 use ij_bits::OutOfMemory;
-use ij_text::name_of;
+use ij_text::{end_of, name_of};
 use std::alloc::Global;
 
 /// The fault at a token, which a limit may bar. Takes memory for a word that is left out alone.

@@ -9,8 +9,8 @@ ghost use Rattle.icl_references.specs.Signals.{constants};
 
 use crate::hier::Ref;
 use icl_frames::Stretch;
-use icl_values::bit_at;
 use ij_bits::{List, OutOfMemory, Tern};
+use ij_text::bit_at;
 use std::alloc::Global;
 
 /// Bits of a part, the lowest position first.

@@ -9,8 +9,8 @@ ghost use Rattle.icl_references.specs.Roles.{seen_row};
 use crate::hier::Ref;
 use crate::values::is_closed;
 use icl_frames::Scope;
-use icl_values::bit_at;
 use ij_bits::{List, OutOfMemory, Tern};
+use ij_text::bit_at;
 use std::alloc::Global;
 
 /// A row: the values that select it, and its source.

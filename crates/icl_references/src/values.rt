@@ -7,9 +7,9 @@ ghost use Rattle.icl_values.specs.Faults.{Gives};
 ghost use Rattle.icl_values.specs.Values.{seen_value};
 ghost use Rattle.icl_references.specs.Signals.{free_number, number_bits, sized_number};
 
-use icl_values::{ElabFault, Value, bit_at, free_in, integer_bits, sized_in};
+use icl_values::{ElabFault, Value, free_in, integer_bits, sized_in};
 use ij_bits::Tern;
-use ij_text::Place;
+use ij_text::{Place, bit_at};
 use std::alloc::Global;
 
 /// Whether a number has no x.

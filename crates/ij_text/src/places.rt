@@ -1,6 +1,6 @@
 // The places of bytes.
 ghost use Rattle.std.specs.Prelude.{◌≡◌, ◌+◌, ◌^◌, ◌<◌, ◌≤◌, length};
-ghost use Rattle.ij_text.specs.Places.{next_place, place_at, place_behind};
+ghost use Rattle.ij_text.specs.Places.{end_of, next_place, place_at, place_behind};
 
 use crate::Place;
 
@@ -47,4 +47,12 @@ pub fn place_at(text: &[u8], n: usize) -> Place
     ensures { result ≡ place_at text.now n }
 {
     place_behind(Place { line: 1, col: 1 }, &text[..n])
+}
+
+/// The place behind the last byte of a text. Takes no memory.
+pub fn end_of(text: &[u8]) -> Place
+    requires { length text.now < 2 ^ 31 }
+    ensures { result ≡ end_of text.now }
+{
+    place_behind(Place { line: 1, col: 1 }, text)
 }

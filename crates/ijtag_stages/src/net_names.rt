@@ -1,7 +1,7 @@
 // How the parts of a network are called (IEEE 1687-2014, ICL: hierarchical names).
 ghost use Rattle.std.specs.Prelude.{◌≡◌, map, drop, IfOk};
 ghost use Rattle.icl_signals.specs.PlainNets.{seen_net, seen_thing};
-ghost use Rattle.pdl_expand.specs.Expansion.{dotted};
+ghost use Rattle.pdl_parser.specs.Views.{bytes_of};
 ghost use Rattle.ijtag_stages.specs.NetNames.{path_at, node_name, name_in, mux_name, inst_name, thing_name, reg_thing, cell_name, index_of, bit_index, bit_arg};
 ghost use Rattle.ijtag_stages.specs.Seen.{seen_arg};
 
@@ -9,18 +9,8 @@ use crate::refusal::Arg;
 use ij_bits::{List, OutOfMemory};
 use ij_text::{Name, name_of, with_dotted};
 use net_graph::{BitId, Net, Point, Thing};
+use pdl_expand::dotted;
 use std::alloc::Global;
-
-/// Each name behind a dot.
-fn behind_dots(alloc: Global, names: &[Name]) -> Result<Name, OutOfMemory>
-    ensures { IfOk result (λ text. text.items ≡ dotted (map (λ name. name.items) names.now)) }
-{
-    let mut text = List::new(alloc);
-    for name in names {
-        text = with_dotted(text, name.as_slice())?;
-    }
-    Ok(text)
-}
 
 /// A text without its first byte.
 fn without_first(alloc: Global, text: &Name) -> Result<Name, OutOfMemory>
@@ -34,7 +24,7 @@ fn without_first(alloc: Global, text: &Name) -> Result<Name, OutOfMemory>
 
 /// The instances from below the top down to a node, none for one that isn't there.
 fn path_at(net: &Net, node: u32) -> &[Name]
-    ensures { map (λ name. name.items) result.now ≡ path_at (seen_net net.now) node }
+    ensures { map bytes_of result.now ≡ path_at (seen_net net.now) node }
 {
     if (node as usize) < net.nodes.len() {
         net.nodes.get(node as usize).path.as_slice()
@@ -47,7 +37,7 @@ fn path_at(net: &Net, node: u32) -> &[Name]
 fn node_name(alloc: Global, net: &Net, node: u32) -> Result<Name, OutOfMemory>
     ensures { IfOk result (λ r. r.items ≡ node_name (seen_net net.now) node) }
 {
-    let text = behind_dots(alloc, path_at(net, node))?;
+    let text = dotted(alloc, path_at(net, node))?;
     without_first(alloc, &text)
 }
 
@@ -55,7 +45,7 @@ fn node_name(alloc: Global, net: &Net, node: u32) -> Result<Name, OutOfMemory>
 fn name_in(alloc: Global, net: &Net, node: u32, name: &Name) -> Result<Name, OutOfMemory>
     ensures { IfOk result (λ r. r.items ≡ name_in (seen_net net.now) node name.now.items) }
 {
-    let text = behind_dots(alloc, path_at(net, node))?;
+    let text = dotted(alloc, path_at(net, node))?;
     let text = with_dotted(text, name.as_slice())?;
     without_first(alloc, &text)
 }

@@ -8,7 +8,7 @@ ghost use Rattle.pdl_targets.specs.Index.{IsIndex};
 use crate::captors::{Captors, captors_of};
 use bit_marks::{BitMarks, selects_of};
 use ij_bits::{List, OutOfMemory};
-use ij_text::{Name, Names, with_dotted};
+use ij_text::{Name, Names};
 use net_graph::{Net, Thing};
 use pdl_expand::dotted_paths;
 use std::alloc::Global;
@@ -24,17 +24,6 @@ pub(crate) struct Index {
     pub captors: Captors,
     /// The keys of the things in their order, a hint where a thing stands: it is looked at before it is believed.
     pub things: Names,
-}
-
-/// Adds names, each behind a dot.
-pub(crate) fn put_names(text: Name, names: &[Name]) -> Result<Name, OutOfMemory>
-    ensures { IfOk result (λ r. r.items ≡ text.items ++ dotted (map bytes_of names.now)) }
-{
-    let mut text = text;
-    for name in names {
-        text = with_dotted(text, name.as_slice())?;
-    }
-    Ok(text)
 }
 
 /// What a thing is looked up by: its name and the cell that it stands in.

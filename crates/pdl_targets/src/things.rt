@@ -11,10 +11,11 @@ ghost use Rattle.pdl_targets.specs.Seen.{Finds};
 ghost use Rattle.pdl_targets.specs.Targets.{has_index, position_of, slice_of, spots_of, thing_at, thing_in};
 
 use crate::fault::TargetFault;
-use crate::index::{Index, put_names, thing_key};
+use crate::index::{Index, thing_key};
 use ij_bits::{List, OutOfMemory};
 use ij_text::{Name, Place};
 use net_graph::{Net, Spot, Thing};
+use pdl_expand::put_names;
 use std::alloc::Global;
 
 /// The names in front of the last one.

@@ -1,7 +1,7 @@
 // How far the reads of a procedure are noted.
-ghost use Rattle.std.specs.Prelude.{◌≡◌, ◌⊎◌, ◌+◌, ◌*◌, ◌<◌, ◌≤◌, ◌^◌, [], None, MatchOption, length, map, IfOk, OnOk, true, false};
+ghost use Rattle.std.specs.Prelude.{◌≡◌, ◌⊎◌, ◌+◌, ◌*◌, ◌<◌, ◌≤◌, ◌^◌, [], None, length, map, IfOk, OnOk, true, false};
 ghost use Rattle.pdl_targets.specs.Laws.{round_count};
-ghost use Rattle.bit_steps.specs.BitSteps.{bit_steps, given_first_bit, nothing_left};
+ghost use Rattle.bit_steps.specs.BitSteps.{bit_steps};
 ghost use Rattle.ij_text.specs.Numbering.{AreDistinct};
 ghost use Rattle.net_graph.specs.SeenSteps.{seen_step};
 ghost use Rattle.net_tree.specs.Routes.{HasRoom};
@@ -17,7 +17,7 @@ ghost use Rattle.read_places.specs.Reaching.{CanGoOn, IsCursor, StandsOn};
 
 use crate::place::{ReadPlace, find};
 use crate::scans::note_step;
-use bit_steps::BitSteps;
+use bit_steps::{BitSteps, next_step};
 use ij_bits::{List, OutOfMemory};
 use net_graph::{BitStep, Holds, Net, ReadBit};
 use net_tree::{Route, Tree};
@@ -39,17 +39,6 @@ pub(crate) struct Cursor<'a> {
     pub route: Route,
     /// Its reads.
     pub places: List<ReadPlace>,
-}
-
-/// The next bit step of a procedure that ends in no fault: all that it refuses by is want of memory.
-fn next_step<'b>(steps: &mut BitSteps<'b>) -> Result<Option<BitStep>, OutOfMemory>
-    ensures given { IfOk result (λ o. MatchOption o (steps.old ≡ nothing_left) (λ s. steps.old ≡ given_first_bit (seen_step s) steps.new)) }
-    ensures end { IfOk result (λ o. o ≡ None → steps.new ≡ nothing_left) }
-{
-    match steps.next() {
-        Ok(step) => Ok(step),
-        Err(_) => Err(OutOfMemory),
-    }
 }
 
 /// The bit steps of a procedure that can begin: all that it refuses by is want of memory.

@@ -17,7 +17,7 @@ use crate::kept::{Kept, tdi_at, tdi_number};
 use crate::scan::{have_rows, some_select};
 use bit_marks::{BitMarks, selects_of};
 use ij_bits::{Bits, List, OutOfMemory};
-use net_graph::{BitId, Holds, Net, path_into};
+use net_graph::{BitId, Holds, Net, find_path};
 use std::alloc::Global;
 use std::mem::swap;
 
@@ -44,18 +44,6 @@ pub(crate) struct Registers<'a> {
     pub listed: bool,
     pub after: Holds,
     pub moved: List<BitId>,
-}
-
-/// Leaves the active path in a list, nearest scan-out first, and nothing where there is no path.
-fn find_path(net: &Net, holds: &Holds, path: &mut List<u32>)
-    requires well_formed { IsNet net.now }
-    requires holds { AreHolds net.now holds.now }
-    requires room { length net.now.regs.items ≤ length path.old.items + path.old.spare }
-    ensures path { path.new.items ≡ route_of net.now holds.now }
-    ensures room { length path.new.items + path.new.spare ≡ length path.old.items + path.old.spare }
-{
-    path_into(net, holds, path);
-    path.reverse();
 }
 
 /// Adds the bits of a register.

@@ -1,10 +1,8 @@
 // The SVF file of all bit steps of a procedure.
-ghost use Rattle.std.specs.Prelude.{◌≡◌, ◌<◌, ◌≤◌, ◌+◌, ◌^◌, All, None, Option, List, ℕ, MatchOption, length, IfOk, IfErr, OnOk, OnErr};
+ghost use Rattle.std.specs.Prelude.{◌≡◌, ◌<◌, ◌≤◌, ◌+◌, ◌^◌, All, None, Option, List, ℕ, length, OnOk, OnErr};
 ghost use Rattle.ij_io.specs.Causes.{HasCauseAt, SameCounts};
 ghost use Rattle.ij_io.specs.Files.{OthersStay, told_bytes};
 ghost use Rattle.net_graph.specs.Devices.{IsDevice};
-ghost use Rattle.net_graph.specs.SeenSteps.{seen_step};
-ghost use Rattle.bit_steps.specs.BitSteps.{nothing_left, given_first_bit};
 ghost use Rattle.pdl_targets.specs.Laws.{rounds_in};
 ghost use Rattle.group_scans.specs.Retargeting.{IsRetargetable};
 ghost use Rattle.group_scans.specs.Rounds.{StepIsPlannable};
@@ -13,25 +11,14 @@ ghost use Rattle.svf_file.specs.Files.{HoldsScript, HoldsScriptPart};
 ghost use Rattle.svf_file.specs.Pieces.{HoldsFront, IsThere, with_piece};
 
 use crate::piece::{next_piece, put_piece};
-use bit_steps::BitSteps;
+use bit_steps::{BitSteps, next_step};
 use group_scans::planned_steps_law;
 use ij_io::{Shelf, StoreFault, SureSink};
-use net_graph::{BitStep, Device, Net};
+use net_graph::{Device, Net};
 use net_tree::Tree;
 use retargeter::Retargeter;
 use std::alloc::Global;
 use svf_writer::put_preface;
-
-/// The next bit step of a procedure that ends in no fault: all that it refuses by is want of memory.
-fn next_step<'b>(steps: &mut BitSteps<'b>) -> Result<Option<BitStep>, StoreFault>
-    ensures given { IfOk result (λ o. MatchOption o (steps.old ≡ nothing_left) (λ s. steps.old ≡ given_first_bit (seen_step s) steps.new)) }
-    ensures refused { IfErr result (λ e. e ≡ StoreFault.OutOfMemory) }
-{
-    match steps.next() {
-        Ok(step) => Ok(step),
-        Err(_) => Err(StoreFault::OutOfMemory),
-    }
-}
 
 /// Writes the bit steps that are left of a procedure behind a piece. After a refusal the file holds some first bytes.
 fn put_steps<'a, 'b, S: Shelf>(

@@ -8,8 +8,9 @@ ghost use Rattle.table_file.specs.Small.{AreNarrow, IsFewAmount};
 
 use crate::names::{cond_operand, operand_named};
 use crate::widths::{cond_width, known, slice_word, word_width};
-use bench_lines::{care_in, plain_number, to_name, value_in};
+use bench_lines::{care_in, plain_number, value_in};
 use ij_bits::{List, OutOfMemory};
+use ij_text::name_of;
 use instruments::{Amount, Cond, Model, Operand, OutDef, RowDef, Set, Slot};
 use std::alloc::Global;
 use table_lines::{SaidAmount, SaidCond, SaidRow, SaidSet, SaidSlot, Slice};
@@ -145,7 +146,7 @@ pub(crate) fn out_said(
     requires few { IfSome slice.now.bounds (λ b. (b.0 < 2 ^ 32) × (b.1 < 2 ^ 32)) }
     ensures { IfOk result (λ d. seen_out d ≡ out_said (seen_model m.now) name.now (seen_slice slice.now).word (seen_slice slice.now).bounds) }
 {
-    let name = to_name(alloc, name)?;
+    let name = name_of(alloc, name)?;
     let word = slice_word(m, slice.word);
     match slice.bounds {
         Some((left, right)) => Ok(OutDef {

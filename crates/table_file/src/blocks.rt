@@ -17,9 +17,8 @@ use crate::limits::{limit_fault, rank};
 use crate::names::name_fault;
 use crate::table::Table;
 use crate::widths::width_fault;
-use bench_lines::to_name;
 use ij_bits::{List, OutOfMemory};
-use ij_text::{Name, Names, Place};
+use ij_text::{Name, Names, Place, name_of};
 use instruments::Model;
 use std::alloc::Global;
 use table_lines::{SaidLine, instrument, line};
@@ -59,7 +58,7 @@ fn names_of(alloc: Global, words: &[&[u8]]) -> Result<List<Name>, OutOfMemory>
 {
     let mut names = List::new(alloc);
     for word in words {
-        names.push(to_name(alloc, word)?)?;
+        names.push(name_of(alloc, word)?)?;
     }
     Ok(names)
 }
@@ -70,7 +69,7 @@ fn enter(alloc: Global, paths: &mut Names, text: &[u8]) -> Result<bool, OutOfMem
     ensures value { IfOk result (λ twice. twice ≡ is_some (number_in paths.old text.now)) }
     ensures paths { IfOk result (λ twice. twice ≡ false → paths.new ≡ paths.old ++ text.now ∷ []) }
 {
-    let name = to_name(alloc, text)?;
+    let name = name_of(alloc, text)?;
     if paths.find(&name).is_some() {
         return Ok(true);
     }

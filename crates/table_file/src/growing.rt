@@ -8,9 +8,9 @@ ghost use Rattle.table_file.specs.Small.{IsSmall, AreFewStarts};
 ghost use Rattle.table_file.specs.Tables.{with_line, width_fault, limit_fault};
 
 use crate::adding::{out_said, row_said};
-use bench_lines::{plain_number, to_name};
+use bench_lines::plain_number;
 use ij_bits::OutOfMemory;
-use ij_text::Number;
+use ij_text::{Number, name_of};
 use instruments::{MemDef, Model, PortDef, WordDef};
 use std::alloc::Global;
 use table_lines::{SaidLine, SaidRow, Slice, StartNumbers};
@@ -20,7 +20,7 @@ fn port_def(alloc: Global, name: &[u8], width: u128) -> Result<PortDef, OutOfMem
     ensures { IfOk result (λ d. seen_port d ≡ record { name = name.now; width = width }) }
 {
     Ok(PortDef {
-        name: to_name(alloc, name)?,
+        name: name_of(alloc, name)?,
         width: width as u32,
     })
 }
@@ -47,7 +47,7 @@ fn word_def(
     ensures { IfOk result (λ d. seen_word d ≡ record { name = name.now; width = width; init = (seen_starts starts.now).init; reset = (seen_starts starts.now).reset }) }
 {
     Ok(WordDef {
-        name: to_name(alloc, name)?,
+        name: name_of(alloc, name)?,
         width: width as u32,
         init: plain_number(&starts.init),
         reset: reset_number(&starts.reset),
@@ -67,7 +67,7 @@ fn mem_def(
     ensures { IfOk result (λ d. seen_memory d ≡ record { name = name.now; depth = depth; width = width; init = (seen_starts starts.now).init; reset = (seen_starts starts.now).reset }) }
 {
     Ok(MemDef {
-        name: to_name(alloc, name)?,
+        name: name_of(alloc, name)?,
         depth: depth as u32,
         width: width as u32,
         init: plain_number(&starts.init),
