@@ -1,7 +1,7 @@
 -- Models in the order of their instruments are well formed.
-use Rattle.std.proofs.Common.{◌≡◌, ◌≢◌, ℕ, zero, suc, ◌+◌, ◌-◌, ◌^◌, ◌<◌, ◌≤◌, Bool, true, false, cond, List, [], ◌∷◌, ◌++◌, length, map, Option, Some, None, All, get_or, refl, ap, sym, ◌∙◌, subst, arith}
-use Rattle.std.specs.Prelude.{◌==◌, ◌&&◌, ◌||◌, Contains, IfSome, IfOk, unwrap_or, Result, Ok, Err}
-use Rattle.std.specs.List.{list_all, list_any}
+use Rattle.std.proofs.Common.{◌≡◌, ◌≢◌, ℕ, zero, suc, ◌+◌, ◌-◌, ◌<◌, Bool, true, false, cond, List, [], ◌∷◌, ◌++◌, length, map, Option, Some, None, All, get_or, refl, ap, sym, ◌∙◌, subst, arith}
+use Rattle.std.specs.Prelude.{◌==◌, ◌||◌, Contains, IfSome, IfOk, unwrap_or, Result, Ok, Err}
+use Rattle.std.specs.List.{list_all}
 use Rattle.std.specs.Str.{bytes_eq}
 use Rattle.std.proofs.lemmas.Bool.{eqb-true, and_parts}
 use Rattle.std.proofs.lemmas.List.{length-map, get_or-map}
@@ -22,7 +22,7 @@ use Rattle.instruments.specs.declared.model.Amount.{Amount}
 use Rattle.instruments.specs.declared.model.Amount.TheVariants.{Number, Copy, Plus, Minus, Entry}
 use Rattle.instruments.specs.declared.model.Set.{Set}
 use Rattle.instruments.specs.Seen.{SeenPort, SeenOut, SeenRow, SeenModel, seen_model}
-use Rattle.instruments.specs.After.{memory_width, width_of}
+use Rattle.instruments.specs.After.{width_of}
 use Rattle.instruments.specs.Models.{IsWidth, IsBelow, IsOut, IsOperand, IsPresent, IsCond, IsSource, IsIndex, IsAmount, IsSlot, IsNoCopy, IsSet, IsRow, IsRunRow, IsModel, memory_names, names, operand_width, target}
 use Rattle.instruments.specs.declared.model.Model.{Model}
 use Rattle.table_file.specs.declared.table.Table.{Table}
@@ -31,7 +31,9 @@ use Rattle.bench_file.specs.declared.fault.FitsFault.{FitsFault}
 use Rattle.bench_file.specs.declared.fault.FitsFault.TheVariants.{PortWidth}
 use Rattle.bench_file.specs.Fits.{in_port, out_port, in_ports, out_ports, model_out_port, model_out_ports, same_port, among, same_ports, has_ports, ModelFits, EachFits, ModelsFit, input_names, moved, operand_moved, cond_moved, slot_moved, amount_moved, set_moved, row_moved, no_out, out_named, arranged, table_named, inst_path, in_front, one_model, models_from, unless, missing, extra, fitted, misfit, FittedModelsFit}
 use Rattle.bench_file.proofs.Modelling.{no_misfit}
-use Rattle.bench_file.proofs.Places.{in_map, IsAt, place, second_apart, not_both, both_apart}
+use Rattle.bench_file.proofs.Places.{IsAt, place, second_apart, not_both}
+use Rattle.ij_bits.proofs.Contained.{all_contained, map_in}
+use Rattle.ij_bits.proofs.Different.{different_more}
 
 -- ---- ports that both have
 
@@ -55,13 +57,6 @@ all_among : (xs ys : List SeenPort) → list_all (among ys) xs ≡ true → (x :
 all_among [] ys h x (k, lt, e) = absurd (omega (arith, lt))
 all_among (z ∷ zs) ys h x (zero, lt, e) = subst (Contains ys) e (is_among ys z (and_parts (among ys z) (list_all (among ys) zs) h).0)
 all_among (z ∷ zs) ys h x (suc k, lt, e) = all_among zs ys (and_parts (among ys z) (list_all (among ys) zs) h).1 x (k, omega (arith, lt), e)
-
-each_of : {A : Type 0} (P : A → Type 0) (xs : List A) → ((x : A) → Contains xs x → P x) → All P xs
-each_of P [] h = All-nil P
-each_of {A} P (x ∷ xs) h = All-cons P x xs (h x (zero, omega arith, refl)) (each_of P xs (λ y c. h y (behind y c)))
-  where
-    behind : (y : A) → Contains xs y → Contains (x ∷ xs) y
-    behind y (k, lt, e) = (suc k, omega (arith, lt), e)
 
 from_map : {A B : Type 0} (f : A → B) (xs : List A) (y : B) → Contains (map f xs) y → (x : A) × Contains xs x × (f x ≡ y)
 from_map f [] y (k, lt, e) = absurd (omega (arith, lt))
@@ -267,7 +262,7 @@ module _ (net : Net) (inst : Inst) (m : SeenModel) (is : IsInst net inst) (model
   not_rest : (n : List ℕ) → Contains (input_names P) n → Contains rest n → ⊥
   not_rest n c d =
       let (p, there, same) = from_map (λ (p : SeenPort). p.name) P n c in
-      not_both (map (λ d. d.name) m.ins) rest n model.names (subst (Contains (map (λ d. d.name) m.ins)) same (in_map (λ (d : SeenPort). d.name) m.ins p (new_in_old p there))) d
+      not_both (map (λ d. d.name) m.ins) rest n model.names (subst (Contains (map (λ d. d.name) m.ins)) same (map_in (λ (d : SeenPort). d.name) m.ins p (new_in_old p there))) d
 
   pub arranged_fits : ModelFits inst new
   arranged_fits = record {
@@ -278,12 +273,12 @@ module _ (net : Net) (inst : Inst) (m : SeenModel) (is : IsInst net inst) (model
       few_rows = omega (arith, length-map m.change (row_moved Q P), length-map m.run (row_moved Q P), model.few_rows);
       words = model.words;
       memory = model.memory;
-      ins = each_of (λ (port : SeenPort). IsWidth port.width) P (λ p c. All-contains (λ (port : SeenPort). IsWidth port.width) m.ins p model.ins (new_in_old p c));
+      ins = all_contained (λ (port : SeenPort). IsWidth port.width) P (λ p c. All-contains (λ (port : SeenPort). IsWidth port.width) m.ins p model.ins (new_in_old p c));
       outs = outs_well O out_found;
       change = all_moved (IsRow m) (IsRow new) (row_moved Q P) one_row m.change model.change;
       run = all_moved (IsRow m) (IsRow new) (row_moved Q P) one_row m.run model.run;
       runs = all_moved IsRunRow IsRunRow (row_moved Q P) one_run m.run model.runs;
-      names = both_apart (input_names P) rest names_apart (second_apart (map (λ d. d.name) m.ins) rest model.names) not_rest;
+      names = different_more (input_names P) rest names_apart (second_apart (map (λ d. d.name) m.ins) rest model.names) not_rest;
       out_names = subst AreDifferent (port_names inst.outs.items ∙ ap input_names (sym outs_are) ∙ sym (out_names_are new.outs)) is.output_names;
     };
     ins = refl;

@@ -1,18 +1,12 @@
 -- Where something of a name stands, and lists of different names.
-use Rattle.std.proofs.Common.{◌≡◌, ◌⊎◌, inl, inr, ℕ, zero, suc, ◌+◌, ◌<◌, ◌≤◌, Bool, true, false, cond, List, [], ◌∷◌, ◌++◌, length, map, Option, Some, None, get_or, refl, ap, sym, ◌∙◌, subst, arith}
-use Rattle.std.specs.Prelude.{Contains, All, unwrap_or}
+use Rattle.std.proofs.Common.{◌≡◌, ℕ, zero, suc, ◌+◌, ◌<◌, Bool, true, false, cond, List, [], ◌∷◌, ◌++◌, length, map, Some, get_or, refl, ap, sym, ◌∙◌, subst, arith}
+use Rattle.std.specs.Prelude.{Contains, unwrap_or}
 use Rattle.std.specs.Str.{bytes_eq}
 use Rattle.std.proofs.lemmas.Slice.Eq.{bytes_eq-Decides}
-use Rattle.std.proofs.lemmas.List.Elements.{Contains-append_left, Contains-append_right, Contains-append_cases}
+use Rattle.std.proofs.lemmas.List.Elements.{Contains-append_right}
 use Rattle.ij_bits.specs.Different.{AreDifferent}
 use Rattle.table_file.specs.Tables.{named_from, named}
-
-pub in_map : {A B : Type 0} (f : A → B) (xs : List A) (x : A) → Contains xs x → Contains (map f xs) (f x)
-in_map f [] x (k, lt, e) = absurd (omega (arith, lt))
-in_map f (y ∷ ys) x (zero, lt, e) = (zero, omega arith, ap f e)
-in_map f (y ∷ ys) x (suc k, lt, e) =
-    let (j, within, at) = in_map f ys x (k, omega (arith, lt), e) in
-    (suc j, omega (arith, within), at)
+use Rattle.ij_bits.proofs.Contained.{map_in}
 
 module _ {A : Type 0} (f : A → List ℕ) where
   record IsPlace (j : ℕ) (ys : List A) (x : A) : Type 0 where
@@ -23,7 +17,7 @@ module _ {A : Type 0} (f : A → List ℕ) where
 
   one_later : (j : ℕ) (y : A) (ys : List A) (x : A) → AreDifferent (map f (y ∷ ys)) → Contains ys x → IsPlace (j + 1) ys x → (b : Bool) → bytes_eq (f x) (f y) ≡ b → IsPlace j (y ∷ ys) x
   one_later j y ys x apart inside rest true same =
-      absurd (apart.0 (subst (Contains (map f ys)) ((bytes_eq-Decides (f x) (f y)).0 same) (in_map f ys x inside)))
+      absurd (apart.0 (subst (Contains (map f ys)) ((bytes_eq-Decides (f x) (f y)).0 same) (map_in f ys x inside)))
   one_later j y ys x apart inside rest false other =
       let next : j + 1 + rest.k ≡ j + suc rest.k = omega arith in
       record {
@@ -73,15 +67,3 @@ pub not_both : {A : Type 0} (xs ys : List A) (z : A) → AreDifferent (xs ++ ys)
 not_both [] ys z h (k, lt, e) c = absurd (omega (arith, lt))
 not_both (x ∷ xs) ys z h (zero, lt, e) c = h.0 (subst (Contains (xs ++ ys)) (sym e) (Contains-append_right xs ys z c))
 not_both (x ∷ xs) ys z h (suc k, lt, e) c = not_both xs ys z h.1 (k, omega (arith, lt), e) c
-
-pub both_apart : {A : Type 0} (xs ys : List A) → AreDifferent xs → AreDifferent ys → ((z : A) → Contains xs z → Contains ys z → ⊥) → AreDifferent (xs ++ ys)
-both_apart [] ys hx hy not = hy
-both_apart {A} (x ∷ xs) ys hx hy not =
-    ((λ c. either (Contains-append_cases xs ys x c)), both_apart xs ys hx.1 hy (λ z cx cy. not z (behind z cx) cy))
-  where
-    behind : (z : A) → Contains xs z → Contains (x ∷ xs) z
-    behind z (k, lt, e) = (suc k, omega (arith, lt), e)
-
-    either : (Contains xs x ⊎ Contains ys x) → ⊥
-    either (inl c) = hx.0 c
-    either (inr c) = not x (zero, omega arith, refl) c

@@ -9,6 +9,7 @@ use Rattle.std.proofs.lemmas.List.FromFn.{get_or-map-range_with_len, length-map-
 use Rattle.ij_bits.specs.BitLists.{number_of, bits_of}
 use Rattle.ij_text.specs.Numbers.{InDecimal, InBits, bits_in}
 use Rattle.bench_lines.specs.Words.{is_one}
+use Rattle.ij_bits.proofs.WordBits.{length-bits_of}
 
 pub start : (f : Option Bool → Bool) (width : ℕ) (xs : List (Option Bool)) → 0 ≡ number_of (map f (drop (width - 0) (bits_in width (InBits xs))))
 start f width xs =
@@ -46,7 +47,7 @@ all_of f width k n xs end so_far =
     so_far ∙ ap (λ j. number_of (map f (drop j (bits_in width (InBits xs))))) none
 
 -- the lowest bits of a decimal
-some_one : (bits : List Bool) → map is_one (map (λ bit. Some bit) bits) ≡ bits
+pub some_one : (bits : List Bool) → map is_one (map (λ bit. Some bit) bits) ≡ bits
 some_one [] = refl
 some_one (b ∷ bs) = ap (λ xs. b ∷ xs) (some_one bs)
 
@@ -78,12 +79,8 @@ all_some (b ∷ bs) =
     let rest = all_some bs in
     omega (arith, up, some, rest)
 
-bits_long : (width n : ℕ) → length (bits_of width n) ≡ width
-bits_long zero n = refl
-bits_long (suc width) n = ap suc (bits_long width (n / 2))
-
 pub known_bits : (width n : ℕ) → number_of (map is_some (bits_in width (InDecimal n))) ≡ 2 ^ width - 1
-known_bits width n = all_some (bits_of width n) ∙ ap (λ k. 2 ^ k - 1) (bits_long width n)
+known_bits width n = all_some (bits_of width n) ∙ ap (λ k. 2 ^ k - 1) (length-bits_of width n)
 
 pub shifted_one : (width : ℕ) → width ≤ 64 → 1 * 2 ^ width % 2 ^ 128 - 1 ≡ 2 ^ width - 1
 shifted_one width few =

@@ -82,7 +82,7 @@ no_more_blanks (b ∷ bs) = blanks_end b bs (is_line_blank b) refl (no_more_blan
 
 -- ---- words
 
-of_word : {A : Type 0} (x y : Bool) (p q r : A) → not (x || y) ≡ true → cond x p (cond y q r) ≡ r
+pub of_word : {A : Type 0} (x y : Bool) (p q r : A) → not (x || y) ≡ true → cond x p (cond y q r) ≡ r
 of_word true y p q r h = absurd (cc)
 of_word false true p q r h = absurd (cc)
 of_word false false p q r h = refl

@@ -1,6 +1,5 @@
 -- Compares clock by clock.
 use Rattle.std.proofs.Common.{◌≡◌, ℕ, ◌+◌, ◌≤◌, Bool, true, false, cond, List, [], ◌∷◌, ◌++◌, length, Option, Some, None, refl, ap, sym, ◌∙◌, arith, append_assoc, append-nil, length-append}
-use Rattle.std.specs.Prelude.{Result, Ok, Err, OnOk, OnErr}
 use Rattle.net_graph.specs.declared.step.ReadBit.{ReadBit}
 use Rattle.ij_bits.specs.BitLists.{same_bit}
 use Rattle.net_bench.specs.Bench.{Chip, State, clock, tdo}
@@ -36,15 +35,6 @@ pub line_is : (names : Names) (p : Pins) (expect found : Bool) (read : Option Re
 line_is names p expect found read is =
     ap (λ (r : Option ReadBit). differ_text (record { scan = p.scan; bit = p.bit; expect = expect; found = found; read = r })) is
     ∙ sym (append-nil (line names (compare_at p expect found)))
-
--- what holds of a result, by what holds of it already
-pub at_ok : {T E P Q : Type 0} (result : Result T E) → (P → Q) → OnOk result P → OnOk result Q
-at_ok (Ok x) f p = f p
-at_ok (Err e) f p = tt
-
-pub at_err : {T E P Q : Type 0} (result : Result T E) → (P → Q) → OnErr result P → OnErr result Q
-at_err (Ok x) f p = tt
-at_err (Err e) f p = f p
 
 pub few_of : (o : Option Bool) (scan bit : ℕ) (found : Bool) → length (differing (compare_of o scan bit found)) ≤ 1
 few_of None scan bit found = omega arith

@@ -1,7 +1,6 @@
 -- The report of a whole play from power-up.
-use Rattle.std.proofs.Common.{◌≡◌, ℕ, List, [], ◌∷◌, length, map, refl, ap, ◌∙◌}
-use Rattle.instruments.specs.After.{machine_of}
-use Rattle.instruments.specs.Machine.{Machine, count_log}
+use Rattle.std.proofs.Common.{◌≡◌, ℕ, List, length, map, ap, ◌∙◌}
+use Rattle.instruments.specs.Machine.{count_log}
 use Rattle.instruments.specs.Seen.{seen_model}
 use Rattle.instruments.specs.declared.Counts.{Counts}
 use Rattle.instruments.specs.declared.model.Model.{Model}
@@ -16,10 +15,7 @@ use Rattle.net_bench.specs.Playing.{after_pins, compares, differing, play_from}
 use Rattle.runners.specs.Runners.{machines_of}
 use Rattle.report.specs.Totalled.{play_text}
 use Rattle.bench_report.specs.Report.{chip, chip_of, differs_of, state_text}
-
-machines_are : (models : List Model) → machines_of models ≡ map machine_of (map seen_model models)
-machines_are [] = refl
-machines_are (m ∷ ms) = ap (λ (l : List Machine). machine_of (seen_model m) ∷ l) (machines_are ms)
+use Rattle.runners.proofs.Machines.{machines_are}
 
 module _ (net : Net) (models : List Model) (b : SeenBench) (ps : List Pins) (cs : List SeenCommand) (n : b.net ≡ net) (m : b.models ≡ models) (st : b.state ≡ power_up (chip_of b)) (p : ps ≡ pins InReset 0 cs) where
   chip_is : chip_of b ≡ chip net b.device (map seen_model models)

@@ -1,7 +1,6 @@
 -- Items that are added one after the other, and the lists that they are made of.
 use Rattle.std.proofs.Common.{◌≡◌, List, [], ◌∷◌, ◌++◌, map, ap, ◌∙◌, subst, append_assoc}
 use Rattle.std.proofs.lemmas.List.{map-append}
-use Rattle.std.specs.Prelude.{Result, Ok, Err, OnOk}
 use Rattle.icl_syntax.specs.Values.{SeenItem}
 use Rattle.design_maker.specs.Parts.{HasAdded, seen_items}
 use Rattle.design_maker.specs.declared.items.Items.{Items}
@@ -26,8 +25,3 @@ alone {A} {B} view {xs} {x} {y} one seen = ap (map view) one ∙ ap (λ z. z ∷
 
 pub both : {A B C : Type 0} (f : A → B → C) {a x : A} {b y : B} → a ≡ x → b ≡ y → f a b ≡ f x y
 both {A} {B} {C} f {a} {x} {b} {y} first second = ap (λ z. f z b) first ∙ ap (f x) second
-
--- what the last call adds, where it adds it
-pub at_last : {T E P Q : Type 0} (result : Result T E) → (P → Q) → OnOk result P → OnOk result Q
-at_last (Ok x) f p = f p
-at_last (Err e) f p = tt

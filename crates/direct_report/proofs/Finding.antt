@@ -8,12 +8,8 @@ use Rattle.net_graph.specs.declared.step.ReadBit.{ReadBit}
 use Rattle.net_graph.specs.Path.{same_place}
 use Rattle.net_graph.proofs.Places.{place_is}
 use Rattle.direct_report.specs.Marked.{marked}
-
-first_in : {A : Type 0} (x : A) (xs : List A) → Contains (x ∷ xs) x
-first_in x xs = (0, omega arith, refl)
-
-later_in : {A : Type 0} (x y : A) (xs : List A) → Contains xs y → Contains (x ∷ xs) y
-later_in x y xs h = (suc h.0, let k = h.1 in omega (arith, k), h.2)
+use Rattle.std.proofs.lemmas.Bool.{cond-false}
+use Rattle.ij_bits.proofs.Contained.{first_in, later_in}
 
 abbrev pub bits_in : List ReadBit → List BitId
 bits_in reads = map (λ r. r.bit) reads
@@ -21,13 +17,9 @@ bits_in reads = map (λ r. r.bit) reads
 abbrev pub at : BitId → ReadBit → Bool
 at b r = same_place b r.bit
 
-cond_is : {A : Type 0} (b : Bool) (x y : A) → b ≡ false → cond b x y ≡ y
-cond_is true x y e = absurd cc
-cond_is false x y e = refl
-
 none_more : (r : ReadBit) (rs : List ReadBit) (b : BitId) (p : Bool) → at b r ≡ p → (Contains (bits_in (r ∷ rs)) b → ⊥) → filter (at b) rs ≡ [] → filter (at b) (r ∷ rs) ≡ []
 none_more r rs b true e h rest = absurd (h (subst (λ (x : BitId). Contains (x ∷ bits_in rs) b) (place_is b r.bit e) (first_in b (bits_in rs))))
-none_more r rs b false e h rest = cond_is (at b r) (r ∷ filter (at b) rs) (filter (at b) rs) e ∙ rest
+none_more r rs b false e h rest = cond-false (at b r) (r ∷ filter (at b) rs) (filter (at b) rs) e ∙ rest
 
 -- a bit that isn't read has no reads
 pub none_at : (reads : List ReadBit) (b : BitId) → (Contains (bits_in reads) b → ⊥) → filter (at b) reads ≡ []
@@ -51,7 +43,7 @@ once_more r rs b true e a rest =
     let none : filter (at b) rs ≡ [] = none_at rs b (subst (λ (x : BitId). Contains (bits_in rs) x → ⊥) (sym (place_is b r.bit e)) a.0) in
     let is : filter (at b) (r ∷ rs) ≡ r ∷ [] = ap (λ (p : Bool). cond p (r ∷ filter (at b) rs) (filter (at b) rs)) e ∙ ap (λ (xs : List ReadBit). r ∷ xs) none in
     omega (arith, ap length is)
-once_more r rs b false e a rest = omega (arith, ap length (cond_is (at b r) (r ∷ filter (at b) rs) (filter (at b) rs) e), rest)
+once_more r rs b false e a rest = omega (arith, ap length (cond-false (at b r) (r ∷ filter (at b) rs) (filter (at b) rs) e), rest)
 
 -- at most one read is of a bit
 pub once_at : (reads : List ReadBit) (b : BitId) → AreDifferent (bits_in reads) → length (filter (at b) reads) ≤ 1
@@ -82,7 +74,7 @@ mark_is_none (x ∷ xs) (suc (suc k)) l e = let n = mark_is_none xs (suc k) (ome
 none_pass : {A : Type 0} (p : A → Bool) (x : A) (xs : List A) (t : Bool) → p x ≡ t → list_any p (x ∷ xs) ≡ false → (list_any p xs ≡ false → filter p xs ≡ []) → filter p (x ∷ xs) ≡ []
 none_pass p x xs true e f rest = let g : (true || list_any p xs) ≡ false = sym (ap (λ (u : Bool). u || list_any p xs) e) ∙ f in absurd cc
 none_pass p x xs false e f rest =
-    cond_is (p x) (x ∷ filter p xs) (filter p xs) e ∙ rest (sym (ap (λ (u : Bool). u || list_any p xs) e) ∙ f)
+    cond-false (p x) (x ∷ filter p xs) (filter p xs) e ∙ rest (sym (ap (λ (u : Bool). u || list_any p xs) e) ∙ f)
 
 pub none_passes : {A : Type 0} (p : A → Bool) (xs : List A) → list_any p xs ≡ false → filter p xs ≡ []
 none_passes p [] e = refl

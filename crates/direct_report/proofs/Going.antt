@@ -1,7 +1,7 @@
 -- Rounds that are told and done one after the other.
-use Rattle.std.proofs.Common.{◌≡◌, ◌+◌, ◌<◌, ◌≤◌, ℕ, Bool, List, [], ◌∷◌, ◌++◌, Option, length, get_or, drop, refl, sym, ap, ◌∙◌, subst, arith, length-append}
-use Rattle.std.specs.Prelude.{map, filter, All}
-use Rattle.std.proofs.lemmas.List.{at_drop_more, at_drop_all, get_or-map, length-map}
+use Rattle.std.proofs.Common.{◌≡◌, ◌+◌, ◌<◌, ◌≤◌, ℕ, Bool, List, [], ◌++◌, Option, length, get_or, drop, refl, sym, ap, ◌∙◌, subst, arith, length-append}
+use Rattle.std.specs.Prelude.{map, filter}
+use Rattle.std.proofs.lemmas.List.{at_drop_all, length-map}
 use Rattle.std.proofs.lemmas.List.Elements.{All-weaker, filter-append}
 use Rattle.ij_io.specs.Bytes.{Adds, AddsPart}
 use Rattle.ij_io.proofs.Fronts.{AddsFront, front_start, front_next, front_part, front_all}
@@ -25,6 +25,7 @@ use Rattle.direct_report.specs.Going.{AreCounted, AreReads, IsAfterWrites, Stand
 use Rattle.direct_report.specs.Report.{differs, in_order, lines, rounds_lines}
 use Rattle.direct_report.specs.Seen.{found_all}
 use Rattle.direct_report.proofs.Ordering.{reads_are_few}
+use Rattle.net_graph.proofs.Groups.{left_next}
 
 -- the reads of a round
 pub reads_of_group : (net : Net) (g : SeenGroup) → IsNet net → IsGroup net g → AreReads net g.reads
@@ -34,15 +35,6 @@ reads_of_group net g n is =
       once = is.read_once;
       few = reads_are_few net g n is;
     }
-
--- what holds of each round's view holds of the next one's
-pub seen_next : (P : SeenGroup → Type 0) (gs : List Group) (g : Group) (i : ℕ) → All P (map seen_group gs) → i < length gs → g ≡ get_or gs i g → P (seen_group g)
-seen_next P gs g i a l is =
-    subst P (get_or-map seen_group gs i g (seen_group g) l ∙ ap seen_group (sym is)) (a i (seen_group g) (omega (arith, l, length-map gs seen_group)))
-
-left_next : (gs : List Group) (g : Group) (i : ℕ) → i < length gs → g ≡ get_or gs i g → map seen_group (drop i gs) ≡ seen_group g ∷ map seen_group (drop (i + 1) gs)
-left_next gs g i l is =
-    at_drop_more (map seen_group) gs i g l ∙ ap (λ (x : Group). seen_group x ∷ map seen_group (drop (i + 1) gs)) (sym is)
 
 -- what is found where a run stands for a meaning
 found_same : (s : SeenState) (net : Net) (models : List Model) (e : Direct Counts) → s.net ≡ net → s.models ≡ models → StandsFor s e → (reads : List ReadBit) → found_all s reads ≡ map (found count_log net (machines_of models) e) reads

@@ -1,5 +1,5 @@
 -- What is kept of a meaning, from step to step.
-use Rattle.std.proofs.Common.{◌≡◌, ◌+◌, ℕ, List, [], ◌∷◌, ◌++◌, length, refl, ap, ◌∙◌, arith}
+use Rattle.std.proofs.Common.{◌≡◌, ◌+◌, ℕ, List, ◌++◌, length, ap, ◌∙◌, arith}
 use Rattle.std.specs.Prelude.{map}
 use Rattle.instruments.specs.After.{machine_of}
 use Rattle.instruments.specs.Machine.{Machine, Reset as ResetEvent, count_log}
@@ -20,10 +20,7 @@ use Rattle.runners.specs.Runners.{machines_of}
 use Rattle.direct_report.specs.Going.{AreCounted, StandsFor}
 use Rattle.direct_report.specs.Kept.{Kept, Keeps}
 use Rattle.direct_report.specs.Report.{differing, end_text, rounds_lines, step_lines}
-
-pub machines_are : (models : List Model) → machines_of models ≡ map machine_of (map seen_model models)
-machines_are [] = refl
-machines_are (m ∷ ms) = ap (λ (l : List Machine). machine_of (seen_model m) ∷ l) (machines_are ms)
+use Rattle.runners.proofs.Machines.{machines_are}
 
 -- a run that stands for a meaning, with the meaning's reads, is the meaning
 pub same_as : (s : SeenState) (d : Direct Counts) → s.holds ≡ d.holds → s.insts ≡ d.insts → with_reads s d.reads ≡ d

@@ -18,6 +18,8 @@ use Rattle.direct_report.specs.Laws.{OrderKeepsReads, ReadsAreFew}
 use Rattle.direct_report.specs.Report.{all_bits, bits_of_registers, in_order, reads_at, reads_on}
 use Rattle.direct_report.proofs.Finding.{at, once_at}
 use Rattle.direct_report.proofs.Lining.{told_at}
+use Rattle.ij_bits.proofs.Tests.{up_to_or_past}
+use Rattle.net_graph.proofs.PlainNet.{length-bits_from}
 
 abbrev Read : Type 0
 Read = ReadBit × Bool
@@ -111,8 +113,8 @@ registers_both net c r n =
 
 in_this_register : (net : Net) (c : BitId) (r n : ℕ) → IsBitOf net c → r ≡ c.reg → times c (bits_of_registers net r (suc n)) ≡ 1
 in_this_register net c r n is place =
-    let wide : c.pos < width_of net r = subst (λ (q : ℕ). c.pos < width_of net q) (sym place) is in
-    let here = in_register c r 0 (width_of net r) place (omega arith) (omega (arith, wide)) in
+    let fits : c.pos < width_of net r = subst (λ (q : ℕ). c.pos < width_of net q) (sym place) is in
+    let here = in_register c r 0 (width_of net r) place (omega arith) (omega (arith, fits)) in
     let rest = later_registers net c (suc r) n (omega (arith, place)) in
     omega (arith, registers_both net c r n, here, rest)
 
@@ -128,18 +130,13 @@ in_registers net c r (suc n) is low high =
       | inr f ↦ let place = f.1 in in_later_register net c r n place (in_registers net c (suc r) n is (omega (arith, low, place)) (omega (arith, high)))
     ]
 
-less_or : (n r : ℕ) → (n ≤ r) ⊎ (r < n)
-less_or zero r = inl (omega arith)
-less_or (suc n) zero = inr (omega arith)
-less_or (suc n) (suc r) = elim (less_or n r) [ inl h ↦ inl (omega (arith, h)) | inr h ↦ inr (omega (arith, h)) ]
-
 no_width : (net : Net) (r : ℕ) → length net.regs.items ≤ r → width_of net r ≡ 0
 no_width net r h =
     get_or_past (map (λ (reg : Reg). reg.width) net.regs.items) r 0 (omega (arith, h, length-map net.regs.items (λ (reg : Reg). reg.width)))
 
 register_there : (net : Net) (c : BitId) → IsBitOf net c → c.reg < length net.regs.items
 register_there net c is =
-    elim (less_or (length net.regs.items) c.reg) [
+    elim (up_to_or_past (length net.regs.items) c.reg) [
       | inl h ↦ let none = no_width net c.reg h in absurd (omega (arith, is, none))
       | inr h ↦ h
     ]
@@ -203,10 +200,6 @@ fewer : (xs : List Read) (bs : List BitId) → ((b : BitId) → length (reads_at
 fewer xs [] h = omega arith
 fewer xs (b ∷ bs) h = omega (arith, length-append (reads_at xs b) (reads_on xs bs), h b, fewer xs bs h)
 
-wide : (r k n : ℕ) → length (bits_from r k n) ≡ n
-wide r k zero = refl
-wide r k (suc n) = ap suc (wide r (suc k) n)
-
 all_wide : (net : Net) (r n : ℕ) → r + n ≡ length net.regs.items → length (bits_of_registers net r n) ≡ sum (drop r (map (λ reg. reg.width) net.regs.items))
 all_wide net r zero e = sym (ap sum (gone (map (λ reg. reg.width) net.regs.items) r (omega (arith, e, length-map net.regs.items (λ (reg : Reg). reg.width)))))
   where
@@ -220,7 +213,7 @@ all_wide net r (suc n) e =
     let within : r < length ws = omega (arith, e, length-map net.regs.items (λ (reg : Reg). reg.width)) in
     let rest = all_wide net (suc r) n (omega (arith, e)) in
     let next : sum (drop r ws) ≡ width_of net r + sum (drop (suc r) ws) = ap sum (drop-cons ws r 0 within) ∙ sum_by-cons (λ x. x) (width_of net r) (drop (suc r) ws) in
-    omega (arith, rest, next, wide r 0 (width_of net r), length-append (bits_from r 0 (width_of net r)) (bits_of_registers net (suc r) n))
+    omega (arith, rest, next, length-bits_from r 0 (width_of net r), length-append (bits_from r 0 (width_of net r)) (bits_of_registers net (suc r) n))
 
 pub reads_are_few : ReadsAreFew
 reads_are_few net g n is =

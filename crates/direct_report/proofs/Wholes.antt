@@ -1,5 +1,5 @@
 -- Bit steps that are done and printed one after the other.
-use Rattle.std.proofs.Common.{◌≡◌, ◌≤◌, ◌<◌, ◌+◌, ◌*◌, ◌^◌, ℕ, suc, Option, List, [], ◌∷◌, ◌++◌, length, map, refl, sym, ap, ◌∙◌, subst, arith, append_assoc}
+use Rattle.std.proofs.Common.{◌≡◌, ◌≤◌, ◌<◌, ◌+◌, ◌*◌, ◌^◌, ℕ, suc, Option, List, [], ◌∷◌, ◌++◌, length, map, refl, sym, ap, ◌∙◌, subst, arith}
 use Rattle.std.specs.Prelude.{All}
 use Rattle.std.proofs.lemmas.List.Elements.{All-head, All-tail}
 use Rattle.ij_io.specs.Bytes.{Adds, AddsPart}
@@ -10,13 +10,14 @@ use Rattle.instruments.specs.Machine.{count_log}
 use Rattle.instruments.specs.Seen.{SeenModel}
 use Rattle.instruments.specs.declared.Counts.{Counts}
 use Rattle.net_graph.specs.declared.net.Net.{Net}
-use Rattle.net_graph.specs.SeenSteps.{SeenStep, Apply, Run, Reset}
+use Rattle.net_graph.specs.SeenSteps.{SeenStep}
 use Rattle.net_graph.specs.Steps.{IsStep}
 use Rattle.pdl_meaning.specs.Direct.{Direct, do_step, do_all, power_up}
 use Rattle.pdl_targets.specs.Laws.{rounds_in, round_count}
 use Rattle.direct_report.specs.Kept.{Kept, Keeps}
 use Rattle.direct_report.specs.Report.{step_lines, steps_lines, end_text, direct_report}
 use Rattle.direct_report.specs.Whole.{lines_from, done_from, PrintsSteps, PrintsStepsPart, KeepsSteps}
+use Rattle.pdl_targets.proofs.Counted.{rounds_first}
 
 -- some steps are done and printed, and the others go on from here
 pub record GoesOn (first : Kept) (steps : List SeenStep) (d : Direct Counts) (old : Option (List ℕ)) (now : Kept) (left : List SeenStep) (new : Option (List ℕ)) : Type 0 where
@@ -97,11 +98,6 @@ module _ (first : Kept) (steps : List SeenStep) (old : Option (List ℕ)) where
 
 -- ---- the first step of some, and those behind it
 
-counted : (s : SeenStep) (later : List SeenStep) → rounds_in (s ∷ later) ≡ round_count s + rounds_in later
-counted (Apply rounds) later = refl
-counted (Run n) later = refl
-counted Reset later = refl
-
 module _ (left later : List SeenStep) (s : SeenStep) (e : left ≡ s ∷ later) where
   pub step_is : (net : Net) → All (IsStep net) left → IsStep net s
   step_is net a = All-head (IsStep net) s later (subst (All (IsStep net)) e a)
@@ -110,7 +106,7 @@ module _ (left later : List SeenStep) (s : SeenStep) (e : left ≡ s ∷ later) 
   steps_are net other same a = subst (λ (n : Net). All (IsStep n) later) (sym same) (All-tail (IsStep net) s later (subst (All (IsStep net)) e a))
 
   rounds_are : rounds_in left ≡ round_count s + rounds_in later
-  rounds_are = ap rounds_in e ∙ counted s later
+  rounds_are = ap rounds_in e ∙ rounds_first s later
 
   pub few_now : (reads : ℕ) → reads + 4096 * rounds_in left < 2 ^ 64 → reads + 4096 * round_count s < 2 ^ 64
   few_now reads l = omega (arith, l, rounds_are)

@@ -1,5 +1,5 @@
 -- Which kind of step a step is, its parts, and the first of some planned steps.
-use Rattle.std.proofs.Common.{◌≡◌, ℕ, List, [], ◌∷◌, length, ap, arith}
+use Rattle.std.proofs.Common.{◌≡◌, ℕ, List, [], ◌∷◌, ap}
 use Rattle.std.specs.Prelude.{get_or, map}
 use Rattle.net_graph.specs.SeenSteps.{SeenGroup, SeenStep, Apply, Run, Reset}
 use Rattle.group_scans.specs.Retargeting.{PlannedStep, seen_of}
@@ -21,8 +21,3 @@ cycles Reset = 0
 
 pub head_same : (x y : PlannedStep) (xs ys : List PlannedStep) → map seen_of (x ∷ xs) ≡ map seen_of (y ∷ ys) → seen_of x ≡ seen_of y
 head_same x y xs ys e = ap (λ ss. get_or ss 0 (seen_of x)) e
-
-pub no_head : {X : Type 0} (x : X) (xs : List X) → [] ≡ x ∷ xs → ⊥
-no_head x xs e =
-    let l = ap length e in
-    omega (arith, l)

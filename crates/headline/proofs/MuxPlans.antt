@@ -27,16 +27,11 @@ use Rattle.headline.specs.Headline.{PlaysOn}
 use Rattle.headline.specs.Planned.{ExpectsReads, IsOpening, IsPlannedRound, IsPlanned}
 use Rattle.headline.proofs.MuxExamples.{dev, mux_by, row, shift_in, thing, rounds_net, first_round, second_round, rounds_script}
 use Rattle.headline.proofs.PlannedScripts.{planned_scripts_play}
+use Rattle.ij_bits.proofs.Contained.{none_in, only_in}
+use Rattle.net_graph.proofs.PlainNet.{some_path, named_instance}
 
 abbrev bit : ℕ → ℕ → BitId
 bit r p = record { reg = r; pos = p }
-
-no_item : {X : Type 0} (c : X) → Contains [] c → ⊥
-no_item c h = omega (arith, h.1)
-
-only : {X : Type 0} (x c : X) → Contains (x ∷ []) c → c ≡ x
-only x c (zero, l, e) = sym e
-only x c (suc n, l, e) = absurd (omega (arith, l))
 
 -- ---- the network
 
@@ -94,11 +89,6 @@ select_thing : IsThing rounds_net (thing 2 1 83)
 select_thing =
     record { node = omega arith; named = refl; wide = refl; bits_within_limit = omega arith; spots = All-cons (IsSpotOf rounds_net) (Held (bit 2 0)) [] (omega arith) (All-nil (IsSpotOf rounds_net)); words = All-nil _; word_names = tt }
 
-some_path : (x : List ℕ) → [] ≡ x ∷ [] → ⊥
-some_path x e =
-    let n : 0 ≡ 1 = ap length e in
-    omega (arith, n)
-
 abbrev letter : ℕ → ℕ × List ℕ
 letter c = (1, c ∷ [])
 
@@ -111,7 +101,7 @@ no_second (suc zero, l, e) = let n : 83 ≡ 65 = letters_differ 83 65 e in omega
 no_second (suc (suc k), l, e) = omega (arith, l)
 
 no_third : Contains (letter 83 ∷ []) (letter 66) → ⊥
-no_third c = let n : 66 ≡ 83 = letters_differ 66 83 (only (letter 83) (letter 66) c) in omega (arith, n)
+no_third c = let n : 66 ≡ 83 = letters_differ 66 83 (only_in (letter 83) (letter 66) c) in omega (arith, n)
 
 abbrev IsNear : Node → Type 0
 IsNear node = length node.path.items ≤ 64
@@ -124,9 +114,6 @@ HasNames node = All IsNamed node.path.items
 
 abbrev instance_name : Listed ℕ
 instance_name = full (codes "net")
-
-named_instance : HasNames plain_instance
-named_instance = All-cons IsNamed instance_name [] refl (All-nil IsNamed)
 
 reg_things : HaveThings rounds_net
 reg_things zero l = refl
@@ -144,10 +131,10 @@ rounds_net_is_net =
       things = All-cons (IsThing rounds_net) _ (_ ∷ _ ∷ []) (wide_thing 0 65 refl (omega arith) (omega arith)) (All-cons (IsThing rounds_net) _ (_ ∷ []) (wide_thing 1 66 refl (omega arith) (omega arith)) (All-cons (IsThing rounds_net) _ [] select_thing (All-nil (IsThing rounds_net))));
       top = omega arith;
       top_path = refl;
-      node_paths = (λ c. some_path _ (only _ _ c), (no_item _, tt));
+      node_paths = (λ c. some_path _ (only_in _ _ c), (none_in _, tt));
       path_names = All-cons HasNames plain_top (plain_instance ∷ []) (All-nil IsNamed) (All-cons HasNames plain_instance [] named_instance (All-nil HasNames));
       inst_nodes = tt;
-      thing_names = (no_second, (no_third, (no_item _, tt)));
+      thing_names = (no_second, (no_third, (none_in _, tt)));
       reg_things = reg_things;
       bits_within_limit = omega arith;
       few_muxes = omega arith;
@@ -175,18 +162,18 @@ scan_written : (tdi : ℕ) → IsWrittenScan (shift_in 3 tdi)
 scan_written tdi =
     record { at_least_one_bit = omega arith; bits_within_limit = omega arith; given = refl; tdi = refl; tdo = tt; mask = tt; together = refl; smask = refl }
 
-expects_none : (n i : ℕ) (e : Bool) → get_or (replicate {A = Option Bool} n None) i None ≡ Some e → ⊥
+pub expects_none : (n i : ℕ) (e : Bool) → get_or (replicate {A = Option Bool} n None) i None ≡ Some e → ⊥
 expects_none zero i e g = true≢false (sym (ap is_some g))
 expects_none (suc n) zero e g = true≢false (sym (ap is_some g))
 expects_none (suc n) (suc i) e g = expects_none n i e g
 
 no_reads : (path : List ℕ) (holds : Holds) → ExpectsReads path holds [] (replicate 3 None)
 no_reads path holds =
-    record { compared = λ i e g. absurd (expects_none 3 i e g); read = λ r c. absurd (no_item r c) }
+    record { compared = λ i e g. absurd (expects_none 3 i e g); read = λ r c. absurd (none_in r c) }
 
 two_differ : (r : ℕ) → Contains (bit r 1 ∷ []) (bit r 0) → ⊥
 two_differ r c =
-    let n : 0 ≡ 1 = ap (λ (b : BitId). b.pos) (only (bit r 1) (bit r 0) c) in
+    let n : 0 ≡ 1 = ap (λ (b : BitId). b.pos) (only_in (bit r 1) (bit r 0) c) in
     omega (arith, n)
 
 writes_two : (r : ℕ) (v w : Bool) → IsBitOf rounds_net (bit r 0) → IsBitOf rounds_net (bit r 1) → is_select rounds_net (bit r 0) ≡ false → is_select rounds_net (bit r 1) ≡ false → IsGroup rounds_net (record { writes = record { bit = bit r 0; value = v } ∷ record { bit = bit r 1; value = w } ∷ []; reads = [] })
@@ -194,7 +181,7 @@ writes_two r v w a b c d =
     let At : WriteBit → Type 0 = λ w. IsDataBit rounds_net w.bit in
     record {
       written = All-cons At (record { bit = bit r 0; value = v }) (record { bit = bit r 1; value = w } ∷ []) (record { there = a; data_bit = c }) (All-cons At (record { bit = bit r 1; value = w }) [] (record { there = b; data_bit = d }) (All-nil At));
-      written_once = (two_differ r, (no_item (bit r 1), tt));
+      written_once = (two_differ r, (none_in (bit r 1), tt));
       read = All-nil _;
       read_once = tt;
       captured = All-nil _;

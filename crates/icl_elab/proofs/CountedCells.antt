@@ -16,6 +16,7 @@ use Rattle.icl_references.specs.Names.{Member, members_from}
 use Rattle.icl_references.specs.Roles.{PartOf, CellOf, part_width}
 use Rattle.icl_elab.specs.WellFormed.{is_register, is_mux, is_data_port, is_not_of_instrument, is_instrument, levels_from, width_that, count_that, AreInTree, AreCellsFew}
 use Rattle.icl_elab.proofs.CellsOfFrames.{IsPartOfMember, IsCellOfFrame}
+use Rattle.std.proofs.Math.Bool.{and_assoc}
 
 -- ---- lists that go together
 
@@ -155,16 +156,12 @@ any_cell : (f : Frame) (c : CellOf) (t : PartOf → Bool) (u : SeenWhat → Bool
 any_cell f c t u same within i =
     any_parts f t u same 0 (parts_of f.block) f.bounds c.parts i.parts ∙ any_within (λ (item : SeenItem). is_part item.what) (λ item. u item.what) (λ item h. within item.what h) f.block.items
 
-and_same : (a b c : Bool) → ((a && b) && c) ≡ (a && (b && c))
-and_same true b c = refl
-and_same false b c = refl
-
 -- an instrument's cell is an instrument's frame
 pub instrument_same : (f : Frame) (c : CellOf) → IsCellOfFrame f c → is_instrument c ≡ is_instrument_frame f
 instrument_same f c i =
     let ports = any_cell f c (λ p. is_data_port p.role) is_data_port_item (λ m p j. j.kind.4) (data_part (λ kind. is_data_in_kind kind || is_data_out_kind kind)) i in
     let barred = any_cell f c (λ p. is_not_of_instrument p.role) is_barred_item (λ m p j. j.kind.5) barred_part i in
-    and_same (is_some c.parent) (list_any (λ p. is_data_port p.role) c.parts) (not (list_any (λ p. is_not_of_instrument p.role) c.parts))
+    and_assoc (is_some c.parent) (list_any (λ p. is_data_port p.role) c.parts) (not (list_any (λ p. is_not_of_instrument p.role) c.parts))
     ∙ ap (λ (o : Option ℕ). is_some o && (list_any (λ p. is_data_port p.role) c.parts && not (list_any (λ p. is_not_of_instrument p.role) c.parts))) i.parent
     ∙ ap (λ (b : Bool). is_some f.parent && (b && not (list_any (λ p. is_not_of_instrument p.role) c.parts))) ports
     ∙ ap (λ (b : Bool). is_some f.parent && (list_any (λ item. is_data_port_item item.what) f.block.items && not b)) barred

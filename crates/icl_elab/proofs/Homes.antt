@@ -14,6 +14,7 @@ use Rattle.icl_elab.specs.Placing.{bound_by, bound_of, home_in, is_of_cell, part
 use Rattle.icl_parts.specs.FoundParts.{Found}
 use Rattle.icl_elab.specs.SeenCells.{seen_pass, seen_placed}
 use Rattle.icl_parts.proofs.Bound.{first_get, none_found}
+use Rattle.icl_references.proofs.Children.{or_none}
 
 -- ---- one part more, one cell more
 
@@ -26,10 +27,6 @@ part_more None q false t k = refl
 pub cell_more : (a b c : Option ℕ) → or_else (or_else a b) c ≡ or_else a (or_else b c)
 cell_more None b c = refl
 cell_more (Some n) b c = refl
-
-pub nothing_more : (o : Option ℕ) → or_else o None ≡ o
-nothing_more None = refl
-nothing_more (Some n) = refl
 
 -- ---- all cells
 
@@ -56,7 +53,7 @@ to_come c s zero (cell ∷ cells) =
     let yes : eqb (s + 0) s ≡ true = grind (arith, nat_tests) in
     ap (λ (t : Bool). or_else (cond t (position_from (is_of_cell c) 0 cell.parts.items) None) (home_from c (Some (s + 0)) (s + 1) cells)) yes
     ∙ ap (or_else (position_from (is_of_cell c) 0 cell.parts.items)) (passed c (s + 0) (s + 1) cells (omega arith))
-    ∙ nothing_more _
+    ∙ or_none _
 to_come c s (suc j) (cell ∷ cells) =
     let no : eqb (s + suc j) s ≡ false = grind (arith, nat_tests) in
     let n : s + suc j ≡ s + 1 + j = omega arith in

@@ -25,11 +25,11 @@ use Rattle.icl_elab.proofs.CountedCells.{count_cell, data_part, instrument_same,
 use Rattle.icl_elab.proofs.PartWords.{HasInner}
 use Rattle.icl_elab.proofs.Wiring.{hierarchies_are_wired}
 use Rattle.icl_elab.proofs.Worths.{AreWorths, frames_worths}
+use Rattle.ij_bits.proofs.Contained.{later_in}
+use Rattle.ij_bits.proofs.Everywhere.{all_kept}
+use Rattle.ij_bits.proofs.Lists.{filter_twice}
 
 -- ---- what is in a list
-
-contains_more : {A : Type 0} (x z : A) (xs : List A) → Contains xs z → Contains (x ∷ xs) z
-contains_more x z xs (k, l, e) = (suc k, omega (arith, l), e)
 
 -- ---- two lists of which the second has fewer items, under the same names
 
@@ -37,8 +37,8 @@ module _ {A B : Type 0} (f : A → List ℕ) (g : B → List ℕ) (x : A) (y : B
   among_more : (s t : Bool) → (t ≡ true → s ≡ true) → g y ≡ f x → (z : List ℕ) → (Contains (map g ys) z → Contains (map f xs) z)
       → Contains (map g (cond t (y ∷ ys) ys)) z → Contains (map f (cond s (x ∷ xs) xs)) z
   among_more true true w e z h (zero, l, q) = (zero, omega arith, sym e ∙ q)
-  among_more true true w e z h (suc k, l, q) = contains_more (f x) z (map f xs) (h (k, omega (arith, l), q))
-  among_more true false w e z h c = contains_more (f x) z (map f xs) (h c)
+  among_more true true w e z h (suc k, l, q) = later_in (f x) z (map f xs) (h (k, omega (arith, l), q))
+  among_more true false w e z h c = later_in (f x) z (map f xs) (h c)
   among_more false true w e z h c = absurd (true≢false (sym (w refl)))
   among_more false false w e z h c = h c
 
@@ -96,22 +96,9 @@ things_apart f n (item ∷ items) (b ∷ bs) (p ∷ ps) h d =
 signal_part : (what : SeenWhat) → is_signal what ≡ true → is_part what ≡ true
 signal_part what h = ap (λ (b : Bool). b || is_interface what || is_link what) h
 
-filter_within : {A : Type 0} (p q : A → Bool) → ((x : A) → q x ≡ true → p x ≡ true) → (xs : List A)
-    → filter q (filter p xs) ≡ filter q xs
-filter_within p q within [] = refl
-filter_within {A} p q within (x ∷ xs) = by_test (p x) refl (q x) refl (filter_within p q within xs)
-  where
-    by_test : (a : Bool) → p x ≡ a → (b : Bool) → q x ≡ b → filter q (filter p xs) ≡ filter q xs
-        → filter q (cond a (x ∷ filter p xs) (filter p xs)) ≡ cond b (x ∷ filter q xs) (filter q xs)
-    by_test true e true f h =
-        ap (λ (c : Bool). cond c (x ∷ filter q (filter p xs)) (filter q (filter p xs))) f ∙ ap (λ (l : List A). x ∷ l) h
-    by_test true e false f h = ap (λ (c : Bool). cond c (x ∷ filter q (filter p xs)) (filter q (filter p xs))) f ∙ h
-    by_test false e true f h = absurd (true≢false (sym (within x f) ∙ e))
-    by_test false e false f h = h
-
 pub thing_names : (f : Frame) (c : CellOf) → IsFrame f → IsCellOfFrame f c → AreDifferent (map name_of_part (things_in c))
 thing_names f c h i =
-    let same : signals (parts_of f.block) ≡ signals f.block.items = filter_within (λ (item : SeenItem). is_part item.what) (λ item. is_signal item.what) (λ item e. signal_part item.what e) f.block.items in
+    let same : signals (parts_of f.block) ≡ signals f.block.items = filter_twice (λ (item : SeenItem). is_part item.what) (λ item. is_signal item.what) (λ item e. signal_part item.what e) f.block.items in
     things_apart f 0 (parts_of f.block) f.bounds c.parts i.parts (subst (λ items. AreDifferent (map name_of_item items)) (sym same) h.signals)
 
 -- ---- the ports of an instrument
@@ -146,14 +133,6 @@ few_ports f c h i e =
 
 -- ---- names of ICL
 
-all_filter : {A : Type 0} (P : A → Type 0) (p : A → Bool) (xs : List A) → AllByRecursion P xs → AllByRecursion P (filter p xs)
-all_filter P p [] h = tt
-all_filter P p (x ∷ xs) h = by_test (p x) (all_filter P p xs h.1)
-  where
-    by_test : (b : Bool) → AllByRecursion P (filter p xs) → AllByRecursion P (cond b (x ∷ filter p xs) (filter p xs))
-    by_test true again = (h.0, again)
-    by_test false again = again
-
 -- a written item's part, in a module whose names differ
 parts_named : (f : Frame) (n : ℕ) (items : List SeenItem) (bs : List Bounds) (ps : List PartOf) → length bs ≡ length items
     → HasInner f → AreWorths f.params
@@ -177,7 +156,7 @@ cell_is f c h w worths i =
     let block = w.block in
     record {
       name = subst (λ (o : Option ℕ). IfSome o (λ parent. IsTrue (is_name c.name))) (sym i.parent) (subst (λ z. IfSome f.parent (λ parent. IsTrue (is_name z))) (sym i.name) w.name);
-      parts = parts_named f 0 (parts_of f.block) f.bounds c.parts h.all h.inner worths (all_filter IsWrittenItem (λ item. is_part item.what) f.block.items block.items) h.widths i.parts;
+      parts = parts_named f 0 (parts_of f.block) f.bounds c.parts h.all h.inner worths (all_kept IsWrittenItem (λ item. is_part item.what) f.block.items block.items) h.widths i.parts;
       thing_names = thing_names f c h i;
       ports = few_ports f c h i;
     }

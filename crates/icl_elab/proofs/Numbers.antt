@@ -23,9 +23,10 @@ use Rattle.icl_elab.specs.SecondPass.{cell_found, cells_of, second_pass}
 use Rattle.icl_elab.specs.Hierarchy.{bindings_of, with_bound, part_in, cell_in, put_together, hierarchy}
 use Rattle.icl_elab.specs.Laws.{is_port_role, is_interface_role, HasNumbers, IsChildOf, IsInstanceOf, IsPortOf, IsSelectedBy, IsNumbered, AreNumbered, HierarchiesAreNumbered}
 use Rattle.icl_frames.proofs.Answering.{both, ok_is, each_all, over_all}
-use Rattle.icl_references.proofs.Targets.{some_is, IsHere, known_is, child_there, named_there, member_there}
+use Rattle.icl_references.proofs.Targets.{IsHere, known_is, child_there, named_there, member_there}
 use Rattle.icl_frames.proofs.Paired.{Paired}
 use Rattle.icl_elab.proofs.Wiring.{each_paired, pair_at, get_map, here_at, all_here, all_true}
+use Rattle.std.proofs.lemmas.Option.{same_Some}
 
 -- ---- what is found passes the test
 
@@ -34,7 +35,7 @@ find_passes p [] y h = absurd cc
 find_passes {A} p (x ∷ xs) y h = by_test (p x) refl h (λ g. find_passes p xs y g)
   where
     by_test : (b : Bool) → p x ≡ b → cond b (Some x) (find p xs) ≡ Some y → (find p xs ≡ Some y → p y ≡ true) → p y ≡ true
-    by_test true e g again = subst (λ (z : A). p z ≡ true) (some_is x y g) e
+    by_test true e g again = subst (λ (z : A). p z ≡ true) (same_Some x y g) e
     by_test false e g again = again g
 
 is_in_same : (o : Option ℕ) (cell : ℕ) → is_in o cell ≡ true → o ≡ Some cell

@@ -17,6 +17,7 @@ use Rattle.icl_parts.specs.Bindings.{Bound, bind, all_whole}
 use Rattle.icl_parts.specs.FoundParts.{Found, found, words_named, first_scan, source_role, port_prop, port_role, register_prop, register_found, nothing_said, alias_prop, instance_found, port_number, selection, found_at, part_found}
 use Rattle.icl_elab.specs.Hierarchy.{with_bound}
 use Rattle.icl_elab.specs.WellFormed.{is_register, is_mux, is_data_in, is_data_out, is_data_port, is_thing, is_not_of_instrument}
+use Rattle.std.proofs.Math.Bool.{or-false}
 
 -- what the kind of an item says of a role
 abbrev pub IsOfKind : SeenWhat → Role → Type 0
@@ -38,10 +39,6 @@ IsPortOf kind has role =
     × (is_data_out role ≡ is_data_out_kind kind)
     × (is_data_port role ≡ (is_data_in_kind kind || is_data_out_kind kind))
     × (is_not_of_instrument role ≡ ((is_scan_in kind || is_scan_out kind) || (is_data_out_kind kind && has)))
-
-or_false : (a : Bool) → (a || false) ≡ a
-or_false true = refl
-or_false false = refl
 
 swapped : (a b c : Bool) → (b || (a || c)) ≡ ((a || b) || c)
 swapped true true c = refl
@@ -143,7 +140,7 @@ module _ (frames : List Frame) (here : Here) where
       → over (port_prop frames here kind m) (found (port_role frames here kind)) props ≡ Ok f
       → IsPortOf kind (list_any is_source props) f.role
   port_kind kind m f props h =
-      subst (λ (b : Bool). IsPortOf kind b f.role) (or_false (list_any is_source props)) (props_of kind false m (found (port_role frames here kind)) f props (first_role kind) h)
+      subst (λ (b : Bool). IsPortOf kind b f.role) (or-false (list_any is_source props)) (props_of kind false m (found (port_role frames here kind)) f props (first_role kind) h)
 
   -- ---- other parts
 

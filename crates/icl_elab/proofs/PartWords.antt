@@ -3,7 +3,7 @@ use Rattle.std.proofs.Common.{◌≡◌, ◌+◌, ◌-◌, ◌≤◌, ◌<◌, �
 use Rattle.std.specs.Prelude.{find, IfSome, nat_le}
 use Rattle.std.specs.List.{AllByRecursion}
 use Rattle.std.proofs.lemmas.Bool.{true≢false, and_parts, leb-true}
-use Rattle.std.proofs.lemmas.List.{length-append}
+use Rattle.std.proofs.lemmas.List.{length-append, length-map}
 use Rattle.std.proofs.lemmas.List.FromFn.{length-map-range_with_len}
 use Rattle.ij_bits.specs.Different.{AreDifferent}
 use Rattle.ij_text.specs.declared.Place.{Place}
@@ -200,10 +200,6 @@ named_long ps b (Some r) s h = let a = both (indices ps r) (stretch_of r.at b) s
 free_none : (holder at : Place) (b bits : OpenBits) → free_number holder at None b ≡ Ok bits → ⊥
 free_none holder at b bits h = cc
 
-map_long : {A B : Type 0} (f : A → B) (xs : List A) → length (map f xs) ≡ length xs
-map_long f [] = refl
-map_long f (x ∷ xs) = ap suc (map_long f xs)
-
 module _ (frames : List Frame) (here : Here) (worths : AreWorths here.frame.params) where
   number_long : (holder at : Place) (w : Worth) (bits : OpenBits) → IsWorth w → number_bits holder at None w ≡ Ok bits
       → 1 ≤ length bits
@@ -232,7 +228,7 @@ module _ (frames : List Frame) (here : Here) (worths : AreWorths here.frame.para
           let a = both (evaluate here.frame.params s.at e) _ rs g in
           let b = both (number_bits holder (place_in s.at e) None a.first) _ rs a.then' in
           let long = number_long holder (place_in s.at e) a.first b.first (evaluate_worth here.frame.params s.at e a.first worths a.is) b.is in
-          subst (λ (l : List Ref). 1 ≤ length l) (ok_is (constants s.inverted b.first) rs b.then') (subst (λ n. 1 ≤ n) (sym (map_long _ b.first)) long)
+          subst (λ (l : List Ref). 1 ≤ length l) (ok_is (constants s.inverted b.first) rs b.then') (subst (λ n. 1 ≤ n) (sym (length-map b.first _)) long)
       by_meant (APath path range) g = path_long s.at s.inverted path range rs g
 
   select_long : (holder : Place) (ss : List SeenSig) (rs : List Ref) → 1 ≤ length ss → select_signals frames here holder ss ≡ Ok rs

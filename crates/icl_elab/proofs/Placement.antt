@@ -25,20 +25,7 @@ use Rattle.icl_elab.specs.Preorder.{AreInstances}
 use Rattle.icl_elab.proofs.SameCells.{hierarchies_are_preorder}
 use Rattle.icl_elab.proofs.Wiring.{hierarchies_are_wired}
 use Rattle.icl_elab.proofs.Numbers.{hierarchies_are_numbered}
-
-first_is : {A : Type 0} (x y : A) (xs ys : List A) → x ∷ xs ≡ y ∷ ys → x ≡ y
-first_is {A} x y xs ys h = ap (first x) h
-  where
-    first : A → List A → A
-    first d [] = d
-    first d (z ∷ zs) = z
-
-rest_is : {A : Type 0} (x y : A) (xs ys : List A) → x ∷ xs ≡ y ∷ ys → xs ≡ ys
-rest_is {A} x y xs ys h = ap rest h
-  where
-    rest : List A → List A
-    rest [] = []
-    rest (z ∷ zs) = zs
+use Rattle.ij_bits.proofs.Lists.{head_same, tail_same}
 
 -- ---- parts
 
@@ -69,8 +56,8 @@ parts_are bs [] [] h = refl
 parts_are bs [] (p ∷ ps) h = absurd cc
 parts_are bs (m ∷ ms) [] h = absurd cc
 parts_are bs (m ∷ ms) (p ∷ ps) h =
-    let first = part_is bs m p (first_is _ _ _ _ h) in
-    let rest = parts_are bs ms ps (rest_is _ _ _ _ h) in
+    let first = part_is bs m p (head_same _ _ _ _ h) in
+    let rest = parts_are bs ms ps (tail_same _ _ _ _ h) in
     ap (λ (x : PartOf). x ∷ parts_with ps (map (port_of bs) ps)) first ∙ ap (λ (l : List PartOf). part_in bs (m, seen_placed p) ∷ l) rest
 
 -- ---- cells
@@ -81,8 +68,8 @@ cells_are founds s [] cs h = refl
 cells_are founds s (f ∷ fs) [] h = absurd cc
 cells_are founds s (f ∷ fs) (c ∷ cs) h =
     let bs = bindings_of founds s f.parent in
-    let first = parts_are bs (members f) c.parts.items (first_is _ _ _ _ h) in
-    let rest = cells_are founds (s + 1) fs cs (rest_is _ _ _ _ h) in
+    let first = parts_are bs (members f) c.parts.items (head_same _ _ _ _ h) in
+    let rest = cells_are founds (s + 1) fs cs (tail_same _ _ _ _ h) in
     ap (λ (ps : List PartOf). record { name = f.name; parent = f.parent; module_name = f.block.name; parts = ps } ∷ made fs cs (ports_from founds (s + 1) fs cs)) first
     ∙ ap (λ (l : List CellOf). record { name = f.name; parent = f.parent; module_name = f.block.name; parts = map (part_in bs) (zip (members f) (map seen_placed c.parts.items)) } ∷ l) rest
 

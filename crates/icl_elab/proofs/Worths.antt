@@ -15,8 +15,9 @@ use Rattle.icl_values.specs.Expressions.{as_integer, known, parameter, size, par
 use Rattle.icl_declarations.specs.Parts.{is_open}
 use Rattle.icl_frames.specs.FirstPass.{Frame, worth_in, bound_worth, with_parameter, parameters, with_binding, first_pass}
 use Rattle.icl_frames.specs.Preorder.{Declared, OfInstance, AreOfChildren, AreOfInstance, children_of}
-use Rattle.icl_frames.proofs.Answering.{both, ok_is, over_all, all_both}
+use Rattle.icl_frames.proofs.Answering.{both, ok_is, over_all}
 use Rattle.icl_frames.proofs.Entering.{frames_are_preorder}
+use Rattle.ij_bits.proofs.Everywhere.{all_both}
 
 abbrev pub IsWorth : Worth → Type 0
 IsWorth (SomeBits true bits) = 1 ≤ length bits

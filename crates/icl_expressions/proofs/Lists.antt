@@ -8,8 +8,10 @@ use Rattle.grammar.proofs.Laws.{repeat_reads}
 use Rattle.icl_lexer.specs.Seen.{SeenToken, is_mark}
 use Rattle.icl_syntax.specs.Grammar.{Of, mark, parted, ended_by}
 use Rattle.icl_expressions.specs.Reading.{Reading, gives, any, no_close, read_mark, read_after, read_ended, more_parted, read_parted}
-use Rattle.icl_expressions.proofs.Tokens.{nothing, both_false, right_false}
+use Rattle.icl_expressions.proofs.Tokens.{nothing}
 use Rattle.icl_expressions.proofs.Symbols.{then_reads, mark_reads, made_reads}
+use Rattle.std.proofs.lemmas.Bool.{or_from}
+use Rattle.ij_bits.proofs.Tests.{or_right_false}
 
 -- ---- parts with a mark between them
 
@@ -24,7 +26,7 @@ module _ {A : Type 0} (c : ℕ) {S : Of A} {first more : SeenToken → Bool} {r 
   parted_reads =
       wider_reads
       (then_reads (λ a. repeat (λ (xs : List A). mark c >>= λ m. S) appended (a ∷ [])) (is_mark c) (λ t. is_mark c t || more t) true (λ a. more_parted c r (a ∷ [])) law (λ a. more_parted_reads (a ∷ [])) apart)
-      first (λ t. is_mark c t || more t) (λ t h. h) (λ t h. both_false _ _ h (right_false (is_mark c t) (more t) h))
+      first (λ t. is_mark c t || more t) (λ t h. h) (λ t h. or_from _ _ h (or_right_false (is_mark c t) (more t) h))
 
 -- ---- parts up to a `}`
 

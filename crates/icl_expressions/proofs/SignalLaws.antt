@@ -12,10 +12,12 @@ use Rattle.icl_lexer.specs.Seen.{SeenToken, if_word, if_mark, is_mark, name_at}
 use Rattle.icl_syntax.specs.Values.{APath}
 use Rattle.icl_syntax.specs.Grammar.{Of, mark, name, expr, value, expr_behind, range, number_of, number_located, number_at, Named, named_at, path_behind, named_sig, plain_sig, sig, sigs}
 use Rattle.icl_expressions.specs.Reading.{Reading, Shrinks, gives, any, is_name, no_close, read_name, read_maybe, read_expr, read_value, read_expr_behind, read_range, read_number, read_path_behind, read_named_behind, read_named_sig, read_plain_sig, read_inverted, read_straight, read_sig, read_sigs}
-use Rattle.icl_expressions.proofs.Tokens.{nothing, no_mark, marks, both_false, left_false, right_false, marks_apart, no_mark_is, mark_apart}
+use Rattle.icl_expressions.proofs.Tokens.{nothing, no_mark, marks, marks_apart, no_mark_is, mark_apart}
 use Rattle.icl_expressions.proofs.Symbols.{then_reads, mark_reads, made_reads, sign_marks, expr_reads}
 use Rattle.icl_expressions.proofs.Steps.{reads_shrink}
 use Rattle.icl_expressions.proofs.Lists.{after_reads, more_parted_reads, parted_reads}
+use Rattle.std.proofs.lemmas.Bool.{or_from}
+use Rattle.ij_bits.proofs.Tests.{or_left_false, or_right_false}
 
 -- ---- values and ranges
 
@@ -33,7 +35,7 @@ maybe_reads {A} c {S} more {r} law =
     wider_reads
     (either_reads (S >>= λ a. give (Some a)) (give None) (is_mark c) more nothing nothing true (read_in_turn r (λ a. gives (Some a))) (gives None)
     (made_reads (λ a. Some a) law) (give_reads None) (λ t h. absurd cc))
-    (is_mark c) (λ t. is_mark c t || more t) (λ t h. narrow (is_mark c t) h) (λ t h. both_false _ _ (both_false _ _ (right_false (is_mark c t) (more t) h) refl) (left_false (is_mark c t) (more t) h))
+    (is_mark c) (λ t. is_mark c t || more t) (λ t h. narrow (is_mark c t) h) (λ t h. or_from _ _ (or_from _ _ (or_right_false (is_mark c t) (more t) h) refl) (or_left_false (is_mark c t) (more t) h))
   where
     narrow : (a : Bool) → a || false ≡ true → a ≡ true
     narrow true h = h
@@ -56,7 +58,7 @@ range_reads =
     either_false false b f g h = g h
 
 pub maybe_range_reads : Reads (maybe range) (is_mark 91) (is_mark 91) true (read_maybe 91 read_range)
-maybe_range_reads = wider_reads (maybe_reads 91 nothing range_reads) (is_mark 91) (is_mark 91) (λ t h. h) (λ t h. both_false _ _ h refl)
+maybe_range_reads = wider_reads (maybe_reads 91 nothing range_reads) (is_mark 91) (is_mark 91) (λ t h. h) (λ t h. or_from _ _ h refl)
 
 -- ---- signals
 
@@ -84,7 +86,7 @@ first_name_reads = wider_reads (one_reads Limit named_at) is_name nothing (λ t 
 
 pub path_reads : (first : List ℕ) → Reads (path_behind first) (is_mark 46) (is_mark 46) true (read_path_behind first)
 unfolding path_behind read_path_behind
-path_reads first = wider_reads (more_parted_reads 46 name_reads (λ t h. refl) (first ∷ [])) (is_mark 46) (is_mark 46) (λ t h. h) (λ t h. both_false _ _ h refl)
+path_reads first = wider_reads (more_parted_reads 46 name_reads (λ t h. refl) (first ∷ [])) (is_mark 46) (is_mark 46) (λ t h. h) (λ t h. or_from _ _ h refl)
 
 -- `.` and `[`
 abbrev pub path_marks : List ℕ
@@ -120,7 +122,7 @@ unfolding named_sig read_named_sig
 named_reads =
     wider_reads
     (then_reads (λ first. path_behind first.name >>= λ path. maybe range >>= λ r. give (record { at = first.at; what = APath path r })) (marks path_marks) (marks path_marks) true read_named_behind first_name_reads named_behind_reads (λ t h. refl))
-    is_name (marks path_marks) (λ t h. h) (λ t h. both_false _ _ h refl)
+    is_name (marks path_marks) (λ t h. h) (λ t h. or_from _ _ h refl)
 
 -- a token that is neither a word nor a mark
 abbrev pub is_value : SeenToken → Bool
@@ -141,7 +143,7 @@ pub plain_reads : Reads plain_sig no_mark (marks path_marks) false read_plain_si
 plain_reads =
     wider_reads
     (either_reads named_sig (one number_at) is_name (marks path_marks) is_value nothing false read_named_sig read_number named_reads number_reads (λ t h. apart t.kind h))
-    no_mark (marks path_marks) (λ t h. begins t.kind h) (λ t h. both_false _ _ h refl)
+    no_mark (marks path_marks) (λ t h. begins t.kind h) (λ t h. or_from _ _ h refl)
   where
     apart : (k : TokenKind) → if_word k false (if_mark k false true) ≡ true → if_word k true false ≡ false
     apart Word h = absurd cc
@@ -168,7 +170,7 @@ sig_reads =
     (then_reads (λ at. plain_sig >>= λ s. give (record { at = at; inverted = true; what = s.what })) no_mark (marks path_marks) false _ (mark_reads 126) (λ at. made_reads (λ s. record { at = at; inverted = true; what = s.what }) plain_reads) (λ t h. refl))
     (made_reads (λ s. record { at = s.at; inverted = false; what = s.what }) plain_reads)
     (λ t h. no_mark_is 126 t h))
-    any (marks path_marks) (λ t h. refl) (λ t h. both_false _ _ h h)
+    any (marks path_marks) (λ t h. refl) (λ t h. or_from _ _ h h)
 
 -- `,`, `.` and `[`
 abbrev pub sigs_marks : List ℕ

@@ -14,7 +14,9 @@ use Rattle.icl_syntax.specs.declared.words.Limit.TheVariants.{OfExpression}
 use Rattle.icl_lexer.specs.Seen.{SeenToken, if_mark, is_mark, mark_at}
 use Rattle.icl_syntax.specs.Grammar.{Of, mark, Counted, leaf_of, leaf_at, Signed, sum_sign, product_sign, too_many, operator, operand, with_operand, chain, in_parentheses, too_deep, factor, term, sum_of, expr}
 use Rattle.icl_expressions.specs.Reading.{Reading, gives, is_sign, no_close, read_mark, read_leaf, operator_of, read_operator, read_operand, read_chain, read_parentheses, read_factor, read_term, read_sum, read_expr}
-use Rattle.icl_expressions.proofs.Tokens.{nothing, no_mark, marks, some_cond, either_true, both_false, right_false, marks_apart, no_mark_is, no_mark_closes, mark_closes}
+use Rattle.icl_expressions.proofs.Tokens.{nothing, no_mark, marks, either_true, marks_apart, no_mark_is, no_mark_closes, mark_closes}
+use Rattle.ij_bits.proofs.Tests.{some_cond, or_right_false}
+use Rattle.std.proofs.lemmas.Bool.{or_from}
 
 -- ---- a reader that reads the same
 
@@ -167,8 +169,8 @@ sign_marks = 43 ∷ 45 ∷ 42 ∷ 47 ∷ 37 ∷ []
 pub sum_ends : (t : SeenToken) → marks sign_marks t ≡ false → more_sum t ≡ false
 sum_ends t h =
     let two : marks sum_marks t ≡ false = front (is_mark 43 t) (is_mark 45 t) _ h in
-    let three : marks product_marks t ≡ false = right_false (is_mark 45 t) _ (right_false (is_mark 43 t) _ h) in
-    both_false _ _ (no_sum t two) (both_false _ _ (no_product t three) refl)
+    let three : marks product_marks t ≡ false = or_right_false (is_mark 45 t) _ (or_right_false (is_mark 43 t) _ h) in
+    or_from _ _ (no_sum t two) (or_from _ _ (no_product t three) refl)
   where
     front : (a b r : Bool) → a || (b || r) ≡ false → a || (b || false) ≡ false
     front true b r h = h
@@ -176,7 +178,7 @@ sum_ends t h =
     front false false r h = refl
 
 pub sum_apart : (t : SeenToken) → is_sign sum_sign t ≡ true → more_term t ≡ false
-sum_apart t h = both_false _ _ (sum_no_product t h) refl
+sum_apart t h = or_from _ _ (sum_no_product t h) refl
 
 parentheses_reads : (whole : ℕ → Of Counted) (rw' : ℕ → Reading Counted) → ((used : ℕ) → Reads (whole used) no_close more_sum false (rw' used)) → (used : ℕ) → Reads (in_parentheses whole used) (is_mark 40) nothing false (read_parentheses rw' used)
 unfolding read_parentheses

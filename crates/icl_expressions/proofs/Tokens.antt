@@ -1,6 +1,6 @@
 -- Tokens exclude one another.
 use Rattle.std.proofs.Common.{◌≡◌, ℕ, Bool, true, false, cond, List, [], ◌∷◌, Option, Some, None, refl, is_some, eqb}
-use Rattle.std.proofs.lemmas.Bool.{eqb-true}
+use Rattle.std.proofs.lemmas.Bool.{eqb-true, or_from}
 use Rattle.std.specs.Prelude.{◌||◌}
 use Rattle.icl_lexer.specs.declared.token.TokenKind.{TokenKind}
 use Rattle.icl_lexer.specs.declared.token.TokenKind.TheVariants.{Word, Decimal, Sized, Quoted, Param, Mark}
@@ -21,28 +21,12 @@ marks (c ∷ cs) t = is_mark c t || marks cs t
 
 -- ---- little laws of tests
 
-pub some_cond : {A : Type 0} (b : Bool) (a : A) → is_some (cond b (Some a) None) ≡ true → b ≡ true
-some_cond true a h = refl
-some_cond false a h = absurd cc
-
 pub none_cond : {A : Type 0} (b : Bool) (a : A) → b ≡ false → is_some (cond b (Some a) None) ≡ false
 none_cond b a h = rw h refl
 
 pub either_true : (a b : Bool) {P : Bool} → (a ≡ true → P ≡ true) → (b ≡ true → P ≡ true) → a || b ≡ true → P ≡ true
 either_true true b f g h = f refl
 either_true false b f g h = g h
-
-pub both_false : (a b : Bool) → a ≡ false → b ≡ false → a || b ≡ false
-both_false true b h k = h
-both_false false b h k = k
-
-pub left_false : (a b : Bool) → a || b ≡ false → a ≡ false
-left_false true b h = h
-left_false false b h = refl
-
-pub right_false : (a b : Bool) → a || b ≡ false → b ≡ false
-right_false true b h = absurd cc
-right_false false b h = h
 
 -- ---- marks
 
@@ -77,7 +61,7 @@ none_rest false r h = h
 
 pub marks_apart : (c : ℕ) (ds : List ℕ) → is_none_of c ds ≡ true → (t : SeenToken) → is_mark c t ≡ true → marks ds t ≡ false
 marks_apart c [] n t h = refl
-marks_apart c (d ∷ ds) n t h = both_false _ _ (mark_apart c d (none_first _ _ n) t h) (marks_apart c ds (none_rest _ _ n) t h)
+marks_apart c (d ∷ ds) n t h = or_from _ _ (mark_apart c d (none_first _ _ n) t h) (marks_apart c ds (none_rest _ _ n) t h)
 
 -- ---- kinds
 

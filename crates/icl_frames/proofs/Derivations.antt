@@ -21,7 +21,8 @@ use Rattle.icl_syntax.specs.Values.{SeenRow, SeenEnumWord, SeenWhat, SeenItem, S
 use Rattle.icl_syntax.specs.Grammar.{Of, name, mark, value, sig, sigs, parted}
 use Rattle.icl_syntax.specs.Modules.{port, register, alias, parameter as a_parameter, attribute, row, rows, mux, braced, child, enum_word, words, interface, link, meaning_behind, item, module_of, design}
 use Rattle.icl_frames.specs.Written.{IsWrittenWhat, IsWrittenItem, IsWritten, DesignsAreWritten}
-use Rattle.icl_frames.proofs.Answering.{all_both}
+use Rattle.ij_bits.proofs.Everywhere.{all_front, all_back, all_both}
+use Rattle.icl_lexer.proofs.Fronts.{seen_count}
 
 -- ---- the words of a text are names
 
@@ -156,10 +157,6 @@ sound_tokens : (text : List ℕ) (from : ℕ) (tokens : List Token) → AreInTex
 sound_tokens text from [] h = tt
 sound_tokens text from (t ∷ ts) (a, b, c, d, e, others) = (sound_token t.kind (slice_range text t.start t.end) e, sound_tokens text t.end ts others)
 
-tokens_long : (text : List ℕ) (tokens : List Token) → length (seen_tokens text tokens) ≡ length tokens
-tokens_long text [] = refl
-tokens_long text (t ∷ ts) = ap (λ n. suc n) (tokens_long text ts)
-
 -- ---- derivations
 
 -- sound tokens, fewer than 2^32
@@ -171,20 +168,12 @@ pub record Halves (front back : List SeenToken) : Type 0 where
   pub first : Fit front
   pub second : Fit back
 
-front_all : {A : Type 0} (P : A → Type 0) (xs ys : List A) → AllByRecursion P (xs ++ ys) → AllByRecursion P xs
-front_all P [] ys h = tt
-front_all P (x ∷ xs) ys h = (h.0, front_all P xs ys h.1)
-
-back_all : {A : Type 0} (P : A → Type 0) (xs ys : List A) → AllByRecursion P (xs ++ ys) → AllByRecursion P ys
-back_all P [] ys h = h
-back_all P (x ∷ xs) ys h = back_all P xs ys h.1
-
 halves : (front back ts : List SeenToken) → ts ≡ front ++ back → Fit ts → Halves front back
 halves front back ts e f =
     let s : AllByRecursion IsSound (front ++ back) = subst (AllByRecursion IsSound) e f.sound in
     let long = ap length e ∙ length-append front back in
     let few = f.few in
-    record { first = record { sound = front_all IsSound front back s; few = omega (arith, long, few) }; second = record { sound = back_all IsSound front back s; few = omega (arith, long, few) } }
+    record { first = record { sound = all_front IsSound front back s; few = omega (arith, long, few) }; second = record { sound = all_back IsSound front back s; few = omega (arith, long, few) } }
 
 named : (ts : List SeenToken) (n : List ℕ) → Fit ts → name.derives ts n → IsTrue (is_name n)
 named [] n f h = absurd h
@@ -315,6 +304,6 @@ module_written ts m f h =
 pub designs_are_written : DesignsAreWritten
 unfolding design
 designs_are_written text tokens blocks are few h =
-    let long = tokens_long text tokens in
+    let long = seen_count text tokens in
     let f : Fit (seen_tokens text tokens) = record { sound = sound_tokens text 0 tokens (tokens_in_text text tokens are); few = omega (arith, long, few) } in
     parts_all module_of IsWritten module_written h.0 [] (seen_tokens text tokens) blocks f h.1 tt

@@ -3,7 +3,6 @@ use Rattle.std.proofs.Common.{◌≡◌, ◌⊎◌, ◌+◌, ◌≤◌, ◌++◌
 use Rattle.std.specs.List.{AllByRecursion, list_any}
 use Rattle.std.specs.Str.{bytes_eq}
 use Rattle.std.proofs.lemmas.Bool.{ltb-false, leb-false}
-use Rattle.std.proofs.lemmas.Slice.Eq.{bytes_eq-Decides}
 use Rattle.std.proofs.lemmas.List.Sums.{sum_by_push}
 use Rattle.std.proofs.lemmas.List.Elements.{filter-append}
 use Rattle.ij_bits.specs.Different.{AreDifferent}
@@ -21,19 +20,16 @@ use Rattle.icl_frames.specs.FirstPass.{request, Passed, bounds_of, Added, look_a
 use Rattle.icl_declarations.specs.Counting.{count_part}
 use Rattle.icl_frames.specs.Laws.{register_bits}
 use Rattle.icl_frames.proofs.Answering.{both, ok_is}
-use Rattle.icl_frames.proofs.Differing.{cases_in, none_in, different_one, all_one}
+use Rattle.ij_text.proofs.Names.{bytes_same}
+use Rattle.ij_bits.proofs.Contained.{cases_in, none_in}
+use Rattle.ij_bits.proofs.Different.{different_one}
+use Rattle.ij_bits.proofs.Everywhere.{all_one}
 
 -- ---- tests
 
 pub not_refused : {E : Type 0} (t : Bool) (e : E) (u : Unit {0}) → refuse_if t e ≡ Ok u → t ≡ false
 not_refused true e u h = absurd cc
 not_refused false e u h = refl
-
-pub bytes_are : (xs ys : List ℕ) → bytes_eq xs ys ≡ true → xs ≡ ys
-bytes_are xs ys h = (bytes_eq-Decides xs ys).0 h
-
-pub bytes_same : (xs ys : List ℕ) → xs ≡ ys → bytes_eq xs ys ≡ true
-bytes_same xs ys h = (bytes_eq-Decides xs ys).1 h
 
 -- what none passes, none that is there passes
 pub none_passes : {A : Type 0} (test : A → Bool) (xs : List A) (x : A) → list_any test xs ≡ false → Contains xs x → test x ≡ false

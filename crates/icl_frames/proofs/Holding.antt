@@ -14,8 +14,8 @@ use Rattle.icl_frames.specs.FirstPass.{Frame, Request, parameters, known_block, 
 use Rattle.icl_declarations.specs.Counting.{ports_over, has_wide_port, count_instrument}
 use Rattle.icl_frames.specs.Laws.{is_instrument_frame, IsFrame, bits_in, muxes_in, AreFew, FramesAreDeclared, FramesAreFew}
 use Rattle.icl_frames.proofs.Answering.{both, ok_is, over_all}
-use Rattle.icl_frames.proofs.Differing.{all_one}
 use Rattle.icl_frames.proofs.Filling.{not_refused, filled}
+use Rattle.ij_bits.proofs.Everywhere.{all_one}
 
 -- ---- instruments
 

@@ -8,22 +8,17 @@ use Rattle.icl_declarations.specs.Parts.{is_signal}
 use Rattle.icl_frames.specs.FirstPass.{Frame}
 use Rattle.icl_frames.specs.Preorder.{Declared, declared_by, children_of, AreOfChildren, AreOfInstance}
 use Rattle.icl_frames.specs.Laws.{IsBelow, child_names, IsFrame, FramesAreTree}
-use Rattle.icl_frames.proofs.Answering.{all_both}
-use Rattle.icl_frames.proofs.Differing.{first_in, later_in, none_in, cases_in, all_in, find_in, different_more}
+use Rattle.icl_frames.proofs.Differing.{all_in, find_in}
 use Rattle.icl_frames.proofs.Filling.{signal_names}
 use Rattle.icl_frames.proofs.Entering.{frames_are_preorder}
 use Rattle.icl_frames.proofs.Holding.{frames_are_declared}
-use Rattle.icl_frames.proofs.Trees.{map_more, IsTree, instance_tree}
+use Rattle.icl_frames.proofs.Trees.{IsTree, instance_tree}
+use Rattle.ij_bits.proofs.Everywhere.{all_front, all_back, all_both}
+use Rattle.ij_bits.proofs.Contained.{first_in, later_in, none_in, cases_in}
+use Rattle.ij_bits.proofs.Different.{different_more}
+use Rattle.std.proofs.lemmas.List.{map-append}
 
 -- ---- lists in two parts
-
-all_front : {A : Type 0} (P : A → Type 0) (xs ys : List A) → AllByRecursion P (xs ++ ys) → AllByRecursion P xs
-all_front P [] ys h = tt
-all_front P (x ∷ xs) ys h = (h.0, all_front P xs ys h.1)
-
-all_back : {A : Type 0} (P : A → Type 0) (xs ys : List A) → AllByRecursion P (xs ++ ys) → AllByRecursion P ys
-all_back P [] ys h = h
-all_back P (x ∷ xs) ys h = all_back P xs ys h.1
 
 pub all_weaker : {A : Type 0} (P Q : A → Type 0) (xs : List A) → ((x : A) → P x → Q x) → AllByRecursion P xs → AllByRecursion Q xs
 all_weaker P Q [] so h = tt
@@ -151,7 +146,7 @@ module _ (blocks : List SeenModule) where
       let one = each number d.name child.block child.given xs lt (all_front AreNamed xs ys all) child.instance in
       let rest = children_keys levels (number + length xs) parent params ds ys each (omega (arith, lt)) differ.1 (all_back AreNamed xs ys all) others in
       let long = length-append xs ys in
-      let keys : keys_of (xs ++ ys) ≡ keys_of xs ++ keys_of ys = map_more (λ (f : Frame). (f.parent, f.name)) xs ys in
+      let keys : keys_of (xs ++ ys) ≡ keys_of xs ++ keys_of ys = map-append (λ (f : Frame). (f.parent, f.name)) xs ys in
       subst (AreChildKeys number parent (d ∷ ds)) (sym e) (record {
         differ = subst AreDifferent (sym keys) (different_more (keys_of xs) (keys_of ys) one.differ rest.differ
             (λ k c b. keys_apart number (number + length xs) (number + length xs + length ys) parent d ds k lt (omega arith) differ.0

@@ -1,23 +1,16 @@
 -- Frames form a tree: a parent stands before its children, which its module declares, and levels are few.
-use Rattle.std.proofs.Common.{◌≡◌, ◌+◌, ◌<◌, ◌≤◌, ◌++◌, ℕ, zero, suc, List, [], ◌∷◌, length, map, get_or, slice_get, Contains, Option, Some, None, IfSome, IsSomeAnd, refl, sym, ap, subst, ◌∙◌, arith, append_assoc, append-nil, length-append}
+use Rattle.std.proofs.Common.{◌≡◌, ◌+◌, ◌<◌, ◌≤◌, ◌++◌, ℕ, zero, suc, List, [], ◌∷◌, length, get_or, slice_get, Contains, Option, Some, None, IfSome, IsSomeAnd, refl, sym, ap, subst, ◌∙◌, arith, append_assoc, append-nil, length-append}
 use Rattle.std.specs.List.{AllByRecursion, enumerate_from}
-use Rattle.std.proofs.lemmas.List.{get_or_append_left}
+use Rattle.std.proofs.lemmas.List.{get_or_append_left, map-append, length-map}
 use Rattle.icl_syntax.specs.Values.{SeenModule}
 use Rattle.icl_values.specs.Values.{Params}
 use Rattle.icl_frames.specs.FirstPass.{Frame}
 use Rattle.icl_frames.specs.Preorder.{Declared, children_of, AreOfChildren, AreOfInstance}
 use Rattle.icl_frames.specs.Laws.{parents_of, IsBelow, AreBelow, level_below, levels_from, child_names, IsDeclaredIn}
-use Rattle.icl_frames.proofs.Differing.{all_one, map_in, first_in, later_in}
+use Rattle.ij_bits.proofs.Everywhere.{all_one}
+use Rattle.ij_bits.proofs.Contained.{map_in, first_in, later_in}
 
 -- ---- lists with more behind
-
-pub map_more : {A B : Type 0} (f : A → B) (xs ys : List A) → map f (xs ++ ys) ≡ map f xs ++ map f ys
-map_more f [] ys = refl
-map_more f (x ∷ xs) ys = ap (λ l. f x ∷ l) (map_more f xs ys)
-
-pub map_long : {A B : Type 0} (f : A → B) (xs : List A) → length (map f xs) ≡ length xs
-map_long f [] = refl
-map_long f (x ∷ xs) = ap (λ n. suc n) (map_long f xs)
 
 pub get_kept : {A : Type 0} (xs ys : List A) (i : ℕ) (x : A) → slice_get xs i ≡ Some x → slice_get (xs ++ ys) i ≡ Some x
 get_kept [] ys i x h = absurd cc
@@ -53,15 +46,15 @@ level_last [] n = refl
 level_last (m ∷ acc) n = level_last acc n
 
 frames_long : (frames : List Frame) → length (levels_of frames) ≡ length frames
-frames_long frames = let l = levels_long [] (parents_of frames) in let m = map_long (λ (f : Frame). f.parent) frames in omega (arith, l, m)
+frames_long frames = let l = levels_long [] (parents_of frames) in let m = length-map frames (λ (f : Frame). f.parent) in omega (arith, l, m)
 
 levels_one : (front : List Frame) (f : Frame) → levels_of (front ++ f ∷ []) ≡ levels_of front ++ level_below (levels_of front) f.parent ∷ []
-levels_one front f = ap (levels_from []) (map_more (λ (g : Frame). g.parent) front (f ∷ [])) ∙ levels_both [] (parents_of front) (f.parent ∷ [])
+levels_one front f = ap (levels_from []) (map-append (λ (g : Frame). g.parent) front (f ∷ [])) ∙ levels_both [] (parents_of front) (f.parent ∷ [])
 
 -- with more frames behind, each level before is the same
 level_kept : (front more : List Frame) (k : ℕ) → k < length front → get_or (levels_of (front ++ more)) k 0 ≡ get_or (levels_of front) k 0
 level_kept front more k lt =
-    ap (λ (ps : List (Option ℕ)). get_or (levels_from [] ps) k 0) (map_more (λ (g : Frame). g.parent) front more)
+    ap (λ (ps : List (Option ℕ)). get_or (levels_from [] ps) k 0) (map-append (λ (g : Frame). g.parent) front more)
     ∙ ap (λ l. get_or l k 0) (levels_both [] (parents_of front) (parents_of more))
     ∙ levels_stay (levels_of front) (parents_of more) k (subst (λ n. k < n) (sym (frames_long front)) lt)
 
@@ -95,8 +88,8 @@ below_one n (q ∷ ps) p h b = (h.0, let e : n + suc (length ps) ≡ n + 1 + len
 
 tree_one : (front : List Frame) (f : Frame) → IsTree front → IsBelow (length front) f.parent → level_below (levels_of front) f.parent ≤ 64 → IsDeclaredIn front f → IsTree (front ++ f ∷ [])
 tree_one front f t b l d = record {
-  below = let e : length front ≡ 0 + length (parents_of front) = let m = map_long (λ (g : Frame). g.parent) front in omega (arith, m) in
-      subst AreBelow (sym (map_more (λ (g : Frame). g.parent) front (f ∷ []))) (below_one 0 (parents_of front) f.parent t.below (subst (λ k. IsBelow k f.parent) e b));
+  below = let e : length front ≡ 0 + length (parents_of front) = let m = length-map front (λ (g : Frame). g.parent) in omega (arith, m) in
+      subst AreBelow (sym (map-append (λ (g : Frame). g.parent) front (f ∷ []))) (below_one 0 (parents_of front) f.parent t.below (subst (λ k. IsBelow k f.parent) e b));
   few_levels = subst (AllByRecursion (λ (n : ℕ). n ≤ 64)) (sym (levels_one front f)) (all_one (λ (n : ℕ). n ≤ 64) (levels_of front) (level_below (levels_of front) f.parent) t.few_levels l);
   declared_are = all_one (IsDeclaredIn (front ++ f ∷ [])) front f (all_kept front (f ∷ []) front t.declared_are) (stands_kept front (f ∷ []) f.parent f.name d);
 }

@@ -1,5 +1,5 @@
 -- Frames have names of ICL where the design's names are.
-use Rattle.std.proofs.Common.{◌≡◌, ℕ, zero, suc, List, [], ◌∷◌, map, slice_get, Contains, Option, Some, None, IfSome, IsSomeAnd, IsTrue, refl, ap, subst}
+use Rattle.std.proofs.Common.{◌≡◌, ℕ, List, [], ◌∷◌, map, slice_get, Contains, Option, Some, None, IfSome, IsSomeAnd, IsTrue, refl}
 use Rattle.std.specs.List.{AllByRecursion, cons_option}
 use Rattle.ij_text.specs.Words.{is_name}
 use Rattle.icl_syntax.specs.Values.{SeenWhat, APort, ARegister, AMux, AChild, AnAlias, SomeWords, AParameter, AnInterface, ALink, AnAttribute, SeenItem}
@@ -9,6 +9,7 @@ use Rattle.icl_frames.specs.Laws.{child_names, IsDeclaredIn}
 use Rattle.icl_frames.specs.Written.{IsWrittenItem, IsWritten, IsWrittenFrame, FramesAreWritten}
 use Rattle.icl_frames.proofs.Differing.{all_in}
 use Rattle.icl_frames.proofs.Siblings.{all_weaker, frames_are_tree}
+use Rattle.ij_bits.proofs.Everywhere.{all_at}
 
 children_written : (items : List SeenItem) → AllByRecursion IsWrittenItem items → AllByRecursion (λ n. IsTrue (is_name n)) (child_names items)
 children_written [] h = tt
@@ -27,19 +28,10 @@ children_written (x ∷ items) h = by_what x.what (children_written items h.1)
     by_what (ALink kind entity instrs) again = again
     by_what (AnAttribute value) again = again
 
-get_all : {A : Type 0} (P : A → Type 0) (xs : List A) (i : ℕ) (x : A) → AllByRecursion P xs → slice_get xs i ≡ Some x → P x
-get_all P [] i x h e = absurd cc
-get_all {A} P (y ∷ xs) zero x h e = subst P (ap value_of e) h.0
-  where
-    value_of : Option A → A
-    value_of None = y
-    value_of (Some z) = z
-get_all P (y ∷ xs) (suc i) x h e = get_all P xs i x h.1 e
-
 name_written : (frames : List Frame) (parent : Option ℕ) (name : List ℕ) → AllByRecursion (λ (f : Frame). IsWritten f.block) frames
     → IfSome parent (λ p. IsSomeAnd (slice_get frames p) (λ q. Contains (child_names q.block.items) name)) → IfSome parent (λ p. IsTrue (is_name name))
 name_written frames None name all h = tt
-name_written frames (Some p) name all h = by_frame (slice_get frames p) (λ q e. get_all (λ (f : Frame). IsWritten f.block) frames p q all e) h
+name_written frames (Some p) name all h = by_frame (slice_get frames p) (λ q e. all_at (λ (f : Frame). IsWritten f.block) frames p q all e) h
   where
     by_frame : (o : Option Frame) → ((q : Frame) → o ≡ Some q → IsWritten q.block) → IsSomeAnd o (λ q. Contains (child_names q.block.items) name) → IsTrue (is_name name)
     by_frame None written k = absurd k

@@ -105,7 +105,7 @@ seen_more : (text : List ℕ) (ts us : List Token) → seen_tokens text (ts ++ u
 seen_more text [] us = refl
 seen_more text (t ∷ ts) us = ap (λ (l : List SeenToken). seen_token text t ∷ l) (seen_more text ts us)
 
-seen_count : (text : List ℕ) (ts : List Token) → length (seen_tokens text ts) ≡ length ts
+pub seen_count : (text : List ℕ) (ts : List Token) → length (seen_tokens text ts) ≡ length ts
 seen_count text [] = refl
 seen_count text (t ∷ ts) = ap suc (seen_count text ts)
 

@@ -1,6 +1,6 @@
 -- Pieces that their first byte tells: blanks, marks and words.
 use Rattle.std.proofs.Common.{◌≡◌, ◌==◌, ◌∷◌, [], ◌&&◌, ◌+◌, ◌<◌, ◌≤◌, ℕ, zero, suc, Bool, true, false, cond, List, length, take, drop, get_or, Option, Some, None, refl, sym, subst, ◌∙◌, arith}
-use Rattle.std.proofs.lemmas.Bool.{eqb-true}
+use Rattle.std.proofs.lemmas.Bool.{eqb-true, cond-true, cond-false}
 use Rattle.ij_text.specs.Bytes.{is_blank}
 use Rattle.ij_text.specs.Words.{begins_name, in_name}
 use Rattle.icl_lexer.specs.declared.token.TokenKind.TheVariants.{Word}
@@ -9,14 +9,6 @@ use Rattle.icl_lexer.specs.declared.token.PieceKind.TheVariants.{Gap, Is}
 use Rattle.icl_lexer.specs.Pieces.{kind_of, ends, run}
 use Rattle.icl_lexer.specs.Matches.{run_len}
 use Rattle.icl_lexer.specs.Cutting.{IsPiece, opens_comment}
-
-cond_true : {A : Type 0} (c : Bool) (x y : A) → c ≡ true → cond c x y ≡ x
-cond_true true x y h = refl
-cond_true false x y h = absurd cc
-
-cond_false : {A : Type 0} (c : Bool) (x y : A) → c ≡ false → cond c x y ≡ y
-cond_false true x y h = absurd cc
-cond_false false x y h = refl
 
 abbrev gap : Option PieceKind
 gap = Some Gap
@@ -54,7 +46,7 @@ module _ (class : ℕ → Bool) (k : PieceKind) where
   run_took (b ∷ bs) = at (class b) refl (run_took bs)
     where
       at : (c : Bool) → class b ≡ c → run class k (take (run_len class bs) bs) ≡ Some k → run class k (take (cond c (suc (run_len class bs)) 0) (b ∷ bs)) ≡ Some k
-      at true e h = cond_true (class b) (run class k (take (run_len class bs) bs)) None e ∙ h
+      at true e h = cond-true (class b) (run class k (take (run_len class bs) bs)) None e ∙ h
       at false e h = refl
 
   run_stops : (bs : List ℕ) (m : ℕ) → run_len class bs < m → m ≤ length bs → run class k (take m bs) ≡ None
@@ -63,8 +55,8 @@ module _ (class : ℕ → Bool) (k : PieceKind) where
   run_stops (b ∷ bs) (suc m) lt le = at (class b) refl (λ shorter. run_stops bs m shorter (omega (arith, le))) lt
     where
       at : (c : Bool) → class b ≡ c → (run_len class bs < m → run class k (take m bs) ≡ None) → cond c (suc (run_len class bs)) 0 < suc m → run class k (take (suc m) (b ∷ bs)) ≡ None
-      at true e h lt = cond_true (class b) (run class k (take m bs)) None e ∙ h (omega (arith, lt))
-      at false e h lt = cond_false (class b) (run class k (take m bs)) None e
+      at true e h lt = cond-true (class b) (run class k (take m bs)) None e ∙ h (omega (arith, lt))
+      at false e h lt = cond-false (class b) (run class k (take m bs)) None e
 
 pub run_len_le : (class : ℕ → Bool) (bs : List ℕ) → run_len class bs ≤ length bs
 run_len_le class [] = omega arith
@@ -77,12 +69,12 @@ run_len_le class (b ∷ bs) = at (class b) (run_len_le class bs)
 -- a run from the n-th byte on: one more byte, or its end
 pub run_more : (class : ℕ → Bool) (text : List ℕ) (n : ℕ) → n < length text → class (get_or text n 0) ≡ true → run_len class (drop n text) ≡ suc (run_len class (drop (suc n) text))
 run_more class [] n lt h = absurd (omega (arith, lt))
-run_more class (b ∷ bs) zero lt h = cond_true (class b) (suc (run_len class bs)) 0 h
+run_more class (b ∷ bs) zero lt h = cond-true (class b) (suc (run_len class bs)) 0 h
 run_more class (b ∷ bs) (suc n) lt h = run_more class bs n (omega (arith, lt)) h
 
 pub run_ended : (class : ℕ → Bool) (text : List ℕ) (n : ℕ) → n < length text → class (get_or text n 0) ≡ false → run_len class (drop n text) ≡ 0
 run_ended class [] n lt h = absurd (omega (arith, lt))
-run_ended class (b ∷ bs) zero lt h = cond_false (class b) (suc (run_len class bs)) 0 h
+run_ended class (b ∷ bs) zero lt h = cond-false (class b) (suc (run_len class bs)) 0 h
 run_ended class (b ∷ bs) (suc n) lt h = run_ended class bs n (omega (arith, lt)) h
 
 pub run_out : (class : ℕ → Bool) (text : List ℕ) (n : ℕ) → length text ≤ n → run_len class (drop n text) ≡ 0
@@ -118,12 +110,12 @@ word_at (b ∷ rest) n some h is = subst (λ len. IsPiece (b ∷ rest) (Is Word)
 
 -- a text that begins with a blank
 pub blank_at : (text : List ℕ) → 1 ≤ length text → is_blank (get_or text 0 0) ≡ true → IsPiece text Gap 1
-blank_at text some blank = whole_at text Gap some (λ bs. sym (cond_true (is_blank (get_or text 0 0)) (ends Gap bs) _ blank))
+blank_at text some blank = whole_at text Gap some (λ bs. sym (cond-true (is_blank (get_or text 0 0)) (ends Gap bs) _ blank))
 
 -- a text that begins with a word
 pub name_at : (text : List ℕ) (n : ℕ) → 1 ≤ length text → is_blank (get_or text 0 0) ≡ false → begins_name (get_or text 0 0) ≡ true → n ≡ run_len in_name (drop 1 text)
     → IsPiece text (Is Word) (1 + n)
 name_at text n some no_blank begins is = word_at text n some (λ bs. sym (
-    cond_false (is_blank (get_or text 0 0)) (ends Gap bs) _ no_blank
-    ∙ cond_true (begins_name (get_or text 0 0)) (run in_name (Is Word) bs) _ begins
+    cond-false (is_blank (get_or text 0 0)) (ends Gap bs) _ no_blank
+    ∙ cond-true (begins_name (get_or text 0 0)) (run in_name (Is Word) bs) _ begins
     )) is

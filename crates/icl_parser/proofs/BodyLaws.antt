@@ -16,10 +16,11 @@ use Rattle.icl_syntax.specs.Values.{SeenProp, ASource, ALaunchEdge, ALoadValue, 
 use Rattle.icl_syntax.specs.Grammar.{Of, mark, expr_behind, ended_by, sources, free_word, free_prop_at, attribute_said, decimal_token, prop_behind, property, with_property, lacks, body_end, body}
 use Rattle.icl_expressions.specs.Reading.{Reading, gives, any, is_name, no_close, read_mark, read_maybe, read_ended, read_expr_behind}
 use Rattle.icl_parser.specs.Reading.{read_attribute_said, read_sources, read_prop_behind, read_free_prop, read_property, read_properties, read_unless, read_body_end, read_braced_body, read_body}
-use Rattle.icl_expressions.proofs.Tokens.{nothing, marks, both_false, marks_apart, mark_apart, no_mark_closes}
+use Rattle.icl_expressions.proofs.Tokens.{nothing, marks, marks_apart, mark_apart, no_mark_closes}
 use Rattle.icl_expressions.proofs.Symbols.{then_reads, mark_reads, made_reads, sign_marks}
 use Rattle.icl_expressions.proofs.SignalLaws.{value_reads, expr_behind_reads, maybe_reads, name_reads, path_marks, sig_reads, sigs_marks, sigs_reads}
 use Rattle.icl_expressions.proofs.Lists.{parts_then_reads, ended_reads}
+use Rattle.std.proofs.lemmas.Bool.{or_from}
 
 -- ---- properties
 
@@ -32,7 +33,7 @@ attribute_said_reads =
     (maybe_reads 61 (marks sign_marks) (expr_behind_reads 61)) (λ v. give_reads (record { name = n; value = v })) (λ t h. absurd cc))
     (is_mark 61) (marks (61 ∷ sign_marks)) (λ t h. narrow (is_mark 61 t) h) (λ t h. h))
     (λ t h. refl))
-    is_name (marks (61 ∷ sign_marks)) (λ t h. h) (λ t h. both_false _ _ h refl)
+    is_name (marks (61 ∷ sign_marks)) (λ t h. h) (λ t h. or_from _ _ h refl)
   where
     narrow : (a : Bool) → a || false ≡ true → a ≡ true
     narrow true h = h

@@ -19,12 +19,14 @@ use Rattle.icl_syntax.specs.Grammar.{Of, mark, word, name, value, expr_behind, e
 use Rattle.icl_syntax.specs.Modules.{owner_of, port_range, port, register, alias, parameter, attribute, row, rows, mux, begun_by, bind_begin_at, bound_port, bound_parameter, bound_attribute, bind_behind, bind, braced, binds, child}
 use Rattle.icl_expressions.specs.Reading.{Reading, Shrinks, gives, any, is_name, no_close, read_mark, read_word, read_maybe, read_ended, read_many, read_braced, read_expr_behind, read_range}
 use Rattle.icl_parser.specs.Reading.{read_port_range, read_port, read_register, read_alias, read_parameter, read_attribute, read_values, read_row, read_rows, read_mux, read_bind_begin, read_bound_port, read_bound_parameter, read_bound_attribute, read_bind_behind, read_bind, read_many_binds, read_braced_binds, read_binds, read_child}
-use Rattle.icl_expressions.proofs.Tokens.{nothing, marks, both_false, left_false, marks_apart, mark_apart, no_mark_closes}
+use Rattle.icl_expressions.proofs.Tokens.{nothing, marks, marks_apart, mark_apart, no_mark_closes}
 use Rattle.icl_expressions.proofs.Symbols.{then_reads, mark_reads, made_reads, sign_marks}
 use Rattle.icl_expressions.proofs.Steps.{reads_shrink}
 use Rattle.icl_expressions.proofs.SignalLaws.{value_reads, expr_behind_reads, maybe_reads, maybe_range_reads, name_reads, path_marks, sig_reads, sigs_marks, sigs_reads}
 use Rattle.icl_parser.proofs.BodyLaws.{attribute_said_reads, body_marks, body_reads}
 use Rattle.icl_expressions.proofs.Lists.{parted_reads, parts_reads, parts_then_reads, ended_reads}
+use Rattle.std.proofs.lemmas.Bool.{or_from}
+use Rattle.ij_bits.proofs.Tests.{or_left_false}
 
 pub word_reads : (w : List ℕ) → Reads (word w) any nothing false (read_word w)
 word_reads w = wider_reads (one_reads Limit (word_at w)) any nothing (λ t h. refl) (λ t h. refl)
@@ -50,7 +52,7 @@ body_no ds e t f g h = by_cases (is_mark 59 t) (is_mark 123 t) f g h
     by_cases false false f g h = absurd cc
 
 body_no_range : (t : SeenToken) → marks body_marks t ≡ true → is_mark 91 t ≡ false
-body_no_range t h = left_false (is_mark 91 t) false (body_no (91 ∷ []) refl t (marks_apart 59 (91 ∷ []) refl t) (marks_apart 123 (91 ∷ []) refl t) h)
+body_no_range t h = or_left_false (is_mark 91 t) false (body_no (91 ∷ []) refl t (marks_apart 59 (91 ∷ []) refl t) (marks_apart 123 (91 ∷ []) refl t) h)
 
 body_no_sigs : (t : SeenToken) → marks body_marks t ≡ true → marks sigs_marks t ≡ false
 body_no_sigs t h = body_no sigs_marks refl t (marks_apart 59 sigs_marks refl t) (marks_apart 123 sigs_marks refl t) h
@@ -125,7 +127,7 @@ unfolding rows read_rows
 rows_reads =
     wider_reads
     (then_reads (λ first. repeat (λ (rs : List SeenRow). row) appended (first ∷ [])) no_close (λ t. no_close t || false) true _ row_reads (λ first. parts_reads (λ (rs : List SeenRow). row) appended (λ rs. read_row) (λ rs. row_reads) (first ∷ [])) (λ t h. refl))
-    no_close no_close (λ t h. h) (λ t h. both_false _ _ (both_false _ _ h refl) refl)
+    no_close no_close (λ t h. h) (λ t h. or_from _ _ (or_from _ _ h refl) refl)
 
 -- a `}` closes
 closes : (t : SeenToken) → is_mark 125 t ≡ true → no_close t ≡ false

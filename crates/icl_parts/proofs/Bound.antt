@@ -3,7 +3,7 @@ use Rattle.std.proofs.Common.{◌≡◌, ◌+◌, ◌-◌, ◌<◌, ◌&&◌, �
 use Rattle.std.specs.Prelude.{is_some, find, slice_get}
 use Rattle.std.specs.List.{list_any, list_all, position_from, range_with_len}
 use Rattle.ij_text.specs.Options.{or_else}
-use Rattle.icl_references.proofs.Targets.{some_is}
+use Rattle.std.proofs.lemmas.Option.{same_Some}
 
 module _ {A : Type 0} (p : A → Bool) where
   pub any_position : (s : ℕ) (xs : List A) → is_some (position_from p s xs) ≡ list_any p xs
@@ -57,7 +57,7 @@ module _ {A : Type 0} (p : A → Bool) where
   first_found s k (x ∷ xs) h = by_test (p x) refl h (λ g. first_found (s + 1) k xs g)
     where
       by_test : (b : Bool) → p x ≡ b → cond b (Some s) (position_from p (s + 1) xs) ≡ Some k → (position_from p (s + 1) xs ≡ Some k → IsFirst (s + 1) k xs) → IsFirst s k (x ∷ xs)
-      by_test true e g again = let n : s ≡ k = some_is s k g in record { place = 0; number = omega (arith, n); within = omega arith; found = λ d. ap (λ (b : Bool). cond b (Some x) (find p xs)) e; there = ap (λ (b : Bool). cond b (Some x) (find p xs)) e }
+      by_test true e g again = let n : s ≡ k = same_Some s k g in record { place = 0; number = omega (arith, n); within = omega arith; found = λ d. ap (λ (b : Bool). cond b (Some x) (find p xs)) e; there = ap (λ (b : Bool). cond b (Some x) (find p xs)) e }
       by_test false e g again =
           let a = again g in
           record { place = suc a.place; number = let n = a.number in omega (arith, n); within = let w = a.within in omega (arith, w); found = λ d. ap (λ (b : Bool). cond b (Some x) (find p xs)) e ∙ a.found d; there = ap (λ (b : Bool). cond b (Some x) (find p xs)) e ∙ a.there }

@@ -1,15 +1,11 @@
 -- Going over a list, one item more, where the outcomes are values.
-use Rattle.std.proofs.Common.{◌≡◌, ◌<◌, ◌+◌, ℕ, zero, suc, List, [], ◌∷◌, ◌++◌, length, map, get_or, drop, Option, Some, None, Result, Ok, Err, refl, sym, ap, subst, ◌∙◌, arith}
+use Rattle.std.proofs.Common.{◌≡◌, ◌<◌, ◌+◌, ℕ, List, [], ◌∷◌, ◌++◌, length, map, get_or, drop, Option, Some, None, Result, Ok, Err, refl, sym, ap, subst, ◌∙◌}
 use Rattle.std.specs.Prelude.{IfOk, IfErr}
 use Rattle.icl_values.specs.declared.fault.ElabFault.{ElabFault}
 use Rattle.icl_values.specs.declared.fault.ElabFault.TheVariants as fault
 use Rattle.icl_values.specs.Faults.{◌>>=◌, Answer, Fault, Fails, Gives, seen_fault}
 use Rattle.icl_values.proofs.Each.{more, more_next, more_fails, fails_along}
-
-pub split_at : {X : Type 0} (xs : List X) (i : ℕ) (x : X) → i < length xs → x ≡ get_or xs i x → drop i xs ≡ x ∷ drop (i + 1) xs
-split_at [] i x lt e = absurd (omega (arith, lt))
-split_at (y ∷ xs) zero x lt e = ap (λ z. z ∷ xs) (sym e)
-split_at (y ∷ xs) (suc i) x lt e = let n : suc i + 1 ≡ suc (i + 1) = omega arith in rw n (split_at xs i x (omega (arith, lt)) e)
+use Rattle.ij_bits.proofs.Lists.{split_at}
 
 module _ {X A B : Type 0} (see : X → A) (f : A → Result B Fault) where
   -- one item more was given

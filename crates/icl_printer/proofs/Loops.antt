@@ -8,13 +8,10 @@ use Rattle.icl_printer.specs.Layout.{Spelling, mark}
 use Rattle.icl_printer.specs.Canonical.{in_turn, behind, separated, if_there}
 use Rattle.icl_printer.specs.Again.{spellings, IsSpelled, AllSpelled}
 use Rattle.icl_printer.proofs.Printed.{cut, all_append, all_front, all_back, Printed, Law, p_turn, p_last, p_give, p_left, p_right, p_mark, turned, nothing_spelled}
-
-map_snoc : {A B : Type 0} (f : A → B) (xs ys : List A) → map f (xs ++ ys) ≡ map f xs ++ map f ys
-map_snoc f [] ys = refl
-map_snoc {A} {B} f (x ∷ xs) ys = ap (λ (zs : List B). f x ∷ zs) (map_snoc f xs ys)
+use Rattle.std.proofs.lemmas.List.{map-append}
 
 pub snoc_same : {A B : Type 0} (f : A → B) (xs ys : List A) (x y : A) → map f xs ≡ map f ys → f x ≡ f y → map f (xs ++ x ∷ []) ≡ map f (ys ++ y ∷ [])
-snoc_same f xs ys x y e h = map_snoc f xs (x ∷ []) ∙ ap (λ zs. zs ++ f x ∷ []) e ∙ ap (λ z. map f ys ++ z ∷ []) h ∙ sym (map_snoc f ys (y ∷ []))
+snoc_same f xs ys x y e h = map-append f xs (x ∷ []) ∙ ap (λ zs. zs ++ f x ∷ []) e ∙ ap (λ z. map f ys ++ z ∷ []) h ∙ sym (map-append f ys (y ∷ []))
 
 -- ---- lists that a loop makes
 

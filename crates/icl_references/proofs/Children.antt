@@ -11,8 +11,8 @@ use Rattle.icl_frames.specs.FirstPass.{Frame}
 use Rattle.icl_declarations.specs.declared.scope.Scope.{Scope}
 use Rattle.icl_references.specs.Names.{Here, is_in, is_child_cell, child_cell, known_cell}
 use Rattle.icl_references.specs.Tables.{AreAllChildren, AreEmpty, IsChildAdded, here_at, no_frame}
-use Rattle.icl_references.proofs.Everywhere.{inside}
 use Rattle.icl_references.proofs.Targets.{child_there}
+use Rattle.std.proofs.lemmas.List.{get_or_default}
 
 -- ---- look-ups
 
@@ -76,7 +76,7 @@ module _ (p : ℕ × Frame → Bool) where
 pub first_none : (all : List Scope) → AreEmpty all → AreAllChildren [] all
 first_none all h cell c lt e name = h cell c lt e name
 
-or_none : (o : Option ℕ) → or_else o None ≡ o
+pub or_none : (o : Option ℕ) → or_else o None ≡ o
 or_none None = refl
 or_none (Some n) = refl
 
@@ -91,8 +91,8 @@ module _ (fs : List Frame) (f : Frame) (old new : List Scope) (h : AreAllChildre
       let c = get_or old cell d in
       let o = found (is_child_cell cell asked) 0 fs in
       let k : n ≡ 0 + length fs = omega (arith, m) in
-      added cell c d there (inside old cell d c there) is asked
-      ∙ ap (λ (x : Option ℕ). or_else x (cond (parent == cell && bytes_eq asked name) (Some n) None)) (h cell c there (inside old cell d c there) asked)
+      added cell c d there (get_or_default old cell d c there) is asked
+      ∙ ap (λ (x : Option ℕ). or_else x (cond (parent == cell && bytes_eq asked name) (Some n) None)) (h cell c there (get_or_default old cell d c there) asked)
       ∙ ap (λ (x : List ℕ). or_else o (cond (parent == cell && bytes_eq asked x) (Some n) None)) (sym e)
       ∙ ap (λ (x : Option ℕ). or_else o (cond (is_in x cell && bytes_eq asked f.name) (Some n) None)) (sym p)
       ∙ ap (λ (x : ℕ). or_else o (cond (is_in f.parent cell && bytes_eq asked f.name) (Some x) None)) k

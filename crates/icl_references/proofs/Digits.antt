@@ -1,20 +1,14 @@
 -- The digits of numbers, one after another.
 use Rattle.std.proofs.Common.{◌≡◌, ◌+◌, ◌<◌, ◌≤◌, ℕ, zero, suc, Bool, true, false, List, [], ◌∷◌, ◌++◌, length, map, min, get_or, take, drop, Option, Some, refl, ◌∙◌, arith}
 use Rattle.std.specs.Prelude.{◌&&◌}
-use Rattle.ij_bits.specs.declared.tern.Tern.{Tern}
-use Rattle.ij_text.specs.Numbers.{tern_bits}
-use Rattle.ij_text.proofs.Numbers.{open_length}
 use Rattle.icl_values.specs.Values.{OpenBits}
 use Rattle.icl_frames.proofs.Passing.{taken_more}
 use Rattle.icl_references.specs.Muxes.{meet, meet_at}
-use Rattle.icl_references.proofs.Everywhere.{inside}
-
-pub long : (t : Tern) → length (tern_bits t) ≡ length t.value.items
-long t = open_length t.value.items t.care.items t.same_length
+use Rattle.std.proofs.lemmas.List.{get_or_default}
 
 -- one more was taken
 pub mapped_more : {A B : Type 0} (f : A → B) (xs : List A) (k : ℕ) (x d : A) → k < length xs → x ≡ get_or xs k d → map f (take (k + 1) xs) ≡ map f (take k xs) ++ f x ∷ []
-mapped_more f xs k x d lt e = taken_more f xs k x lt (e ∙ inside xs k d x lt)
+mapped_more f xs k x d lt e = taken_more f xs k x lt (e ∙ get_or_default xs k d x lt)
 
 -- ---- two values, digit by digit
 

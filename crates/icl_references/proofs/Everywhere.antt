@@ -1,5 +1,5 @@
 -- What holds at each place of a list, and what is left of it in a loop.
-use Rattle.std.proofs.Common.{◌≡◌, ◌+◌, ◌<◌, ℕ, zero, suc, List, [], ◌∷◌, ◌++◌, length, map, get_or, drop, refl, sym, ap, subst, arith}
+use Rattle.std.proofs.Common.{◌≡◌, ◌+◌, ◌<◌, ℕ, zero, suc, List, [], ◌∷◌, ◌++◌, length, map, get_or, drop, sym, ap, subst, arith}
 
 module _ {A : Type 0} (P : A → Type 0) where
   abbrev pub Everywhere : List A → Type 0
@@ -13,12 +13,6 @@ module _ {A : Type 0} (P : A → Type 0) where
   one_more [] y h p (suc i) x lt e = absurd (omega (arith, lt))
   one_more (z ∷ xs) y h p zero x lt e = h zero x (omega arith) e
   one_more (z ∷ xs) y h p (suc i) x lt e = one_more xs y (λ j w l g. h (suc j) w (omega (arith, l)) g) p i x (omega (arith, lt)) e
-
--- what stands past the end doesn't matter inside
-pub inside : {A : Type 0} (xs : List A) (i : ℕ) (d e : A) → i < length xs → get_or xs i d ≡ get_or xs i e
-inside [] i d e lt = absurd (omega (arith, lt))
-inside (x ∷ xs) zero d e lt = refl
-inside (x ∷ xs) (suc i) d e lt = inside xs i d e (omega (arith, lt))
 
 -- the items that are left, seen by a view
 pub left_at : {A B : Type 0} (see : A → B) (xs : List A) (i : ℕ) (x : A) → i < length xs → x ≡ get_or xs i x → map see (drop i xs) ≡ see x ∷ map see (drop (i + 1) xs)

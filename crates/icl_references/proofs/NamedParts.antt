@@ -1,6 +1,5 @@
 -- What a name is found at in the tables of a cell.
-use Rattle.std.proofs.Common.{◌≡◌, ◌<◌, ℕ, zero, suc, List, [], ◌∷◌, length, map, get_or, Option, Some, None, Ok, Err, sym, ap, subst, ◌∙◌, arith}
-use Rattle.std.specs.Prelude.{slice_get}
+use Rattle.std.proofs.Common.{◌≡◌, ◌<◌, ℕ, List, length, map, get_or, Option, Some, None, Ok, Err, sym, ap, subst, ◌∙◌, arith}
 use Rattle.std.proofs.lemmas.List.{get_or-map, length-map}
 use Rattle.ij_text.specs.declared.Place.{Place}
 use Rattle.icl_syntax.specs.Values.{SeenItem}
@@ -17,12 +16,7 @@ use Rattle.icl_references.specs.Names.{Member, members, member_that, known_membe
 use Rattle.icl_references.specs.Tables.{IsCellTable, IsHere, here_in, no_frame, seen_member}
 use Rattle.icl_references.proofs.Members.{Finds, IsFound, finds}
 use Rattle.icl_references.proofs.Targets.{member_there}
-
--- a part that is there has a number below the count
-below : {A : Type 0} (xs : List A) (n : ℕ) (x : A) → slice_get xs n ≡ Some x → n < length xs
-below [] n x e = absurd cc
-below (y ∷ xs) zero x e = omega arith
-below (y ∷ xs) (suc n) x e = let lt = below xs n x e in omega (arith, lt)
+use Rattle.std.proofs.lemmas.Option.{slice_get_within}
 
 module _ (t : Tables) (cell : ℕ) (c : CellTable) (h : IsHere t cell) (e : c ≡ get_or t.cells.items cell c) where
   pub frame_is : (here_in t cell).frame ≡ seen_frame c.frame.now
@@ -66,7 +60,7 @@ module _ (c : CellTable) (table : IsCellTable c) (at : Place) (name : List ℕ) 
   named_ok part m is at' = ap (known_member at name) ((named_is part is).is m at')
 
   pub named_below : (part : ℕ) (m : MemberAt) → entry_of c.names name ≡ Some part → m ≡ get_or c.members.items part m → m.part < length (members frame)
-  named_below part m is at' = below (members frame) m.part (seen_member m) (member_there is_signal frame name (seen_member m) ((named_is part is).is m at'))
+  named_below part m is at' = slice_get_within (members frame) m.part (seen_member m) (member_there is_signal frame name (seen_member m) ((named_is part is).is m at'))
 
   pub unnamed : entry_of c.names name ≡ None → named frame at name ≡ Err (NoName at name)
   unnamed is = ap (known_member at name) (looked_up None is)

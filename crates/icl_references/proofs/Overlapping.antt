@@ -7,7 +7,9 @@ use Rattle.icl_values.specs.Values.{OpenBits}
 use Rattle.icl_references.specs.Muxes.{meet, rows_meet, some_meet}
 use Rattle.icl_references.specs.Overlaps.{AreRowsAlike, AreWide, from_left, has_key, is_closed, key_of, values_meet}
 use Rattle.icl_references.specs.Roles.{Choice}
-use Rattle.icl_frames.proofs.Answering.{all_both}
+use Rattle.std.proofs.lemmas.List.Folds.{list_any-append}
+use Rattle.ij_bits.proofs.Tests.{or_four}
+use Rattle.ij_bits.proofs.Everywhere.{all_both}
 
 -- ---- tests of lists
 
@@ -20,17 +22,9 @@ or_swap true true c = refl
 or_swap true false c = refl
 or_swap false b c = refl
 
-or_four : (a b c d : Bool) → ((a || b) || (c || d)) ≡ ((a || c) || (b || d))
-or_four true b c d = refl
-or_four false b c d = or_swap b c d
-
 none_any : {A : Type 0} (xs : List A) → list_any (λ (x : A). false) xs ≡ false
 none_any [] = refl
 none_any (x ∷ xs) = none_any xs
-
-any_append : {A : Type 0} (p : A → Bool) (xs ys : List A) → list_any p (xs ++ ys) ≡ (list_any p xs || list_any p ys)
-any_append p [] ys = refl
-any_append p (x ∷ xs) ys = ap (λ b. p x || b) (any_append p xs ys) ∙ or_assoc (p x) (list_any p xs) (list_any p ys)
 
 any_or : {A : Type 0} (p q : A → Bool) (xs : List A) → list_any (λ (x : A). p x || q x) xs ≡ (list_any p xs || list_any q xs)
 any_or p q [] = refl
@@ -53,7 +47,7 @@ left_is values (r ∷ rows) =
     let m = list_any (λ (u : OpenBits). meets_in u r) values in
     ap (λ b. values_meet values r.values || b) (left_is (values ++ r.values) rows)
     ∙ ap (λ b. b || (x (values ++ r.values) || some_meet rows)) (any_turned meet values r.values)
-    ∙ ap (λ b. m || (b || some_meet rows)) (any_append (λ (u : OpenBits). list_any (meets_in u) rows) values r.values ∙ ap (λ b. x values || b) (sym (any_turned meets_in r.values rows)))
+    ∙ ap (λ b. m || (b || some_meet rows)) (list_any-append (λ (u : OpenBits). list_any (meets_in u) rows) values r.values ∙ ap (λ b. x values || b) (sym (any_turned meets_in r.values rows)))
     ∙ ap (λ b. m || b) (sym (or_assoc (x values) (list_any (rows_meet r) rows) (some_meet rows)))
     ∙ or_assoc m (x values) (list_any (rows_meet r) rows || some_meet rows)
     ∙ ap (λ b. b || (list_any (rows_meet r) rows || some_meet rows)) (sym (any_or (λ (u : OpenBits). meets_in u r) (λ (u : OpenBits). list_any (meets_in u) rows) values))

@@ -1,8 +1,8 @@
 -- What a path leads to is there, and so is each bit that a range names.
-use Rattle.std.proofs.Common.{◌≡◌, ◌⊎◌, inl, inr, ◌+◌, ◌-◌, ◌<◌, ◌≤◌, ℕ, zero, suc, Bool, true, false, cond, ◌&&◌, ◌||◌, List, [], ◌∷◌, map, Option, Some, None, Ok, Err, refl, sym, ap, subst, ◌∙◌, arith}
+use Rattle.std.proofs.Common.{◌≡◌, inl, inr, ◌+◌, ◌-◌, ◌<◌, ◌≤◌, ℕ, zero, suc, Bool, true, false, cond, ◌&&◌, List, [], ◌∷◌, map, Option, Some, None, Ok, Err, refl, sym, ap, subst, ◌∙◌, arith}
 use Rattle.std.specs.Prelude.{slice_get, find, nat_le}
 use Rattle.std.specs.List.{AllByRecursion, enumerate_from, range_with_len}
-use Rattle.std.proofs.lemmas.Bool.{true≢false, leb-true}
+use Rattle.std.proofs.lemmas.Bool.{leb-true, and_parts, or_cases}
 use Rattle.std.proofs.lemmas.Bool.Decides.{leb_tells}
 use Rattle.ij_text.specs.declared.Place.{Place}
 use Rattle.icl_syntax.specs.Values.{SeenRange, SeenWhat, APort, ARegister, AMux, AChild, AnAlias, SomeWords, AParameter, AnInterface, ALink, AnAttribute, SeenItem}
@@ -17,13 +17,7 @@ use Rattle.icl_frames.specs.FirstPass.{Frame}
 use Rattle.icl_references.specs.Names.{Here, here_of, Member, members_from, members, member_that, known_member, named, child_cell, known_cell, inside, Target, path_from}
 use Rattle.icl_references.specs.Signals.{bit_of, bits_of}
 use Rattle.icl_frames.proofs.Answering.{both, ok_is}
-
-pub some_is : {A : Type 0} (x y : A) → Some x ≡ Some y → x ≡ y
-some_is {A} x y h = ap (value x) h
-  where
-    value : A → Option A → A
-    value d (Some z) = z
-    value d None = d
+use Rattle.std.proofs.lemmas.Option.{same_Some}
 
 -- ---- what is found in a list of numbered items stands at its number
 
@@ -37,7 +31,7 @@ enum_found p s [] y h = absurd cc
 enum_found {A} p s (x ∷ xs) y h = by_test (p (s, x)) h (λ g. enum_found p (s + 1) xs y g)
   where
     by_test : (b : Bool) → cond b (Some (s, x)) (find p (enumerate_from (s + 1) xs)) ≡ Some y → (find p (enumerate_from (s + 1) xs) ≡ Some y → IsAt xs (s + 1) y.0 y.1) → IsAt (x ∷ xs) s y.0 y.1
-    by_test true g again = let e : (s, x) ≡ y = some_is (s, x) y g in record { place = 0; there = ap (λ (z : ℕ × A). Some z.1) e; number = let f : s ≡ y.0 = ap (λ (z : ℕ × A). z.0) e in omega (arith, f) }
+    by_test true g again = let e : (s, x) ≡ y = same_Some (s, x) y g in record { place = 0; there = ap (λ (z : ℕ × A). Some z.1) e; number = let f : s ≡ y.0 = ap (λ (z : ℕ × A). z.0) e in omega (arith, f) }
     by_test false g again = let a = again g in record { place = suc a.place; there = a.there; number = let e = a.number in omega (arith, e) }
 
 member_found : (q : Member → Bool) (s : ℕ) (items : List SeenItem) (bs : List Bounds) (m : Member) → find q (members_from s items bs) ≡ Some m → IsAt (members_from s items bs) s m.part m
@@ -46,13 +40,13 @@ member_found q s (item ∷ items) [] m h = by_test (q (record { part = s; item =
   where
     by_test : (b : Bool) → cond b (Some (record { part = s; item = item; bounds = one_bit })) (find q (members_from (suc s) items [])) ≡ Some m
         → (find q (members_from (suc s) items []) ≡ Some m → IsAt (members_from (suc s) items []) (suc s) m.part m) → IsAt (members_from s (item ∷ items) []) s m.part m
-    by_test true g again = let e : record { part = s; item = item; bounds = one_bit } ≡ m = some_is _ m g in record { place = 0; there = ap (λ z. Some z) e; number = let f : s ≡ m.part = ap (λ (z : Member). z.part) e in omega (arith, f) }
+    by_test true g again = let e : record { part = s; item = item; bounds = one_bit } ≡ m = same_Some _ m g in record { place = 0; there = ap (λ z. Some z) e; number = let f : s ≡ m.part = ap (λ (z : Member). z.part) e in omega (arith, f) }
     by_test false g again = let a = again g in record { place = suc a.place; there = a.there; number = let e = a.number in omega (arith, e) }
 member_found q s (item ∷ items) (b ∷ bs) m h = by_test (q (record { part = s; item = item; bounds = b })) h (λ g. member_found q (suc s) items bs m g)
   where
     by_test : (c : Bool) → cond c (Some (record { part = s; item = item; bounds = b })) (find q (members_from (suc s) items bs)) ≡ Some m
         → (find q (members_from (suc s) items bs) ≡ Some m → IsAt (members_from (suc s) items bs) (suc s) m.part m) → IsAt (members_from s (item ∷ items) (b ∷ bs)) s m.part m
-    by_test true g again = let e : record { part = s; item = item; bounds = b } ≡ m = some_is _ m g in record { place = 0; there = ap (λ z. Some z) e; number = let f : s ≡ m.part = ap (λ (z : Member). z.part) e in omega (arith, f) }
+    by_test true g again = let e : record { part = s; item = item; bounds = b } ≡ m = same_Some _ m g in record { place = 0; there = ap (λ z. Some z) e; number = let f : s ≡ m.part = ap (λ (z : Member). z.part) e in omega (arith, f) }
     by_test false g again = let a = again g in record { place = suc a.place; there = a.there; number = let e = a.number in omega (arith, e) }
 
 -- ---- cells and parts that are there
@@ -120,17 +114,6 @@ path_there frames here at (name ∷ next ∷ names) t i h =
 
 -- ---- positions
 
-both_true : (x y : Bool) → (x && y) ≡ true → (x ≡ true) × (y ≡ true)
-both_true true y h = (refl, h)
-both_true false y h = absurd (true≢false (sym h))
-
-either_true : (x y : Bool) → (x || y) ≡ true → (x ≡ true) ⊎ (y ≡ true)
-either_true true y h = inl refl
-either_true false y h = inr h
-
-below_true : (a b : ℕ) → nat_le a b ≡ true → a ≤ b
-below_true a b e = leb-true a b e
-
 between : (b : Bounds) (i : ℕ) → (b.right ≤ i) × (i ≤ b.left) → position_of b i < width b
 between b i h = let p = h.0 in let q = h.1 in omega (arith, p, q)
 
@@ -140,9 +123,9 @@ between' b i h = let p = h.0 in let q = h.1 in omega (arith, p, q)
 -- an index stands at a position below the width
 index_within : (b : Bounds) (i : ℕ) → has_index b i ≡ true → position_of b i < width b
 index_within b i h =
-    elim (either_true (nat_le b.right i && nat_le i b.left) (nat_le b.left i && nat_le i b.right) h) [
-      | inl e ↦ let f = both_true (nat_le b.right i) (nat_le i b.left) e in between b i (below_true b.right i f.0, below_true i b.left f.1)
-      | inr e ↦ let f = both_true (nat_le b.left i) (nat_le i b.right) e in between' b i (below_true b.left i f.0, below_true i b.right f.1)
+    elim (or_cases (nat_le b.right i && nat_le i b.left) (nat_le b.left i && nat_le i b.right) h) [
+      | inl e ↦ let f = and_parts (nat_le b.right i) (nat_le i b.left) e in between b i (leb-true b.right i f.0, leb-true i b.left f.1)
+      | inr e ↦ let f = and_parts (nat_le b.left i) (nat_le i b.right) e in between' b i (leb-true b.left i f.0, leb-true i b.right f.1)
     ]
 
 abbrev pub IsWithin : Bounds → Stretch → Type 0
@@ -153,8 +136,8 @@ stretch_within at b i s h = by_test (runs_along b i) refl h
   where
     by_test : (t : Bool) → runs_along b i ≡ t → cond {A = Answer Stretch} t (Ok (record { low = position_of b i.right; high = position_of b i.left })) (Err (BadRange at)) ≡ Ok s → IsWithin b s
     by_test true e g =
-        let f = both_true (has_index b i.left && has_index b i.right) (nat_le (position_of b i.right) (position_of b i.left)) e in
-        let l = both_true (has_index b i.left) (has_index b i.right) f.0 in
+        let f = and_parts (has_index b i.left && has_index b i.right) (nat_le (position_of b i.right) (position_of b i.left)) e in
+        let l = and_parts (has_index b i.left) (has_index b i.right) f.0 in
         subst (IsWithin b) (ok_is _ s g) (index_within b i.left l.0)
     by_test false e g = absurd cc
 

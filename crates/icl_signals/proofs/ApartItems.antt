@@ -5,7 +5,8 @@ use Rattle.std.specs.List.{AllByRecursion, enumerate_from, position_from}
 use Rattle.std.proofs.lemmas.Bool.{eq-eqb, eqb-true}
 use Rattle.std.proofs.lemmas.Iterator.Adapters.{position_from-zero}
 use Rattle.ij_bits.specs.Different.{AreDifferent}
-use Rattle.icl_signals.proofs.Paired.{some_is, all_at, all_kept, all_of_map, all_in_map, all_weaker}
+use Rattle.icl_signals.proofs.Paired.{all_at, all_kept, all_of_map, all_in_map, all_weaker}
+use Rattle.std.proofs.lemmas.Option.{same_Some}
 
 module _ {A : Type 0} (R : A → A → Type 0) where
   -- each item is apart from all later ones
@@ -33,7 +34,7 @@ module _ {A : Type 0} (R : A → A → Type 0) where
   pub apart_at : (xs : List A) (j k : ℕ) (x y : A) → Apart xs → j < k → slice_get xs j ≡ Some x → slice_get xs k ≡ Some y → R x y
   apart_at [] j k x y h lt e f = absurd cc
   apart_at (z ∷ xs) j zero x y h lt e f = absurd (omega (arith, lt))
-  apart_at (z ∷ xs) zero (suc k) x y h lt e f = subst (λ u. R u y) (some_is z x e) (all_at (R z) xs k y h.0 f)
+  apart_at (z ∷ xs) zero (suc k) x y h lt e f = subst (λ u. R u y) (same_Some z x e) (all_at (R z) xs k y h.0 f)
   apart_at (z ∷ xs) (suc j) (suc k) x y h lt e f = apart_at xs j k x y h.1 (omega (arith, lt)) e f
 
 module _ {A : Type 0} (R S : A → A → Type 0) (f : (x y : A) → R x y → S x y) where
@@ -94,7 +95,7 @@ in_map {A} f x xs h = record { place = h.place; is = go xs h.place h.is }
   where
     go : (zs : List A) (k : ℕ) → slice_get zs k ≡ Some x → slice_get (map f zs) k ≡ Some (f x)
     go [] k e = absurd cc
-    go (z ∷ zs) zero e = ap (λ u. Some (f u)) (some_is z x e)
+    go (z ∷ zs) zero e = ap (λ u. Some (f u)) (same_Some z x e)
     go (z ∷ zs) (suc k) e = go zs k e
 
 pub in_kept : {A : Type 0} (test : A → Bool) (x : A) (xs : List A) → In x xs → test x ≡ true → In x (filter test xs)
@@ -107,7 +108,7 @@ in_kept {A} test x xs h t = go xs h.place h.is
     go : (zs : List A) (k : ℕ) → slice_get zs k ≡ Some x → In x (filter test zs)
     go [] k e = absurd cc
     go (z ∷ zs) zero e =
-        let u : test z ≡ true = ap test (some_is z x e) ∙ t in
+        let u : test z ≡ true = ap test (same_Some z x e) ∙ t in
         rw u (record { place = 0; is = e })
     go (z ∷ zs) (suc k) e = one_more z zs (test z) refl (go zs k e)
 
@@ -116,14 +117,14 @@ in_flat {A} {B} f a x xs h g = go xs h.place h.is
   where
     go : (zs : List A) (k : ℕ) → slice_get zs k ≡ Some a → In x (flat_map f zs)
     go [] k e = absurd cc
-    go (z ∷ zs) zero e = in_first x (f z) (flat_map f zs) (subst (λ u. In x (f u)) (sym (some_is z a e)) g)
+    go (z ∷ zs) zero e = in_first x (f z) (flat_map f zs) (subst (λ u. In x (f u)) (sym (same_Some z a e)) g)
     go (z ∷ zs) (suc k) e = in_second x (f z) (flat_map f zs) (go zs k e)
 
 pub in_numbered : {A : Type 0} (x : A) (n s k : ℕ) (xs : List A) → s + k ≡ n → slice_get xs k ≡ Some x → In (n, x) (enumerate_from s xs)
 in_numbered x n s k [] e h = absurd cc
 in_numbered x n s zero (y ∷ xs) e h =
     let m : s ≡ n = omega (arith, e) in
-    record { place = 0; is = ap (λ i. Some (i, y)) m ∙ ap (λ z. Some (n, z)) (some_is y x h) }
+    record { place = 0; is = ap (λ i. Some (i, y)) m ∙ ap (λ z. Some (n, z)) (same_Some y x h) }
 in_numbered x n s (suc k) (y ∷ xs) e h = in_later (n, x) (s, y) (enumerate_from (s + 1) xs) (in_numbered x n (s + 1) k xs (omega (arith, e)) h)
 
 -- ---- the number of an item
@@ -132,7 +133,7 @@ pub position_at : {A : Type 0} (test : A → Bool) (i k : ℕ) (xs : List A) (x 
     → Apart (λ y z. test y ≡ true → test z ≡ true → ⊥) xs → position_from test i xs ≡ Some (i + k)
 position_at test i k [] x h t a = absurd cc
 position_at test i zero (y ∷ xs) x h t a =
-    let u : test y ≡ true = ap test (some_is y x h) ∙ t in
+    let u : test y ≡ true = ap test (same_Some y x h) ∙ t in
     let n : i ≡ i + 0 = omega arith in
     rw u (ap (λ j. Some j) n)
 position_at {A} test i (suc k) (y ∷ xs) x h t a = by_test (test y) refl (position_at test (i + 1) k xs x h t a.1)

@@ -12,6 +12,8 @@ use Rattle.icl_signals.specs.declared.parts.Kind.TheVariants.{Output}
 use Rattle.icl_signals.specs.Moves.{Entry, entry_of, entries_in}
 use Rattle.icl_signals.specs.Connecting.{is_same, entries_that, number_among, instrument_number, parts_that, output_number}
 use Rattle.icl_signals.specs.Kinds.{test_of, is_of, one_if, in_front, with_all, numbers_from, number_at}
+use Rattle.std.proofs.lemmas.Option.{same_Some}
+use Rattle.ij_bits.proofs.Lists.{get_mapped}
 
 -- ---- the first that passes a test
 
@@ -58,13 +60,6 @@ not_later cell s j = rw (eq-eqb cell cell refl, ne_eqb s (s + suc j) (λ e. omeg
 not_in_cell : (a s k p q : ℕ) → a ≡ s → (a == s + suc k && q == p) ≡ false
 not_in_cell a s k p q e = rw (ne_eqb a (s + suc k) (λ f. omega (arith, e, f))) refl
 
-value_is : {A : Type 0} (a b : A) → Some a ≡ Some b → a ≡ b
-value_is {A} a b g = ap (value a) g
-  where
-    value : A → Option A → A
-    value u (Some z) = z
-    value u None = u
-
 pub record PartBehind (kind : Kind) (cell part n at : ℕ) (es : List Entry) : Type 0 where
   pub m : ℕ
   pub count : n + m ≡ at
@@ -76,7 +71,7 @@ of_cell kind cell s ps = filter (λ e. test_of kind e.what.role) (map (entry_of 
 part_behind : (kind : Kind) (cell s n : ℕ) (ps : List PartOf) (j : ℕ) (x : PartOf) → slice_get ps j ≡ Some x → is_of kind x ≡ true → PartBehind kind cell (s + j) n (get_or (in_front (is_of kind) n ps) j 0) (of_cell kind cell s ps)
 part_behind kind cell s n [] j x h t = absurd cc
 part_behind kind cell s n (p ∷ ps) zero x h t =
-    let e : is_of kind p ≡ true = ap (is_of kind) (value_is p x h) ∙ t in
+    let e : is_of kind p ≡ true = ap (is_of kind) (same_Some p x h) ∙ t in
     record { m = 0; count = omega arith; behind = record { front = []; here = entry_of cell (s, p); back = of_cell kind cell (s + 1) ps; is = rw e refl; none = tt; hit = same_here cell s; long = refl } }
 part_behind kind cell s n (p ∷ ps) (suc j) x h t = by_test (λ m. part_behind kind cell (s + 1) m ps j x h t) (is_of kind p) refl
   where
@@ -128,7 +123,7 @@ cell_behind : (kind : Kind) (s n : ℕ) (cells : List CellOf) (k part : ℕ) (c 
     → PartBehind kind (s + k) part n (get_or (get_or (numbers_from kind n cells) k []) part 0) (of_cells kind s cells)
 cell_behind kind s n [] k part c x h g t = absurd cc
 cell_behind kind s n (d ∷ cells) zero part c x h g t =
-    let r = part_behind kind s 0 n d.parts part x (ap (λ (z : CellOf). slice_get z.parts part) (value_is d c h) ∙ g) t in
+    let r = part_behind kind s 0 n d.parts part x (ap (λ (z : CellOf). slice_get z.parts part) (same_Some d c h) ∙ g) t in
     let cell : s ≡ s + 0 = omega arith in
     let at : 0 + part ≡ part = omega arith in
     let b = subst (λ z. IsBehind (is_same z part) (of_cell kind s 0 d.parts) r.m) cell (subst (λ z. IsBehind (is_same s z) (of_cell kind s 0 d.parts) r.m) at r.behind) in
@@ -171,7 +166,7 @@ pub record NumberBehind {A : Type 0} (at n count : ℕ) (qs : List (ℕ × A)) :
 item_behind : {A : Type 0} (test : A → Bool) (s n : ℕ) (xs : List A) (j : ℕ) (x : A) → slice_get xs j ≡ Some x → test x ≡ true → NumberBehind (s + j) n (get_or (in_front test n xs) j 0) (filter (λ q. test q.1) (enumerate_from s xs))
 item_behind test s n [] j x h t = absurd cc
 item_behind test s n (y ∷ xs) zero x h t =
-    let e : test y ≡ true = ap test (value_is y x h) ∙ t in
+    let e : test y ≡ true = ap test (same_Some y x h) ∙ t in
     let same : s ≡ s + 0 = omega arith in
     record { m = 0; count_is = omega arith; behind = record { front = []; here = (s, y); back = filter (λ q. test q.1) (enumerate_from (s + 1) xs); is = rw e refl; none = tt; hit = eq-eqb s (s + 0) same; long = refl } }
 item_behind {A} test s n (y ∷ xs) (suc j) x h t = by_test (λ m. item_behind test (s + 1) m xs j x h t) (test y) refl
@@ -216,11 +211,6 @@ item_number {A} test xs j x h t =
 pub tested_before : {A : Type 0} (test : A → Bool) (n : ℕ) (xs : List A) → in_front (λ b. b) n (map test xs) ≡ in_front test n xs
 tested_before test n [] = refl
 tested_before test n (x ∷ xs) = ap (λ l. n ∷ l) (tested_before test (n + one_if (test x)) xs)
-
-pub get_mapped : {A B : Type 0} (f : A → B) (d : B) (xs : List A) (k : ℕ) (x : A) → slice_get xs k ≡ Some x → get_or (map f xs) k d ≡ f x
-get_mapped f d [] k x h = absurd cc
-get_mapped f d (y ∷ xs) zero x h = ap f (value_is y x h)
-get_mapped f d (y ∷ xs) (suc k) x h = get_mapped f d xs k x h
 
 pub output_number_is : (cells : List CellOf) (cell part : ℕ) (c : CellOf) (x : PartOf) → slice_get cells cell ≡ Some c → slice_get c.parts part ≡ Some x → is_of Output x ≡ true
     → number_at (map (λ d. in_front (is_of Output) 0 d.parts) cells) cell part ≡ output_number cells cell part

@@ -1,8 +1,8 @@
 -- The parts of a hierarchy among those of their kind: each stands at its number.
-use Rattle.std.proofs.Common.{◌≡◌, ◌+◌, ◌<◌, ◌==◌, ◌&&◌, ◌++◌, ℕ, Bool, true, false, List, [], ◌∷◌, map, filter, flat_map, Some, refl, sym, ap, subst, ◌∙◌, arith}
+use Rattle.std.proofs.Common.{◌≡◌, ◌+◌, ◌<◌, ◌==◌, ◌&&◌, ◌++◌, ℕ, Bool, true, List, [], ◌∷◌, map, filter, flat_map, Some, refl, sym, ap, subst, ◌∙◌, arith}
 use Rattle.std.specs.Prelude.{slice_get, position, unwrap_or}
 use Rattle.std.specs.List.{AllByRecursion, enumerate_from}
-use Rattle.std.proofs.lemmas.Bool.{eq-eqb, eqb-true, true≢false}
+use Rattle.std.proofs.lemmas.Bool.{eq-eqb, eqb-true, and_parts}
 use Rattle.std.proofs.lemmas.List.Elements.{filter-append}
 use Rattle.icl_elab.specs.WellFormed.{is_data_out, is_instrument}
 use Rattle.icl_references.specs.Roles.{Role, PartOf, CellOf, part_at}
@@ -10,8 +10,9 @@ use Rattle.icl_signals.specs.Moves.{Entry, entry_of, entries_in, entries}
 use Rattle.icl_signals.specs.Connecting.{entries_that, is_same, number_among, instruments, instrument_number, parts_that, output_number}
 use Rattle.icl_signals.proofs.Joined.{Known, all_known}
 use Rattle.icl_signals.proofs.Standing.{in_cell}
-use Rattle.icl_signals.proofs.Paired.{all_kept, all_passing, all_and, mapped_place}
+use Rattle.icl_signals.proofs.Paired.{all_kept, all_passing, all_and}
 use Rattle.icl_signals.proofs.ApartItems.{Apart, apart_kept, apart_append, apart_weaker, apart_of_map, In, in_map, in_kept, in_flat, in_numbered, number_is, numbers_rise, known_numbers, kept_number}
+use Rattle.ij_bits.proofs.Lists.{get_mapped}
 
 -- ---- the parts of a kind
 
@@ -101,14 +102,10 @@ entries_apart test cells = cells_apart ApartParts (λ e. test e.what.role) (λ e
     by_cell s [] = tt
     by_cell s (c ∷ cs) = (apart_kept ApartParts (λ e. test e.what.role) (entries_in (s, c)) (entries_apart_in s c.parts), by_cell (s + 1) cs)
 
-both_true : (x y : Bool) → (x && y) ≡ true → (x ≡ true) × (y ≡ true)
-both_true true y h = (refl, h)
-both_true false y h = absurd (true≢false (sym h))
-
 not_both : (cell part : ℕ) (e f : Entry) → ApartParts e f → is_same cell part e ≡ true → is_same cell part f ≡ true → ⊥
 not_both cell part e f h a b =
-    let x = both_true (e.cell == cell) (e.part == part) a in
-    let y = both_true (f.cell == cell) (f.part == part) b in
+    let x = and_parts (e.cell == cell) (e.part == part) a in
+    let y = and_parts (f.cell == cell) (f.part == part) b in
     h (eqb-true e.cell cell x.0 ∙ sym (eqb-true f.cell cell y.0)) (eqb-true e.part part x.1 ∙ sym (eqb-true f.part part y.1))
 
 both_same : (a b : ℕ) → (a == a && b == b) ≡ true
@@ -147,5 +144,5 @@ pub output_there : (cells : List CellOf) (cell part : ℕ) (c : CellOf) (p : Par
     → slice_get (parts_that is_data_out c) (output_number cells cell part) ≡ Some (part, p)
 output_there cells cell part c p h g t =
     ap (λ l. slice_get (parts_that is_data_out c) (unwrap_or (position (λ (q : ℕ × PartOf). q.0 == part) l) 0))
-    (mapped_place (parts_that is_data_out) [] cells cell c h)
+    (get_mapped (parts_that is_data_out) [] cells cell c h)
     ∙ kept_number (λ (q : PartOf). is_data_out q.role) c.parts part p g t

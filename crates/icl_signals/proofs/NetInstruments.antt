@@ -1,5 +1,5 @@
 -- The instruments of the network of a hierarchy are well formed.
-use Rattle.std.proofs.Common.{◌≡◌, ◌<◌, ◌≤◌, ℕ, Bool, true, false, List, [], ◌∷◌, map, length, filter, Option, Some, Ok, refl, sym, ap, subst, ◌∙◌, arith}
+use Rattle.std.proofs.Common.{◌≡◌, ◌<◌, ◌≤◌, ℕ, Bool, true, false, List, map, length, filter, Option, Some, Ok, refl, sym, ap, subst, ◌∙◌, arith}
 use Rattle.std.specs.Prelude.{All, slice_get}
 use Rattle.std.specs.List.{AllByRecursion, enumerate_from}
 use Rattle.std.proofs.lemmas.Bool.{true≢false}
@@ -21,12 +21,14 @@ use Rattle.icl_signals.specs.declared.wires.Wire.{Wire}
 use Rattle.icl_signals.specs.Moves.{Entry}
 use Rattle.icl_signals.specs.PlainNets.{OutputOf, seen_input, seen_output, seen_inst}
 use Rattle.icl_signals.specs.Connecting.{instruments, parts_that, own_bits, output_of, input_from, input_of, instrument_of}
-use Rattle.icl_signals.proofs.Paired.{paired_length, paired_maps, paired_all, each_paired, each_itself, mapped_paired, all_at, all_kept, all_passing, all_and, place_below}
+use Rattle.icl_signals.proofs.Paired.{paired_length, paired_maps, paired_all, each_paired, each_itself, mapped_paired, all_at, all_kept, all_passing, all_and}
 use Rattle.icl_signals.proofs.ApartItems.{Apart, apart_kept, apart_weaker, apart_of_map, apart_in_map, apart_different, different_apart, in_kept, known_numbers, kept_items, numbers_rise}
 use Rattle.icl_signals.proofs.EntryNumbers.{all_instruments_known}
 use Rattle.icl_signals.proofs.NetParts.{IsNetOf, instrument_is, input_is}
 use Rattle.icl_signals.proofs.NetSignals.{IsShaped, input_there}
 use Rattle.icl_signals.proofs.PartFacts.{length_own, own_there}
+use Rattle.ij_bits.proofs.Lists.{filter_twice}
+use Rattle.std.proofs.lemmas.Option.{slice_get_within}
 
 -- ---- tests of roles
 
@@ -48,21 +50,9 @@ output_thing role h = absurd (true≢false (sym h))
 
 -- ---- fewer items
 
-twice_kept : {A : Type 0} (test also : A → Bool) → ((x : A) → also x ≡ true → test x ≡ true) → (xs : List A)
-    → filter also (filter test xs) ≡ filter also xs
-twice_kept test also f [] = refl
-twice_kept {A} test also f (x ∷ xs) = by_test (test x) refl (also x) refl (twice_kept test also f xs)
-  where
-    by_test : (b : Bool) → test x ≡ b → (c : Bool) → also x ≡ c → filter also (filter test xs) ≡ filter also xs
-        → filter also (filter test (x ∷ xs)) ≡ filter also (x ∷ xs)
-    by_test true e true d h = rw (e, d) (ap (λ l. x ∷ l) h)
-    by_test true e false d h = rw (e, d) h
-    by_test false e true d h = absurd (true≢false (sym (f x d) ∙ e))
-    by_test false e false d h = rw (e, d) h
-
 fewer_apart : {A : Type 0} (R : A → A → Type 0) (test also : A → Bool) → ((x : A) → also x ≡ true → test x ≡ true) → (xs : List A)
     → Apart R (filter test xs) → Apart R (filter also xs)
-fewer_apart R test also f xs h = subst (Apart R) (twice_kept test also f xs) (apart_kept R also (filter test xs) h)
+fewer_apart R test also f xs h = subst (Apart R) (filter_twice test also f xs) (apart_kept R also (filter test xs) h)
 
 -- ---- the ports of a cell
 
@@ -139,7 +129,7 @@ module _ (cells : List CellOf) (entry : Wire) (net : Net) (shaped : IsShaped cel
       let outs_are = length_parts is_data_out c.1 in
       let few_ins = few.inputs in
       let few_outs = few.outputs in
-      let below = place_below cells c.0 c.1 k.0 in
+      let below = slice_get_within cells c.0 c.1 k.0 in
       let node = i.node in
       let nodes = shaped.nodes in
       record {

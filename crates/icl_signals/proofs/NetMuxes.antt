@@ -27,8 +27,9 @@ use Rattle.icl_signals.proofs.Paired.{paired_length, paired_maps, paired_all, ea
 use Rattle.icl_signals.proofs.EntryNumbers.{IsKept, all_kept_known}
 use Rattle.icl_signals.proofs.NetParts.{IsNetOf, mux_is, row_is}
 use Rattle.icl_signals.proofs.NetSignals.{IsShaped, select_there, scan_there}
-use Rattle.icl_signals.proofs.PartFacts.{cell_below, part_named, tern_length}
+use Rattle.icl_signals.proofs.PartFacts.{cell_below, part_named}
 use Rattle.icl_signals.proofs.RowsApart.{one_row_with}
+use Rattle.ij_text.proofs.Numbers.{tern_length}
 
 module _ (cells : List CellOf) (entry : Wire) (net : Net) (shaped : IsShaped cells entry net) (wired : AreWired cells) (named : AllByRecursion IsCell cells) where
   abbrev IsWideRow : ℕ → Choice → Type 0

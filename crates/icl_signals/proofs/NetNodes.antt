@@ -15,9 +15,12 @@ use Rattle.net_graph.specs.declared.net.Node.{Node}
 use Rattle.net_graph.specs.Nets.{path_of}
 use Rattle.icl_signals.specs.PlainNets.{NodeOf, seen_node}
 use Rattle.icl_signals.specs.Connecting.{path_with, paths_from, node_of}
-use Rattle.icl_signals.proofs.Paired.{some_is, head_is, tail_is, paired_maps, mapped_paired, all_and, all_weaker, all_in_map, place_below, at_place}
+use Rattle.icl_signals.proofs.Paired.{paired_maps, mapped_paired, all_and, all_weaker, all_in_map, at_place}
 use Rattle.icl_signals.proofs.ApartItems.{Apart, apart_at, apart_of_map, apart_in_map, apart_different, different_apart, numbers_rise, known_numbers}
 use Rattle.icl_signals.proofs.NetParts.{IsNetOf}
+use Rattle.ij_bits.proofs.Everywhere.{all_one}
+use Rattle.std.proofs.lemmas.Option.{same_Some, slice_get_within}
+use Rattle.ij_bits.proofs.Lists.{head_same, tail_same}
 
 abbrev Path : Type 0
 Path = List (List ℕ)
@@ -57,7 +60,7 @@ path_is : (paths : List Path) (cs : List CellOf) (j k : ℕ) (c : CellOf) → k 
 path_is paths [] j k c e h b = absurd cc
 path_is paths (d ∷ cs) zero k c e h b =
     let long = longer paths d in
-    let same = some_is d c h in
+    let same = same_Some d c h in
     paths_kept (one_longer paths d) cs k (omega (arith, e, long))
     ∙ last_at paths (path_with paths d d.parent) k (omega (arith, e))
     ∙ ap (λ (x : CellOf). path_with paths x x.parent) same
@@ -99,10 +102,6 @@ IsNamed name = IsTrue (is_name name)
 abbrev HasNames : Path → Type 0
 HasNames path = AllByRecursion IsNamed path
 
-all_more : {A : Type 0} (P : A → Type 0) (xs : List A) (x : A) → AllByRecursion P xs → P x → AllByRecursion P (xs ++ x ∷ [])
-all_more P [] x h p = (p, tt)
-all_more P (y ∷ xs) x h p = (h.0, all_more P xs x h.1 p)
-
 names_at : (paths : List Path) (k : ℕ) → AllByRecursion HasNames paths → HasNames (get_or paths k [])
 names_at [] k h = tt
 names_at (p ∷ paths) zero h = h.0
@@ -111,13 +110,13 @@ names_at (p ∷ paths) (suc k) h = names_at paths k h.1
 names_with : (paths : List Path) (c : CellOf) (o : Option ℕ) → AllByRecursion HasNames paths
     → IfSome o (λ parent. IsTrue (is_name c.name)) → HasNames (path_with paths c o)
 names_with paths c None h n = tt
-names_with paths c (Some parent) h n = all_more IsNamed (get_or paths parent []) c.name (names_at paths parent h) n
+names_with paths c (Some parent) h n = all_one IsNamed (get_or paths parent []) c.name (names_at paths parent h) n
 
 paths_named : (paths : List Path) (cs : List CellOf) → AllByRecursion HasNames paths → AllByRecursion IsCell cs
     → AllByRecursion HasNames (paths_from paths cs)
 paths_named paths [] h n = h
 paths_named paths (c ∷ cs) h n = paths_named (one_longer paths c) cs
-    (all_more HasNames paths (path_with paths c c.parent) h (names_with paths c c.parent h n.0.name)) n.1
+    (all_one HasNames paths (path_with paths c c.parent) h (names_with paths c c.parent h n.0.name)) n.1
 
 -- ---- paths differ
 
@@ -149,12 +148,12 @@ pub record SameEnds (xs ys : Path) (x y : List ℕ) : Type 0 where
   pub last : x ≡ y
 
 ends_same : (xs ys : Path) (x y : List ℕ) → xs ++ x ∷ [] ≡ ys ++ y ∷ [] → SameEnds xs ys x y
-ends_same [] [] x y e = record { front = refl; last = head_is x y [] [] e }
-ends_same [] (b ∷ ys) x y e = absurd (no_more ys y (tail_is x b [] (ys ++ y ∷ []) e))
-ends_same (a ∷ xs) [] x y e = absurd (no_more xs x (sym (tail_is a y (xs ++ x ∷ []) [] e)))
+ends_same [] [] x y e = record { front = refl; last = head_same x y [] [] e }
+ends_same [] (b ∷ ys) x y e = absurd (no_more ys y (tail_same x b [] (ys ++ y ∷ []) e))
+ends_same (a ∷ xs) [] x y e = absurd (no_more xs x (sym (tail_same a y (xs ++ x ∷ []) [] e)))
 ends_same (a ∷ xs) (b ∷ ys) x y e =
-    let rest = ends_same xs ys x y (tail_is a b (xs ++ x ∷ []) (ys ++ y ∷ []) e) in
-    let first = head_is a b (xs ++ x ∷ []) (ys ++ y ∷ []) e in
+    let rest = ends_same xs ys x y (tail_same a b (xs ++ x ∷ []) (ys ++ y ∷ []) e) in
+    let first = head_same a b (xs ++ x ∷ []) (ys ++ y ∷ []) e in
     record { front = ap (λ z. z ∷ xs) first ∙ ap (λ l. b ∷ l) rest.front; last = rest.last }
 
 module _ (cells : List CellOf) (h : IsHierarchy cells) where
@@ -173,7 +172,7 @@ module _ (cells : List CellOf) (h : IsHierarchy cells) where
       go s [] j n a g = absurd cc
       go s (d ∷ cs) zero n a g =
           let m : s ≡ k = omega (arith, n) in
-          subst (λ (i : ℕ). IsBelow i c.parent) m (subst (λ (x : CellOf). IsBelow s x.parent) (some_is d c g) a.0)
+          subst (λ (i : ℕ). IsBelow i c.parent) m (subst (λ (x : CellOf). IsBelow s x.parent) (same_Some d c g) a.0)
       go s (d ∷ cs) (suc j) n a g = go (s + 1) cs j (omega (arith, n)) a.1 g
 
   own_path : (k : ℕ) (c : CellOf) → slice_get cells k ≡ Some c → path_at k ≡ path_with all_paths c c.parent
@@ -207,8 +206,8 @@ module _ (cells : List CellOf) (h : IsHierarchy cells) where
       by_parents (Some p) None u v a b s again = absurd (no_more (path_at p) c.name (sym s))
       by_parents (Some p) (Some q) u v a b s again =
           let r = ends_same (path_at p) (path_at q) c.name d.name s in
-          let below_j = place_below cells j c e in
-          let below_k = place_below cells k d f in
+          let below_j = slice_get_within cells j c e in
+          let below_k = slice_get_within cells k d f in
           let x = at_place cells p (omega (arith, a, below_j)) in
           let y = at_place cells q (omega (arith, b, below_k)) in
           let parents = again p q x.item y.item (omega (arith, a, lt)) x.is y.is r.front in

@@ -23,11 +23,13 @@ use Rattle.icl_signals.specs.Moves.{Entry}
 use Rattle.icl_signals.specs.PlainNets.{seen_reg}
 use Rattle.icl_signals.specs.Connecting.{entries_that, number_among, resets, data_from, scan_source, captures, register_of}
 use Rattle.icl_signals.proofs.Joined.{part_wired}
-use Rattle.icl_signals.proofs.Paired.{paired_length, paired_all, each_paired, each_itself, place_below}
+use Rattle.icl_signals.proofs.Paired.{paired_length, paired_all, each_paired, each_itself}
 use Rattle.icl_signals.proofs.EntryNumbers.{IsKept, all_kept_known, the_entry, entry_of_number}
 use Rattle.icl_signals.proofs.NetParts.{IsNetOf, register_is}
 use Rattle.icl_signals.proofs.NetSignals.{IsShaped, driven_signal, data_there, scan_there}
-use Rattle.icl_signals.proofs.PartFacts.{some_width, tern_length}
+use Rattle.icl_signals.proofs.PartFacts.{some_width}
+use Rattle.std.proofs.lemmas.Option.{slice_get_within}
+use Rattle.ij_text.proofs.Numbers.{tern_length}
 
 all_replicated : {A : Type 0} (P : A → Type 0) (n : ℕ) (x : A) → P x → AllByRecursion P (replicate n x)
 all_replicated P zero x h = tt
@@ -67,7 +69,7 @@ module _ (cells : List CellOf) (entry : Wire) (net : Net) (shaped : IsShaped cel
         let role : IsRole (IsRefOf cells) (part_width e.what) (AScanRegister r.scan r.capture r.reset) =
         subst (IsRole (IsRefOf cells) (part_width e.what)) r.role part.role in
         let is_there : is_thing e.what.role ≡ true = ap is_thing r.role in
-        let below = place_below (entries_that is_thing cells) (number_among is_thing cells e.cell e.part)
+        let below = slice_get_within (entries_that is_thing cells) (number_among is_thing cells e.cell e.part)
         (the_entry e.cell e.part e.what) (entry_of_number is_thing cells e.cell e.part e.what k.0 is_there) in
         let some = some_width e.what in
         let width = r.width in

@@ -1,5 +1,5 @@
 -- Signals, points and bits of the network of a hierarchy name what is there.
-use Rattle.std.proofs.Common.{◌≡◌, ◌+◌, ◌<◌, ℕ, suc, Bool, true, false, List, [], ◌∷◌, map, length, get_or, IsSomeAnd, Some, Ok, refl, sym, ap, subst, ◌∙◌, arith}
+use Rattle.std.proofs.Common.{◌≡◌, ◌+◌, ◌<◌, ℕ, Bool, true, false, List, [], map, length, get_or, IsSomeAnd, Some, Ok, sym, ap, subst, ◌∙◌, arith}
 use Rattle.std.specs.List.{enumerate_from}
 use Rattle.std.proofs.lemmas.List.{length-map}
 use Rattle.ij_bits.specs.BitLists.{flip_if}
@@ -34,10 +34,13 @@ use Rattle.icl_signals.specs.PlainNets.{OutputOf, seen_reg, seen_mux, seen_outpu
 use Rattle.icl_signals.specs.Connecting.{entries_that, number_among, instruments, instrument_number, output_number, parts_that, constant, register_bit, output_of, data_end, scan_end, select_bit, input_bit, data_from, scan_from, select_from, input_from, register_of, mux_of, instrument_of, spot_of, refs_of, thing_of, node_of, paths_from}
 use Rattle.icl_signals.proofs.Chains.{EndsOrGoesOn, ends}
 use Rattle.icl_signals.proofs.Standing.{IsAtPart, IsAtSome, stands_at, in_cell}
-use Rattle.icl_signals.proofs.Paired.{paired_length, paired_maps, each_paired, mapped_paired, place_below, mapped_place}
+use Rattle.icl_signals.proofs.Paired.{paired_length, paired_maps, each_paired, mapped_paired}
 use Rattle.icl_signals.proofs.EntryNumbers.{the_entry, entry_of_number, instrument_there, output_there}
 use Rattle.icl_signals.proofs.TraceEnds.{IsBitThere, EndsThere, trace_there}
 use Rattle.icl_signals.proofs.NetParts.{IsNetOf, register_is, IsInstrumentOf, instrument_is, thing_is}
+use Rattle.std.proofs.lemmas.List.FromFn.{length-enumerate_from}
+use Rattle.std.proofs.lemmas.Option.{slice_get_within}
+use Rattle.ij_bits.proofs.Lists.{get_mapped}
 
 -- ---- the network's lists are those of the hierarchy's parts
 
@@ -57,10 +60,6 @@ pub record IsShaped (cells : List CellOf) (entry : Wire) (net : Net) : Type 0 wh
   pub nodes : length net.nodes.items ≡ length cells
   pub bits : map (λ (t : Thing). t.bits.items) net.things.items ≡ map (bits_of_entry cells entry) (entries_that is_thing cells)
   pub things : length net.things.items ≡ length (entries_that is_thing cells)
-
-pub length_numbered : {A : Type 0} (s : ℕ) (xs : List A) → length (enumerate_from s xs) ≡ length xs
-length_numbered s [] = refl
-length_numbered s (x ∷ xs) = ap suc (length_numbered (s + 1) xs)
 
 widths_same : (cells : List CellOf) (entry : Wire) (c : ℕ × CellOf) (i : Inst) → IsInstrumentOf cells entry c i
     → map (λ (port : PortOut). port.width) i.outs.items ≡ output_widths_of c
@@ -94,7 +93,7 @@ net_shaped cells net n =
           (λ c i h. sym (widths_same cells n.entry c i (instrument_is cells n.entry c i h))) (instruments cells) net.insts.items insts);
       insts = sym (paired_length S (instruments cells) net.insts.items insts);
       nodes = sym (length-map net.nodes.items seen_node) ∙ sym (ap length n.nodes)
-          ∙ length-map (enumerate_from 0 cells) (node_of (paths_from [] cells)) ∙ length_numbered 0 cells;
+          ∙ length-map (enumerate_from 0 cells) (node_of (paths_from [] cells)) ∙ length-enumerate_from 0 cells;
       bits =
           sym (paired_maps T (bits_of_entry cells n.entry) (λ t. t.bits.items) (λ e t h. (thing_is cells n.entry e t h).bits)
           (entries_that is_thing cells) net.things.items things);
@@ -142,7 +141,7 @@ module _ (cells : List CellOf) (entry : Wire) (net : Net) (shaped : IsShaped cel
       → width_of net (number_among is_register cells cell part) ≡ part_width p
   register_wide cell part p h t =
       ap (λ l. get_or l (number_among is_register cells cell part) 0) shaped.widths
-      ∙ mapped_place (λ (e : Entry). part_width e.what) 0 (entries_that is_register cells)
+      ∙ get_mapped (λ (e : Entry). part_width e.what) 0 (entries_that is_register cells)
       (number_among is_register cells cell part) (the_entry cell part p) (entry_of_number is_register cells cell part p h t)
 
   -- a bit that is there of a part that is there
@@ -173,15 +172,15 @@ module _ (cells : List CellOf) (entry : Wire) (net : Net) (shaped : IsShaped cel
       let a = at_output w e in
       let c = in_cell cells w.cell w.part a.part a.there in
       let lt = pos_there w a.part a.there h in
-      let inst : is_instrument c.inside ≡ true = sym (mapped_place is_instrument false cells w.cell c.inside c.cell_is) ∙ a.role.1 in
+      let inst : is_instrument c.inside ≡ true = sym (get_mapped is_instrument false cells w.cell c.inside c.cell_is) ∙ a.role.1 in
       let row : output_widths net (instrument_number cells w.cell) ≡ output_widths_of (w.cell, c.inside) =
       ap (λ l. get_or l (instrument_number cells w.cell) []) shaped.outputs
-      ∙ mapped_place output_widths_of [] (instruments cells) (instrument_number cells w.cell) (w.cell, c.inside)
+      ∙ get_mapped output_widths_of [] (instruments cells) (instrument_number cells w.cell) (w.cell, c.inside)
       (instrument_there cells w.cell c.inside c.cell_is inst)
       in
       let wide : get_or (output_widths net (instrument_number cells w.cell)) (output_number cells w.cell w.part) 0 ≡ part_width a.part =
       ap (λ l. get_or l (output_number cells w.cell w.part) 0) row
-      ∙ mapped_place (λ (p : ℕ × PartOf). part_width p.1) 0 (parts_that is_data_out c.inside) (output_number cells w.cell w.part)
+      ∙ get_mapped (λ (p : ℕ × PartOf). part_width p.1) 0 (parts_that is_data_out c.inside) (output_number cells w.cell w.part)
       (w.part, a.part) (output_there cells w.cell w.part c.inside a.part c.cell_is c.part_is a.role.0)
       in
       omega (arith, lt, wide)
@@ -241,7 +240,7 @@ module _ (cells : List CellOf) (entry : Wire) (net : Net) (shaped : IsShaped cel
   register_there : (w : Wire) → stands_for cells entry w ≡ ARegisterBit → number_among is_register cells w.cell w.part < length net.regs.items
   register_there w e =
       let a = at_register w e in
-      let lt = place_below (entries_that is_register cells) (number_among is_register cells w.cell w.part)
+      let lt = slice_get_within (entries_that is_register cells) (number_among is_register cells w.cell w.part)
       (the_entry w.cell w.part a.part) (entry_of_number is_register cells w.cell w.part a.part a.there a.role) in
       let long = shaped.regs in
       omega (arith, lt, long)
@@ -249,7 +248,7 @@ module _ (cells : List CellOf) (entry : Wire) (net : Net) (shaped : IsShaped cel
   mux_there : (w : Wire) → stands_for cells entry w ≡ AMuxOutput → number_among is_mux cells w.cell w.part < length net.muxes.items
   mux_there w e =
       let a = at_mux w e in
-      let lt = place_below (entries_that is_mux cells) (number_among is_mux cells w.cell w.part) (the_entry w.cell w.part a.part)
+      let lt = slice_get_within (entries_that is_mux cells) (number_among is_mux cells w.cell w.part) (the_entry w.cell w.part a.part)
       (entry_of_number is_mux cells w.cell w.part a.part a.there a.role) in
       let long = shaped.muxes in
       omega (arith, lt, long)

@@ -27,12 +27,14 @@ use Rattle.icl_signals.specs.Refusals.{Answer}
 use Rattle.icl_signals.specs.PlainNets.{seen_thing}
 use Rattle.icl_signals.specs.Connecting.{entries_that, number_among, constant, or_absent, one_bit_of, own_bits, data_from, signal_from, spot_by, spot_in, spot_of, refs_of, thing_of}
 use Rattle.icl_signals.proofs.Joined.{part_wired}
-use Rattle.icl_signals.proofs.Paired.{paired_maps, paired_all, mapped_paired, all_at, all_weaker, all_of_map, all_in_map, at_place, mapped_place}
+use Rattle.icl_signals.proofs.Paired.{paired_maps, paired_all, mapped_paired, all_at, all_weaker, all_of_map, all_in_map, at_place}
 use Rattle.icl_signals.proofs.ApartItems.{Apart, apart_weaker, apart_of_map, apart_in_map, apart_different, different_apart}
 use Rattle.icl_signals.proofs.EntryNumbers.{IsKept, all_kept_known, the_entry, entry_of_number, number_of_entry, cells_apart}
 use Rattle.icl_signals.proofs.NetParts.{IsNetOf, thing_is}
 use Rattle.icl_signals.proofs.NetSignals.{IsShaped, bits_of_entry, IsDriven, driven_signal, register_bit_there, constant_driven, data_there}
-use Rattle.icl_signals.proofs.PartFacts.{cell_below, part_named, length_own, own_there, tern_length}
+use Rattle.icl_signals.proofs.PartFacts.{cell_below, part_named, length_own, own_there}
+use Rattle.ij_bits.proofs.Lists.{get_mapped}
+use Rattle.ij_text.proofs.Numbers.{tern_length}
 
 module _ (cells : List CellOf) (entry : Wire) (net : Net) (shaped : IsShaped cells entry net) (wired : AreWired cells) where
   -- ---- what a reference names
@@ -147,13 +149,13 @@ module _ (cells : List CellOf) (entry : Wire) (net : Net) (shaped : IsShaped cel
           → is_register e.what.role ≡ true → bits_of_thing net (thing_number net r) ≡ map Held (bits_from r 0 (width_of net r))
       by_entry e at k t =
           let number : thing_number net r ≡ number_among is_thing cells e.cell e.part = ap (λ l. get_or l r 0) shaped.numbers
-          ∙ mapped_place (λ (x : Entry). number_among is_thing cells x.cell x.part) 0 (entries_that is_register cells) r e at in
+          ∙ get_mapped (λ (x : Entry). number_among is_thing cells x.cell x.part) 0 (entries_that is_register cells) r e at in
           let wide : width_of net r ≡ part_width e.what = ap (λ l. get_or l r 0) shaped.widths
-          ∙ mapped_place (λ (x : Entry). part_width x.what) 0 (entries_that is_register cells) r e at in
+          ∙ get_mapped (λ (x : Entry). part_width x.what) 0 (entries_that is_register cells) r e at in
           let there = entry_of_number is_thing cells e.cell e.part e.what k (is_also e.what.role t) in
           ap (bits_of_thing net) number
           ∙ ap (λ l. get_or l (number_among is_thing cells e.cell e.part) []) shaped.bits
-          ∙ mapped_place (bits_of_entry cells entry) [] (entries_that is_thing cells) (number_among is_thing cells e.cell e.part)
+          ∙ get_mapped (bits_of_entry cells entry) [] (entries_that is_thing cells) (number_among is_thing cells e.cell e.part)
           (the_entry e.cell e.part e.what) there
           ∙ ap (map (spot_of cells entry)) (own_refs (the_entry e.cell e.part e.what) e.what.role t)
           ∙ held e r 0 (part_width e.what) k t (number_of_entry is_register cells r e at)

@@ -1,35 +1,20 @@
 -- Lists side by side: what a function gives for each item, as a list seen by a view.
-use Rattle.std.proofs.Common.{◌≡◌, ℕ, zero, suc, ◌<◌, Bool, true, false, List, [], ◌∷◌, map, length, get_or, filter, Option, Some, None, Result, Ok, refl, ap, subst, ◌∙◌, arith}
+use Rattle.std.proofs.Common.{◌≡◌, ℕ, zero, suc, ◌<◌, Bool, true, false, List, [], ◌∷◌, map, length, filter, Some, Result, Ok, refl, ap, subst, ◌∙◌, arith}
 use Rattle.std.specs.Prelude.{slice_get}
 use Rattle.std.specs.List.{AllByRecursion}
 use Rattle.icl_values.specs.Faults.{◌>>=◌, each}
 use Rattle.icl_frames.proofs.Answering.{both, ok_is}
+use Rattle.std.proofs.lemmas.Option.{same_Some}
+use Rattle.ij_bits.proofs.Lists.{head_same, tail_same}
 
 -- ---- items
-
-pub some_is : {A : Type 0} (x y : A) → Some x ≡ Some y → x ≡ y
-some_is {A} x y h = ap (value x) h
-  where
-    value : A → Option A → A
-    value d (Some z) = z
-    value d None = d
-
-pub head_is : {A : Type 0} (x y : A) (xs ys : List A) → x ∷ xs ≡ y ∷ ys → x ≡ y
-head_is x y xs ys h = ap (λ l. get_or l 0 x) h
-
-pub tail_is : {A : Type 0} (x y : A) (xs ys : List A) → x ∷ xs ≡ y ∷ ys → xs ≡ ys
-tail_is {A} x y xs ys h = ap tail h
-  where
-    tail : List A → List A
-    tail [] = []
-    tail (z ∷ zs) = zs
 
 -- ---- what holds of each item
 
 module _ {A : Type 0} (P : A → Type 0) where
   pub all_at : (xs : List A) (k : ℕ) (x : A) → AllByRecursion P xs → slice_get xs k ≡ Some x → P x
   all_at [] k x h e = absurd cc
-  all_at (y ∷ xs) zero x h e = subst P (some_is y x e) h.0
+  all_at (y ∷ xs) zero x h e = subst P (same_Some y x e) h.0
   all_at (y ∷ xs) (suc k) x h e = all_at xs k x h.1 e
 
   pub all_kept : (test : A → Bool) (xs : List A) → AllByRecursion P xs → AllByRecursion P (filter test xs)
@@ -110,9 +95,9 @@ each_paired f g (x ∷ xs) (z ∷ zs) h =
     let a = both (f x) (λ y. each f xs >>= λ ys. Ok (y ∷ ys)) (g z ∷ map g zs) h in
     let b = both (each f xs) (λ ys. Ok (a.first ∷ ys)) (g z ∷ map g zs) a.then' in
     let e = ok_is (a.first ∷ b.first) (g z ∷ map g zs) b.then' in (
-      a.is ∙ ap (λ y. Ok y) (head_is a.first (g z) b.first (map g zs) e),
+      a.is ∙ ap (λ y. Ok y) (head_same a.first (g z) b.first (map g zs) e),
       each_paired f g xs zs
-          (b.is ∙ ap (λ l. Ok l) (tail_is a.first (g z) b.first (map g zs) e)),
+          (b.is ∙ ap (λ l. Ok l) (tail_same a.first (g z) b.first (map g zs) e)),
     )
 
 pub each_itself : {A B E : Type 0} (f : A → Result B E) (xs : List A) (ys : List B) → each f xs ≡ Ok ys → Paired (λ x y. f x ≡ Ok y) xs ys
@@ -127,14 +112,9 @@ mapped_paired f g [] [] h = tt
 mapped_paired f g [] (z ∷ zs) h = absurd cc
 mapped_paired f g (x ∷ xs) [] h = absurd cc
 mapped_paired f g (x ∷ xs) (z ∷ zs) h =
-    (head_is (f x) (g z) (map f xs) (map g zs) h, mapped_paired f g xs zs (tail_is (f x) (g z) (map f xs) (map g zs) h))
+    (head_same (f x) (g z) (map f xs) (map g zs) h, mapped_paired f g xs zs (tail_same (f x) (g z) (map f xs) (map g zs) h))
 
 -- ---- places
-
-pub place_below : {A : Type 0} (xs : List A) (k : ℕ) (x : A) → slice_get xs k ≡ Some x → k < length xs
-place_below [] k x h = absurd cc
-place_below (y ∷ xs) zero x h = omega arith
-place_below (y ∷ xs) (suc k) x h = let lt = place_below xs k x h in omega (arith, lt)
 
 pub record IsAtPlace {A : Type 0} (xs : List A) (k : ℕ) : Type 0 where
   pub item : A
@@ -144,8 +124,3 @@ pub at_place : {A : Type 0} (xs : List A) (k : ℕ) → k < length xs → IsAtPl
 at_place [] k lt = absurd (omega (arith, lt))
 at_place (x ∷ xs) zero lt = record { item = x; is = refl }
 at_place (x ∷ xs) (suc k) lt = let p = at_place xs k (omega (arith, lt)) in record { item = p.item; is = p.is }
-
-pub mapped_place : {A B : Type 0} (f : A → B) (d : B) (xs : List A) (k : ℕ) (x : A) → slice_get xs k ≡ Some x → get_or (map f xs) k d ≡ f x
-mapped_place f d [] k x h = absurd cc
-mapped_place f d (y ∷ xs) zero x h = ap f (some_is y x h)
-mapped_place f d (y ∷ xs) (suc k) x h = mapped_place f d xs k x h

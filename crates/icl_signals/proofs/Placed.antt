@@ -9,14 +9,7 @@ use Rattle.icl_signals.specs.Connecting.{entries_that}
 use Rattle.icl_signals.specs.Inside.{numbered}
 use Rattle.icl_signals.specs.Told.{seen_entry, ArePlaced}
 use Rattle.icl_signals.proofs.Joined.{Known, all_known}
-
-kept : {A : Type 0} (P : A → Type 0) (test : A → Bool) (xs : List A) → AllByRecursion P xs → AllByRecursion P (filter test xs)
-kept P test [] h = tt
-kept {A} P test (x ∷ xs) h = by_test (test x) refl (kept P test xs h.1)
-  where
-    by_test : (b : Bool) → test x ≡ b → AllByRecursion P (filter test xs) → AllByRecursion P (filter test (x ∷ xs))
-    by_test true e g = rw e (h.0, g)
-    by_test false e g = rw e g
+use Rattle.ij_bits.proofs.Everywhere.{all_kept}
 
 by_number : (cells : List CellOf) (all : List PartAt) → AllByRecursion (Known cells) (map seen_entry all) → ArePlaced cells all
 by_number cells [] h k d lt = absurd (omega (arith, lt))
@@ -25,7 +18,7 @@ by_number cells (e ∷ all) h (suc k) d lt = by_number cells all h.1 k d (omega 
 
 pub placed : (cells : List CellOf) (test : Role → Bool) (all : List PartAt) → map seen_entry all ≡ entries_that test cells → ArePlaced cells all
 placed cells test all h =
-    let known = kept (Known cells) (λ e. test e.what.role) (entries cells) (all_known cells cells 0 (λ i. let z : 0 + i ≡ i = omega arith in ap (slice_get cells) z)) in
+    let known = all_kept (Known cells) (λ e. test e.what.role) (entries cells) (all_known cells cells 0 (λ i. let z : 0 + i ≡ i = omega arith in ap (slice_get cells) z)) in
     by_number cells all (subst (AllByRecursion (Known cells)) (sym h) known)
 
 -- ---- with their numbers in one cell

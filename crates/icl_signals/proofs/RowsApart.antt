@@ -1,7 +1,7 @@
 -- No select value is in two rows of a multiplexer, where no two rows overlap.
-use Rattle.std.proofs.Common.{◌≡◌, ◌≤◌, Bool, true, false, not, ◌&&◌, ◌||◌, cond, List, [], ◌∷◌, map, length, filter, Some, None, refl, sym, subst, ◌∙◌, arith}
+use Rattle.std.proofs.Common.{◌≡◌, ◌≤◌, Bool, true, false, not, ◌||◌, cond, List, [], ◌∷◌, map, length, filter, Some, None, refl, sym, subst, ◌∙◌, arith}
 use Rattle.std.specs.List.{AllByRecursion, list_any}
-use Rattle.std.proofs.lemmas.Bool.{true≢false}
+use Rattle.std.proofs.lemmas.Bool.{true≢false, and_parts, or_parts}
 use Rattle.ij_bits.specs.BitLists.{same_bit}
 use Rattle.ij_bits.specs.declared.tern.Tern.{Tern}
 use Rattle.ij_text.specs.Numbers.{open_bits, tern_bits}
@@ -13,14 +13,6 @@ use Rattle.net_graph.specs.Nets.{rows_with}
 use Rattle.net_graph.specs.Signals.{lists_bits, matches, some_matches}
 use Rattle.icl_signals.proofs.Paired.{all_passing}
 use Rattle.icl_signals.proofs.ApartItems.{Apart, apart_kept, apart_weaker, apart_of_map, apart_in_map}
-
-both_true : (x y : Bool) → (x && y) ≡ true → (x ≡ true) × (y ≡ true)
-both_true true y h = (refl, h)
-both_true false y h = absurd (true≢false (sym h))
-
-both_false : (x y : Bool) → (x || y) ≡ false → (x ≡ false) × (y ≡ false)
-both_false true y h = absurd (true≢false h)
-both_false false y h = (refl, h)
 
 -- ---- values that list the same bits meet
 
@@ -42,8 +34,8 @@ lists_meet (x ∷ v) (y ∷ c) [] d b h g = refl
 lists_meet (x ∷ v) (y ∷ c) (u ∷ w) [] b h g = refl
 lists_meet (x ∷ v) (y ∷ c) (u ∷ w) (k ∷ d) [] h g = absurd (true≢false (sym h))
 lists_meet (x ∷ v) (y ∷ c) (u ∷ w) (k ∷ d) (z ∷ b) h g =
-    let p = both_true (not y || same_bit x z) (lists_bits v c b) h in
-    let q = both_true (not k || same_bit u z) (lists_bits w d b) g in
+    let p = and_parts (not y || same_bit x z) (lists_bits v c b) h in
+    let q = and_parts (not k || same_bit u z) (lists_bits w d b) g in
     rw (bits_meet y k x u z p.0 q.0) (lists_meet v c w d b p.1 q.1)
 
 -- ---- rows
@@ -83,11 +75,11 @@ some_meets (t ∷ ts) us bits h g = by_test (matches t bits) refl h (λ k. some_
 
 none_any : {A : Type 0} (test : A → Bool) (xs : List A) → list_any test xs ≡ false → AllByRecursion (λ x. test x ≡ false) xs
 none_any test [] h = tt
-none_any test (x ∷ xs) h = let p = both_false (test x) (list_any test xs) h in (p.0, none_any test xs p.1)
+none_any test (x ∷ xs) h = let p = or_parts (test x) (list_any test xs) h in (p.0, none_any test xs p.1)
 
 rows_apart : (rows : List Choice) → some_meet rows ≡ false → Apart (λ (r s : Choice). values_meet r.values s.values ≡ false) rows
 rows_apart [] h = tt
-rows_apart (r ∷ rows) h = let p = both_false (list_any (rows_meet r) rows) (some_meet rows) h in
+rows_apart (r ∷ rows) h = let p = or_parts (list_any (rows_meet r) rows) (some_meet rows) h in
     (none_any (rows_meet r) rows p.0, rows_apart rows p.1)
 
 few : {A : Type 0} (test : A → Bool) (ys : List A) → AllByRecursion (λ y. test y ≡ true) ys

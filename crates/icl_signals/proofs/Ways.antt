@@ -13,6 +13,7 @@ use Rattle.icl_signals.specs.declared.found.Found.{Found}
 use Rattle.icl_signals.specs.Traces.{from_move, follow}
 use Rattle.icl_signals.specs.Told.{IsTold}
 use Rattle.icl_signals.specs.Found.{turned_end, IsFound}
+use Rattle.ij_bits.proofs.Tests.{up_to_or_past}
 
 -- ---- inversions
 
@@ -44,11 +45,6 @@ between false true = (true, refl)
 between false false = (false, refl)
 
 -- ---- numbers
-
-up_to_or_past : (n k : ℕ) → (n ≤ k) ⊎ (k < n)
-up_to_or_past zero k = inl (omega arith)
-up_to_or_past (suc n) zero = inr (omega arith)
-up_to_or_past (suc n) (suc k) = elim (up_to_or_past n k) [ inl h ↦ inl (omega (arith, h)) | inr h ↦ inr (omega (arith, h)) ]
 
 module _ (cells : List CellOf) (entry : Wire) where
   pub told_turned : (t : Bool) (e : End) → IsTold cells entry e → IsTold cells entry (turned_end t e)

@@ -5,14 +5,15 @@ use Rattle.std.specs.Prelude.{◌==◌, slice_set}
 use Rattle.std.specs.Int.{bit_at}
 use Rattle.std.specs.Int.RustNames.{bit_or}
 use Rattle.std.proofs.lemmas.Bool.{cases_lt}
-use Rattle.std.proofs.lemmas.Nat.{pow-add}
-use Rattle.std.proofs.lemmas.Nat.Bits.{bit_at_or, bit_at-zero, bit_at_cat_low, bit_at_cat_high, bit_at_above}
+use Rattle.std.proofs.lemmas.Nat.{pow-add, and_mask}
+use Rattle.std.proofs.lemmas.Nat.Bits.{bit_at_or, bit_at-zero, bit_at_cat_low, bit_at_cat_high, bit_at_above, ones_shr}
 use Rattle.std.proofs.Math.Pow.{pow_pos}
 use Rattle.std.proofs.Math.Nat.{div-div-eq-div-mul}
 use Rattle.ij_bits.specs.Words.{word_bit}
+use lib.Bits.{bit_and}
 
 -- the lower 64 bits of a number
-inside : (x j : ℕ) → j < 64 → bit_at (x % 18446744073709551616) j ≡ bit_at x j
+pub inside : (x j : ℕ) → j < 64 → bit_at (x % 18446744073709551616) j ≡ bit_at x j
 inside x j low =
     let whole : x ≡ x / 18446744073709551616 * 2 ^ 64 + x % 18446744073709551616 = omega arith in
     sym (ap (λ n. bit_at n j) whole ∙ bit_at_cat_low (x / 18446744073709551616) 64 (x % 18446744073709551616) j low)
@@ -31,7 +32,7 @@ up_high x s j within =
     inside (x * 2 ^ s) (s + j) within ∙ ap (λ n. bit_at n (s + j)) (with_zero (x * 2 ^ s)) ∙ bit_at_cat_high x s 0 (s + j) (pow_pos s) (omega arith) ∙ ap (bit_at x) back
 
 -- a word that is shifted down by r places
-down : (x r j : ℕ) → bit_at (x / 2 ^ r) j ≡ bit_at x (r + j)
+pub down : (x r j : ℕ) → bit_at (x / 2 ^ r) j ≡ bit_at x (r + j)
 down x r j = ap (λ n. n % 2) (div-div-eq-div-mul x (2 ^ r) (2 ^ j) ∙ ap (λ n. x / n) (sym (pow-add 2 r j)))
 
 pub joined_low : (x next r j : ℕ) → 1 ≤ r → r + j < 64 → bit_at (bit_or (x / 2 ^ r) (next * 2 ^ (64 - r) % 18446744073709551616)) j ≡ bit_at x (r + j)
@@ -146,3 +147,15 @@ two_below old i here next k there low below =
     let here_low : k % 64 < 64 = omega arith in
     word_bit_is (slice_set one (i / 64 + 1) next) k (k / 64) (k % 64) at here_low ∙ ap (λ w. bit_at w (k % 64) == 1) (get_or-set_other one (i / 64 + 1) (k / 64) next 0 apart)
     ∙ sym (word_bit_is one k (k / 64) (k % 64) at here_low) ∙ one_below old i here k there low below
+
+-- ---- the lowest n bits of a word
+
+pub lowest : (x n : ℕ) → n ≤ 64 → bit_and x (18446744073709551615 / 2 ^ (64 - n)) ≡ x % 2 ^ n
+lowest x n few =
+    let own : 64 - (64 - n) ≡ n = omega arith in
+    ap (bit_and x) (ones_shr 64 (64 - n) (omega arith) ∙ ap (λ k. 2 ^ k - 1) own) ∙ and_mask x n
+
+pub low_bit : (x n k : ℕ) → k < n → bit_at (x % 2 ^ n) k ≡ bit_at x k
+low_bit x n k low =
+    let whole : x ≡ x / 2 ^ n * 2 ^ n + x % 2 ^ n = omega arith in
+    sym (ap (λ y. bit_at y k) whole ∙ bit_at_cat_low (x / 2 ^ n) n (x % 2 ^ n) k low)

@@ -1,7 +1,7 @@
 -- Two bits are the same exactly where they are one.
-use Rattle.std.proofs.Common.{◌≡◌, Bool, true, false, not, refl, sym}
+use Rattle.std.proofs.Common.{◌≡◌, Bool, true, false, not, refl, sym, List, [], ◌∷◌, ◌∙◌, ap, ◌&&◌}
 use Rattle.std.specs.Bool.{beq}
-use Rattle.ij_bits.specs.BitLists.{same_bit}
+use Rattle.ij_bits.specs.BitLists.{same_bit, bits_eq}
 
 pub same_self : (a : Bool) → same_bit a a ≡ true
 same_self true = refl
@@ -24,3 +24,7 @@ agree true true e = refl
 agree true false e = absurd (cc)
 agree false true e = absurd (cc)
 agree false false e = refl
+
+pub bits_same_self : (a : List Bool) → bits_eq a a ≡ true
+bits_same_self [] = refl
+bits_same_self (x ∷ a) = ap (λ b. b && bits_eq a a) (same_self x) ∙ bits_same_self a

@@ -4,7 +4,8 @@ use mathlib.Core.Bool.{beq}
 use Rattle.std.specs.Option.{option_eq}
 use Rattle.ij_text.specs.declared.digits.Radix.{Radix}
 use Rattle.ij_text.specs.declared.digits.Radix.TheVariants.{Ten}
-use Rattle.ij_text.specs.Numbers.{decimal_from, next_decimal, digit_bits, text_bits, open_bits}
+use Rattle.ij_text.specs.Numbers.{decimal_from, next_decimal, digit_bits, text_bits, open_bits, tern_bits}
+use Rattle.ij_bits.specs.declared.tern.Tern.{Tern}
 
 -- a decimal grows with each digit
 pub next_grows : (n b : ℕ) → n ≤ next_decimal n b
@@ -71,3 +72,6 @@ none_of_ten (b ∷ bs) =
     nothing : (t : Bool) → length {A = Option Bool} (cond t [] []) ≡ 0
     nothing true = refl
     nothing false = refl
+
+pub tern_length : (t : Tern) → length (tern_bits t) ≡ length t.value.items
+tern_length t = open_length t.value.items t.care.items t.same_length

@@ -4,13 +4,12 @@ use Rattle.std.proofs.Math.Nat.{le-div_iff_mul-le, div-one, div-div-eq-div-mul, 
 use Rattle.std.proofs.Math.Pow.{pow_mono}
 use Rattle.std.proofs.lemmas.Nat.{pow_pos}
 use Rattle.std.proofs.lemmas.Bool.Decides.{nat_tests}
-use Rattle.std.specs.Int.{bit_at}
 use Rattle.std.proofs.lemmas.Bool.{cases_lt}
-use Rattle.std.proofs.lemmas.Nat.Bits.{bit_at_cat_low}
 use Rattle.std.proofs.lemmas.List.{ext_get_or}
 use Rattle.ij_bits.specs.BitLists.{bits_of}
 use Rattle.ij_bits.proofs.WordBits.{get_or-bits_of, length-bits_of}
 use Rattle.ij_text.specs.Numbers.{open_bits}
+use Rattle.ij_bits.proofs.Joining.{inside}
 
 -- ---- decimals
 
@@ -40,18 +39,12 @@ bits_split (suc a) b n =
     let rest : n / 2 / 2 ^ a ≡ n / 2 ^ suc a = div-div-eq-div-mul n 2 (2 ^ a) ∙ ap (λ m. n / m) (sym (pow-succ' 2 a)) in
     ap (λ k. bits_of k n) next ∙ ap (λ (l : List Bool). ((n % 2) == 1) ∷ l) (bits_split a b (n / 2) ∙ ap (λ x. bits_of a (n / 2) ++ bits_of b x) rest)
 
--- a word has the lower bits
-low_bit : (x k : ℕ) → k < 64 → bit_at (x % 18446744073709551616) k ≡ bit_at x k
-low_bit x k low =
-    let whole : x ≡ x / 18446744073709551616 * 2 ^ 64 + x % 18446744073709551616 = omega arith in
-    sym (ap (λ n. bit_at n k) whole ∙ bit_at_cat_low (x / 18446744073709551616) 64 (x % 18446744073709551616) k low)
-
 bits_low : (k x : ℕ) → k ≤ 64 → bits_of k (x % 18446744073709551616) ≡ bits_of k x
 bits_low k x few =
     ext_get_or false (bits_of k (x % 18446744073709551616)) (bits_of k x) (length-bits_of k (x % 18446744073709551616) ∙ sym (length-bits_of k x))
     (λ i within.
     let low : i < k = omega (arith, length-bits_of k (x % 18446744073709551616)) in
-    get_or-bits_of k (x % 18446744073709551616) i low ∙ ap (λ b. b == 1) (low_bit x i (omega arith)) ∙ sym (get_or-bits_of k x i low))
+    get_or-bits_of k (x % 18446744073709551616) i low ∙ ap (λ b. b == 1) (inside x i (omega arith)) ∙ sym (get_or-bits_of k x i low))
 
 -- one word of a decimal
 pub word_more : (bits : List Bool) (w m b x : ℕ) (all : List Bool) → m ≡ min w 64 → b ≡ w - 64 → bits ++ bits_of w x ≡ all → (bits ++ bits_of m (x % 18446744073709551616)) ++ bits_of b (x / 18446744073709551616) ≡ all

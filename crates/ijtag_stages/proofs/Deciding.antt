@@ -59,6 +59,7 @@ use Rattle.ijtag_stages.specs.TablesText.{tables_fault, tables_text}
 use Rattle.ijtag_stages.specs.Work.{IsDecided}
 use Rattle.ijtag_stages.specs.declared.refusal.Stage.TheVariants.{Icl, Svf}
 use Rattle.ijtag_stages.proofs.Turns.{give_decided, in_turn_decided}
+use Rattle.std.proofs.lemmas.Option.{same_Some}
 
 tokens_one : TokenizationIsUnique → (text : List ℕ) (tokens others : List Token) → AreTokens text tokens → AreTokens text others → tokens ≡ others
 tokens_one cuttings text tokens others a b = a.2 ∙ ap (tokens_from 0 first_place) (cuttings text a.0 b.0 a.1 b.1) ∙ sym b.2
@@ -188,21 +189,18 @@ told_in text (Err e) = Some (told_cause e.cause (place_at text e.start))
 told_of_text : (text : List ℕ) (cause : Cause) (at : Place) (r : Refusal) → IsRefused text cause at → told_cause cause at ≡ r → told_in text (svf text) ≡ Some r
 told_of_text text cause at r is told = let read = is.1 in let place = is.2 in ap (told_in text) read ∙ ap (λ p. Some (told_cause cause p)) (sym place) ∙ ap Some told
 
-some_is : {A : Type 0} (x y : A) → Some x ≡ Some y → x ≡ y
-some_is x y p = cc
-
 refuses_alike : (text : List ℕ) (fault : SvfFault) (r : Refusal) → Refuses text fault → svf_fault fault ≡ Some r → told_in text (svf text) ≡ Some r
-refuses_alike text (LeftOut at word) r is told = told_of_text text (CauseLeftOut word.items) at r is (some_is _ r told)
-refuses_alike text (SvfSyntax at) r is told = told_of_text text CauseSyntax at r is (some_is _ r told)
-refuses_alike text (SvfLimit at) r is told = told_of_text text CauseLimit at r is (some_is _ r told)
-refuses_alike text (HexWide at) r is told = told_of_text text CauseWide at r is (some_is _ r told)
-refuses_alike text (TdiMissing at) r is told = told_of_text text CauseNoTdi at r is (some_is _ r told)
+refuses_alike text (LeftOut at word) r is told = told_of_text text (CauseLeftOut word.items) at r is (same_Some _ r told)
+refuses_alike text (SvfSyntax at) r is told = told_of_text text CauseSyntax at r is (same_Some _ r told)
+refuses_alike text (SvfLimit at) r is told = told_of_text text CauseLimit at r is (same_Some _ r told)
+refuses_alike text (HexWide at) r is told = told_of_text text CauseWide at r is (same_Some _ r told)
+refuses_alike text (TdiMissing at) r is told = told_of_text text CauseNoTdi at r is (same_Some _ r told)
 refuses_alike text OutOfMemory r is told = cc
 
 svf_decided : (text : List ℕ) → IsDecided (svf_text text)
 unfolding svf_text
 svf_decided text =
-    record { one = λ a b p q. ok_is a b (svf text) p q; apart = λ a r p q. read_not_refused text a q.0 r p q.1 q.2; alike = λ r s p q. some_is r s (sym (refuses_alike text p.0 r p.1 p.2) ∙ refuses_alike text q.0 s q.1 q.2) }
+    record { one = λ a b p q. ok_is a b (svf text) p q; apart = λ a r p q. read_not_refused text a q.0 r p q.1 q.2; alike = λ r s p q. same_Some r s (sym (refuses_alike text p.0 r p.1 p.2) ∙ refuses_alike text q.0 s q.1 q.2) }
 
 pdl_alike : (fault other : AFault) (r s : Refusal) → fault ≡ other → pdl_refusal fault ≡ Some r → pdl_refusal other ≡ Some s → r ≡ s
 pdl_alike fault other r s same p q = cc

@@ -23,6 +23,7 @@ use Rattle.ijtag_stages.specs.Work.{◌>>=◌}
 use Rattle.std.proofs.Common.{inl}
 use Rattle.ijtag_stages.specs.declared.refusal.StageFault.{StageFault}
 use Rattle.ijtag_stages.specs.declared.refusal.StageFault.TheVariants.{Refused, OutOfMemory}
+use Rattle.std.proofs.lemmas.Option.{same_Some}
 
 -- what is told as a refusal of the work is a fault of it
 pub told_fault : {A : Type 0} (work : Part A) (want : Option Refusal) (fault : StageFault) → IsToldAs want fault → ((r : Refusal) → want ≡ Some r → work.refuses r) → IsFault work fault
@@ -66,10 +67,7 @@ svf_fault_is A text (HexWide at) left_out syntax limit wide tdi = wide at refl
 svf_fault_is A text (TdiMissing at) left_out syntax limit wide tdi = tdi at refl
 svf_fault_is A text NoMemoryForCommands left_out syntax limit wide tdi = tt
 
-some_is : (x y : Refusal) → Some x ≡ Some y → x ≡ y
-some_is x y e = cc
-
 -- what is told as one refusal of the work is a fault of it
 pub told_one : {A : Type 0} (work : Part A) (want : Refusal) (fault : StageFault) → IsToldAs (Some want) fault → work.refuses want → IsFault work fault
-told_one work want (Refused told) is refuses = subst work.refuses (some_is want (seen_refusal told) is) refuses
+told_one work want (Refused told) is refuses = subst work.refuses (same_Some want (seen_refusal told) is) refuses
 told_one work want OutOfMemory is refuses = tt

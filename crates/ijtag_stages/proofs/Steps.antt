@@ -9,9 +9,7 @@ use Rattle.bit_steps.specs.declared.fault.StepFault.{StepFault}
 use Rattle.bit_steps.specs.declared.fault.StepFault.TheVariants.{OutOfMemory, Expand, Feed}
 use Rattle.ijtag_stages.specs.Procedure.{fault_of, step_refusal}
 use Rattle.ijtag_stages.specs.Refusals.{Refusal}
-
-some_is : {A : Type 0} (x y : A) → Some x ≡ Some y → x ≡ y
-some_is x y e = cc
+use Rattle.std.proofs.lemmas.Option.{same_Some}
 
 no_refusal : (r : Refusal) → None ≡ Some r → ⊥
 no_refusal r e = cc
@@ -19,7 +17,7 @@ no_refusal r e = cc
 -- the fault in which the bit steps end is the one that is told
 said : (end at : Option AFault) (of : NetOf) (r : Refusal) → Ends end at → option_map (step_refusal of) at ≡ Some r → (fault : AFault) × (end ≡ Some fault) × (r ≡ step_refusal of fault)
 said end None of r ends told = absurd ends
-said end (Some fault) of r ends told = (fault, ends, sym (some_is (step_refusal of fault) r told))
+said end (Some fault) of r ends told = (fault, ends, sym (same_Some (step_refusal of fault) r told))
 
 pub ends_told : (end : Option AFault) (of : NetOf) (e : StepFault) (r : Refusal) → EndsIn end e → option_map (step_refusal of) (fault_of e) ≡ Some r → (fault : AFault) × (end ≡ Some fault) × (r ≡ step_refusal of fault)
 ends_told end of OutOfMemory r ends told = absurd (no_refusal r told)

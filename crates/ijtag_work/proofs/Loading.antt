@@ -18,6 +18,7 @@ use Rattle.ijtag_stages.specs.declared.refusal.StageFault.TheVariants.{Refused, 
 use Rattle.ijtag_work.specs.declared.stop.Stop.{Stop as RustStop}
 use Rattle.ijtag_work.specs.declared.load.Load.{Load as LoadWords}
 use Rattle.ijtag_work.specs.declared.load.Load.TheVariants.{Source as SourceLoad}
+use Rattle.std.proofs.lemmas.Option.{same_Some}
 
 -- the loads before one, and that one
 pub gives_more : (files : Option Files) (before : List Load) (load : Load) (texts : List (List ℕ)) (text : List ℕ) → (loaded files before).gives texts → (loaded_one files load).gives text
@@ -65,14 +66,11 @@ pub short_more : (texts : List (List ℕ)) (text : List ℕ) → AreShort texts 
 short_more [] text short own = (own, tt)
 short_more (first ∷ texts) text short own = (short.0, short_more texts text short.1 own)
 
-some_is : (x y : Refusal) → Some x ≡ Some y → x ≡ y
-some_is x y e = cc
-
 -- what is told as a refusal of the work stops it so
 pub told_stop : {A : Type 0} (files : Option Files) (loads : List Load) (before now : List ℕ → ℕ) (work : Part A) (want : Refusal) (fault : StageFault) (stop : RustStop) → stop ≡ stop_from fault
     → IsToldAs (Some want) fault → work.refuses want → IsLoadStop files loads before now work (seen_stop stop)
 told_stop files loads before now work want (Refused told) stop is same refuses =
-    subst (λ (s : RustStop). IsLoadStop files loads before now work (seen_stop s)) (sym is) (subst work.refuses (some_is want (seen_refusal told) same) refuses)
+    subst (λ (s : RustStop). IsLoadStop files loads before now work (seen_stop s)) (sym is) (subst work.refuses (same_Some want (seen_refusal told) same) refuses)
 told_stop files loads before now work want OutOfMemory stop is same refuses =
     subst (λ (s : RustStop). IsLoadStop files loads before now work (seen_stop s)) (sym is) tt
 

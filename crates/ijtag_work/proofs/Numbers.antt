@@ -6,6 +6,7 @@ use Rattle.std.proofs.Common.{◌≡◌, ◌≤◌, ◌<◌, ◌+◌, ◌*◌, �
 use Rattle.std.proofs.lemmas.Bool.Decides.{nat_tests}
 use Rattle.ij_text.specs.Numbers.{decimal_from, next_decimal}
 use Rattle.ijtag_work.specs.Command.{is_number}
+use Rattle.std.proofs.lemmas.Bool.{and_parts}
 
 -- the greatest number that k digits behind n say
 abbrev top : ℕ → ℕ → ℕ
@@ -35,15 +36,10 @@ digit_small b h = grind (arith, nat_tests, h)
 next_small : (n b : ℕ) → is_ascii_digit b ≡ true → next_decimal n b ≤ 10 * n + 9
 next_small n b h = one_of_two (b == 95) n (10 * n + (b - 48)) (10 * n + 9) (omega arith) (omega (arith, digit_small b h))
 
-both : (p q : Bool) → (p && q) ≡ true → (p ≡ true) × (q ≡ true)
-both true true h = (refl, refl)
-both true false h = absurd (cc)
-both false q h = absurd (cc)
-
 below_top : (bs : List ℕ) (n : ℕ) → list_all is_ascii_digit bs ≡ true → decimal_from n bs ≤ top n (length bs)
 below_top [] n h = least n
 below_top (b ∷ bs) n h =
-    let digits = both (is_ascii_digit b) (list_all is_ascii_digit bs) h in
+    let digits = and_parts (is_ascii_digit b) (list_all is_ascii_digit bs) h in
     omega (arith, below_top bs (next_decimal n b) digits.1, top_grows (length bs) (next_decimal n b) (10 * n + 9) (next_small n b digits.0))
 
 three : (p q r s : Bool) → (p && q && r && s) ≡ true → (p ≡ true) × (q ≡ true) × (r ≡ true)

@@ -1,6 +1,6 @@
 -- Each bit step of a branch is done in its turn.
 use Rattle.std.proofs.Common.{◌≡◌, ◌≤◌, ◌==◌, ◌⊎◌, inl, inr, ⊎_elim, ℕ, zero, suc, Bool, true, false, cond, List, [], ◌∷◌, ◌++◌, length, map, Some, None, refl, arith}
-use Rattle.std.specs.Prelude.{All, max}
+use Rattle.std.specs.Prelude.{All}
 use Rattle.std.proofs.lemmas.Bool.{eqb-true}
 use Rattle.std.proofs.lemmas.List.Elements.{All-cons, All-nil}
 use Rattle.net_graph.specs.SeenSteps.{SeenGroup, SeenStep, Apply, Run, Reset}
@@ -12,6 +12,7 @@ use Rattle.merge_order.proofs.Turning.{longest_later}
 use Rattle.merge_laws.specs.Order.{Does, DoBranch}
 use Rattle.merge_laws.specs.Laws.{MergesDoEachBranch}
 use Rattle.merge_laws.proofs.Joining.{Each, OneDoes, each_is_joined}
+use Rattle.std.proofs.Math.Nat.{le-max_left, le-max_right}
 
 -- ---- bit steps behind others
 
@@ -50,16 +51,6 @@ one_run most n some few = by_test (most == 0) refl
     by_test true e = let none = eqb-true most 0 e in absurd (omega (arith, some, few, none))
     by_test false e = inl few
 
-max_first : (m n : ℕ) → m ≤ max m n
-max_first zero n = omega arith
-max_first (suc m) zero = omega arith
-max_first (suc m) (suc n) = let ih = max_first m n in omega (arith, ih)
-
-max_second : (m n : ℕ) → n ≤ max m n
-max_second zero n = omega arith
-max_second (suc m) zero = omega arith
-max_second (suc m) (suc n) = let ih = max_second m n in omega (arith, ih)
-
 -- each bit step, if it is one of a branch
 abbrev EachStep : (SeenStep → Type 0) → List SeenStep → Type 0
 EachStep P [] = Unit {0}
@@ -71,14 +62,14 @@ module _ (places : Places) where
       → EachStep (λ s. IsTurn s → OneStep (map Apply joins ++ if_any (run_of most)) s) ss
   steps_done joins most [] each few = tt
   steps_done joins most (Apply gs ∷ ss) each few =
-      let less = max_second 0 (longest_run ss) in
+      let less = le-max_right 0 (longest_run ss) in
       ((λ is. one_front (map Apply joins) (if_any (run_of most)) (Apply gs) (one_apply joins gs each.0)), steps_done joins most ss each.1 (omega (arith, few, less)))
   steps_done joins most (Run n ∷ ss) each few =
-      let first = max_first n (longest_run ss) in
-      let second = max_second n (longest_run ss) in
+      let first = le-max_left n (longest_run ss) in
+      let second = le-max_right n (longest_run ss) in
       ((λ is. one_behind (map Apply joins) (if_any (run_of most)) (Run n) (one_run most n is (omega (arith, few, first)))), steps_done joins most ss each (omega (arith, few, second)))
   steps_done joins most (Reset ∷ ss) each few =
-      let less = max_second 0 (longest_run ss) in
+      let less = le-max_right 0 (longest_run ss) in
       ((λ is. absurd is), steps_done joins most ss each (omega (arith, few, less)))
 
   turn_does : (ss : List SeenStep) → EachStep (λ s. IsTurn s → OneStep (turn places ss) s) ss
@@ -97,8 +88,8 @@ turn_and_rest ts ms ((s ∷ ss) ∷ bs) h k = ((λ are. then_rest ts ms s ss (h.
 
 none_left : (bs : List Branch) → longest bs ≤ 0 → EachBranch [] bs
 none_left [] h = tt
-none_left ([] ∷ bs) h = let l = max_second 0 (longest bs) in ((λ are. tt), none_left bs (omega (arith, h, l)))
-none_left ((s ∷ ss) ∷ bs) h = let l = max_first (length (s ∷ ss)) (longest bs) in absurd (omega (arith, h, l))
+none_left ([] ∷ bs) h = let l = le-max_right 0 (longest bs) in ((λ are. tt), none_left bs (omega (arith, h, l)))
+none_left ((s ∷ ss) ∷ bs) h = let l = le-max_left (length (s ∷ ss)) (longest bs) in absurd (omega (arith, h, l))
 
 module _ (places : Places) where
   turns_do : (n : ℕ) (bs : List Branch) → longest bs ≤ n → EachBranch (turns places n bs) bs

@@ -8,15 +8,12 @@ use Rattle.net_graph.specs.declared.branch.Branch.{Branch}
 use Rattle.pdl_targets.specs.Rounds.{Places}
 use Rattle.merge_order.specs.Tables.{SameRows}
 use Rattle.merge_order.proofs.Tabled.{any_flat}
+use Rattle.std.proofs.Math.Bool.{or_assoc}
 
 absorbed : (a b : Bool) → ((a || b) || b) ≡ (a || b)
 absorbed true b = refl
 absorbed false true = refl
 absorbed false false = refl
-
-grouped : (a b c : Bool) → ((a || b) || c) ≡ (a || (b || c))
-grouped true b c = refl
-grouped false b c = refl
 
 -- rows behind others
 pub more_rows : (old place now : List Branch) → now ≡ old ++ place → (test : Branch → Bool) → list_any test now ≡ (list_any test old || list_any test place)
@@ -43,7 +40,7 @@ around_step {A = A} f xs i d test before current now within so_far here =
     let p = λ (x : A). list_any test (f x) in
     here
     ∙ ap (λ t. t || p (get_or xs i d)) (so_far ∙ ap (λ t. before || t) (any_flat test f (take i xs)))
-    ∙ grouped before (list_any p (take i xs)) (p (get_or xs i d))
+    ∙ or_assoc before (list_any p (take i xs)) (p (get_or xs i d))
     ∙ ap (λ t. before || t) (sym (list_any_more p xs i d within) ∙ sym (any_flat test f (take (i + 1) xs)))
 
 -- the rows around the registers of writes, and then those of reads

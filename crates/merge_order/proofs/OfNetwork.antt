@@ -1,10 +1,10 @@
 -- The bit steps of a merge are of the network where those of its branches are.
-use Rattle.std.proofs.Common.{◌≡◌, ◌⊎◌, zero, suc, Bool, true, false, List, [], ◌∷◌, ◌++◌, map, inl, inr, refl, sym, ap, subst, ◌∙◌, arith}
+use Rattle.std.proofs.Common.{◌≡◌, zero, suc, Bool, true, false, List, [], ◌∷◌, map, refl, sym, ap, subst, ◌∙◌, arith}
 use Rattle.std.specs.Prelude.{Contains, not, ◌&&◌}
 use Rattle.std.specs.List.{list_any}
 use Rattle.std.proofs.lemmas.Bool.{or_parts}
 use Rattle.std.proofs.lemmas.List.{map-append}
-use Rattle.std.proofs.lemmas.List.Elements.{All-nil, All-cons, All-head, All-append, Contains-append_cases}
+use Rattle.std.proofs.lemmas.List.Elements.{All-nil, All-cons, All-head, All-append}
 use Rattle.ij_bits.specs.Different.{AreDifferent}
 use Rattle.net_graph.specs.declared.net.BitId.{BitId}
 use Rattle.net_graph.specs.declared.net.Net.{Net}
@@ -17,6 +17,7 @@ use Rattle.pdl_targets.specs.Rounds.{Places}
 use Rattle.merge_order.specs.Laws.{MergedStepsAreOfTheNetwork}
 use Rattle.merge_order.specs.Merge.{both, can_join, names, part_ways, share_bit}
 use Rattle.merge_order.proofs.Kept.{merged_have}
+use Rattle.ij_bits.proofs.Different.{different_more}
 
 -- ---- tests of all elements
 
@@ -33,17 +34,6 @@ none_has f p (x ∷ xs) b none (zero, lt, e) = ap p (sym e) ∙ (or_parts (p (f 
 none_has f p (x ∷ xs) b none (suc k, lt, e) = none_has f p xs b (or_parts (p (f x)) (list_any (λ y. p (f y)) xs) none).1 (k, omega (arith, lt), e)
 
 -- ---- two rounds that name no common bit
-
-both_different : {A : Type 0} (xs ys : List A) → AreDifferent xs → AreDifferent ys → ((z : A) → Contains xs z → Contains ys z → ⊥) → AreDifferent (xs ++ ys)
-both_different [] ys d e apart = e
-both_different {A} (x ∷ xs) ys d e apart = (λ h. by_place (Contains-append_cases xs ys x h), both_different xs ys d.1 e (λ z k l. apart z (behind z k) l))
-  where
-    behind : (z : A) → Contains xs z → Contains (x ∷ xs) z
-    behind z (k, lt, e) = (suc k, omega (arith, lt), e)
-
-    by_place : Contains xs x ⊎ Contains ys x → ⊥
-    by_place (inl k) = d.0 k
-    by_place (inr k) = apart x (zero, omega arith, refl) k
 
 module _ (g h : SeenGroup) (apart : share_bit g h ≡ false) where
   no_common_write : (b : BitId) → Contains (map (λ w. w.bit) g.writes) b → Contains (map (λ w. w.bit) h.writes) b → ⊥
@@ -67,10 +57,10 @@ module _ (net : Net) (places : Places) where
   both_groups g h apart a b = record {
     written = All-append (λ w. IsDataBit net w.bit) g.writes h.writes a.written b.written;
     written_once = subst AreDifferent (sym (map-append (λ w. w.bit) g.writes h.writes))
-        (both_different (map (λ w. w.bit) g.writes) (map (λ w. w.bit) h.writes) a.written_once b.written_once (no_common_write g h apart));
+        (different_more (map (λ w. w.bit) g.writes) (map (λ w. w.bit) h.writes) a.written_once b.written_once (no_common_write g h apart));
     read = All-append (λ r. IsDataBit net r.bit) g.reads h.reads a.read b.read;
     read_once = subst AreDifferent (sym (map-append (λ r. r.bit) g.reads h.reads))
-        (both_different (map (λ r. r.bit) g.reads) (map (λ r. r.bit) h.reads) a.read_once b.read_once (no_common_read g h apart));
+        (different_more (map (λ r. r.bit) g.reads) (map (λ r. r.bit) h.reads) a.read_once b.read_once (no_common_read g h apart));
     captured = All-append (λ r. IsReadable net (capture_signal net r.bit)) g.reads h.reads a.captured b.captured;
   }
 

@@ -2,7 +2,6 @@
 use Rattle.std.proofs.Common.{◌≡◌, ℕ, ◌+◌, ◌<◌, ◌==◌, Bool, true, false, cond, List, [], ◌∷◌, ◌++◌, length, get_or, map, take, refl, sym, ap, ◌∙◌}
 use Rattle.std.specs.Prelude.{not, ◌&&◌, ◌||◌, flat_map}
 use Rattle.std.specs.List.{list_any}
-use Rattle.std.proofs.lemmas.Bool.{eqb-true, eq-eqb}
 use Rattle.std.proofs.lemmas.List.Folds.{list_any-append, list_any_more}
 use Rattle.net_graph.specs.declared.branch.Branch.{Branch}
 use Rattle.net_graph.specs.declared.net.BitId.{BitId}
@@ -11,20 +10,10 @@ use Rattle.net_graph.specs.SeenSteps.{SeenGroup}
 use Rattle.pdl_targets.specs.Rounds.{Places, clash, exclude}
 use Rattle.merge_order.specs.Merge.{both, can_join, clashes_with, names, part_ways, share_bit}
 use Rattle.merge_order.specs.Tables.{SameRows, rows_around}
+use Rattle.std.proofs.Math.Bool.{or_comm}
+use Rattle.ij_bits.proofs.Tests.{or_four, number_turned}
 
 -- ---- either one or the other
-
-or_turned : (a b : Bool) → (a || b) ≡ (b || a)
-or_turned true true = refl
-or_turned true false = refl
-or_turned false true = refl
-or_turned false false = refl
-
-crossed : (a b c d : Bool) → ((a || b) || (c || d)) ≡ ((a || c) || (b || d))
-crossed true b c d = refl
-crossed false true true d = refl
-crossed false true false d = refl
-crossed false false c d = refl
 
 -- ---- one of a list
 
@@ -35,7 +24,7 @@ module _ {A : Type 0} where
 
   any_or : (p q : A → Bool) (xs : List A) → list_any (λ x. p x || q x) xs ≡ (list_any p xs || list_any q xs)
   any_or p q [] = refl
-  any_or p q (x ∷ xs) = ap (λ t. (p x || q x) || t) (any_or p q xs) ∙ crossed (p x) (q x) (list_any p xs) (list_any q xs)
+  any_or p q (x ∷ xs) = ap (λ t. (p x || q x) || t) (any_or p q xs) ∙ or_four (p x) (q x) (list_any p xs) (list_any q xs)
 
   any_none : (xs : List A) → list_any (λ x. false) xs ≡ false
   any_none [] = refl
@@ -81,12 +70,6 @@ both_put true w r old middle now one two = two ∙ ap (λ t. r || t) one ∙ tur
     turned false false c = refl
 both_put false w r old middle now one two = two ∙ one
 
--- one more that is looked at, in a word
-pub any_word : {A : Type 0} (p : A → Bool) (xs : List A) (i : ℕ) (d : A) (before here now : Bool) → i < length xs
-    → before ≡ list_any p (take i xs) → here ≡ p (get_or xs i d) → now ≡ (before || here) → now ≡ list_any p (take (i + 1) xs)
-any_word p xs i d before here now within so_far is both =
-    both ∙ ap (λ t. t || here) so_far ∙ ap (λ t. list_any p (take i xs) || t) is ∙ sym (list_any_more p xs i d within)
-
 -- ---- one bit that a round names
 
 abbrev some_bit : (BitId → Bool) → SeenGroup → Bool
@@ -108,7 +91,7 @@ some_both : (p : BitId → Bool) (g h : SeenGroup) → some_bit p (both g h) ≡
 some_both p g h =
     ap (λ t. t || list_any (λ r. p r.bit) (g.reads ++ h.reads)) (list_any-append (λ w. p w.bit) g.writes h.writes)
     ∙ ap (λ t. (list_any (λ w. p w.bit) g.writes || list_any (λ w. p w.bit) h.writes) || t) (list_any-append (λ r. p r.bit) g.reads h.reads)
-    ∙ crossed (list_any (λ w. p w.bit) g.writes) (list_any (λ w. p w.bit) h.writes) (list_any (λ r. p r.bit) g.reads) (list_any (λ r. p r.bit) h.reads)
+    ∙ or_four (list_any (λ w. p w.bit) g.writes) (list_any (λ w. p w.bit) h.writes) (list_any (λ r. p r.bit) g.reads) (list_any (λ r. p r.bit) h.reads)
 
 -- ---- the same rows
 
@@ -116,15 +99,6 @@ pub same_as : (xs ys zs : List Branch) → xs ≡ ys → SameRows ys zs → Same
 same_as xs ys zs is same test = ap (list_any test) is ∙ same test
 
 -- ---- one bit that both name
-
-number_turned : (m n : ℕ) → (m == n) ≡ (n == m)
-number_turned m n = by_tests (m == n) refl (n == m) refl
-  where
-    by_tests : (s : Bool) → (m == n) ≡ s → (t : Bool) → (n == m) ≡ t → (m == n) ≡ (n == m)
-    by_tests true e true f = e ∙ sym f
-    by_tests false e false f = e ∙ sym f
-    by_tests true e false f = let k : m ≡ n = eqb-true m n e in let h = eq-eqb n m (sym k) in absurd cc
-    by_tests false e true f = let k : n ≡ m = eqb-true n m f in let h = eq-eqb m n (sym k) in absurd cc
 
 place_turned : (a b : BitId) → same_place a b ≡ same_place b a
 place_turned a b = ap (λ t. t && (a.pos == b.pos)) (number_turned a.reg b.reg) ∙ ap (λ t. (b.reg == a.reg) && t) (number_turned a.pos b.pos)
@@ -182,7 +156,7 @@ module _ (places : Places) where
 
   -- a bit, where a join may have got one round more
   pub bit_told : (there : Bool) (g h : SeenGroup) (b : BitId) (old now : Bool) → old ≡ names g b → now ≡ (there && names h b || old) → now ≡ names (cond there (both g h) g) b
-  bit_told true g h b old now told put = put ∙ ap (λ t. names h b || t) told ∙ or_turned (names h b) (names g b) ∙ sym (some_both (same_place b) g h)
+  bit_told true g h b old now told put = put ∙ ap (λ t. names h b || t) told ∙ or_comm (names h b) (names g b) ∙ sym (some_both (same_place b) g h)
   bit_told false g h b old now told put = put ∙ told
 
   -- a row, where a join may have got one round more
@@ -194,7 +168,7 @@ module _ (places : Places) where
       put
       ∙ ap (λ t. t || old) (same p)
       ∙ ap (λ t. list_any p (rows_around places h) || t) told
-      ∙ or_turned (list_any p (rows_around places h)) (list_any p (rows_around places g))
+      ∙ or_comm (list_any p (rows_around places h)) (list_any p (rows_around places g))
       ∙ ap (λ t. t || list_any p (rows_around places h)) (any_around p g)
       ∙ ap (λ t. some_bit (λ c. list_any p (places c.reg)) g || t) (any_around p h)
       ∙ sym (some_both (λ c. list_any p (places c.reg)) g h)

@@ -4,7 +4,7 @@ use Rattle.std.specs.Prelude.{All, cond, flat_map, map, replicate, IsFalse, ◌�
 use Rattle.std.specs.List.{count_by, list_any}
 use Rattle.std.proofs.lemmas.Bool.{true≢false}
 use Rattle.std.proofs.lemmas.List.Elements.{All-append, All-head, All-tail, All-nil, All-weaker}
-use Rattle.std.proofs.lemmas.List.Folds.{list_any-append, list_any_none}
+use Rattle.std.proofs.lemmas.List.Folds.{list_any_none}
 use Rattle.std.proofs.lemmas.List.Sums.{sum_by-cons}
 use Rattle.ij_bits.specs.BitLists.{bit}
 use Rattle.net_graph.specs.Held.{AreHolds, set_hold}
@@ -25,21 +25,12 @@ use Rattle.net_graph.proofs.Places.{place_is, place_self}
 use Rattle.net_graph.proofs.Widths.{zeros_held}
 use Rattle.net_tree.specs.Lawful.{drives, IsUnshared, DrivesNone}
 use Rattle.nest_check.specs.Uses.{Selected, no_flags, noted, note, note_all, HaveFlags, driving, driving_all, inputs_of, inputs}
+use Rattle.std.proofs.Math.Bool.{or_assoc, or-false, or-true}
+use Rattle.ij_bits.proofs.Lists.{any_flat, any_false}
+use Rattle.ij_bits.proofs.WordBits.{bit-none}
 
 other_place : (a b : BitId) → same_place a b ≡ false → a ≢ b
 other_place a b e s = true≢false (sym (place_self a) ∙ ap (same_place a) s ∙ e)
-
-or_true : (b : Bool) → (b || true) ≡ true
-or_true true = refl
-or_true false = refl
-
-or_false : (b : Bool) → (b || false) ≡ b
-or_false true = refl
-or_false false = refl
-
-or_both : (a b c : Bool) → ((a || b) || c) ≡ (a || (b || c))
-or_both true b c = refl
-or_both false b c = refl
 
 has_flag : (net : Net) (flags : Holds) (b : BitId) → AreHolds net flags → IsBitOf net b → IsHeld (shape flags) b
 has_flag net flags b fits is = subst (λ w. b.pos < get_or w b.reg 0) (sym fits) is
@@ -51,17 +42,12 @@ flat_all P f (x ∷ xs) a =
 
 -- ---- no flag is set
 
-no_bit : (n p : ℕ) → bit (replicate n false) p ≡ false
-no_bit zero p = refl
-no_bit (suc n) zero = refl
-no_bit (suc n) (suc p) = no_bit n p
-
 nothing_flagged : (net : Net) (b : BitId) → hold_at (zero_holds net) b ≡ false
 nothing_flagged net b = at net.regs.items b.reg
   where
     at : (regs : List Reg) (r : ℕ) → bit (get_or (map (λ r. replicate r.width false) regs) r []) b.pos ≡ false
     at [] r = refl
-    at (x ∷ regs) zero = no_bit x.width b.pos
+    at (x ∷ regs) zero = bit-none x.width b.pos
     at (x ∷ regs) (suc r) = at regs r
 
 -- ---- select bits
@@ -160,29 +146,25 @@ driving_all_fits net [] flags h = h
 driving_all_fits net (s ∷ ss) flags h = driving_all_fits net ss (driving flags s) (driving_fits net flags s h)
 
 driving_at : (net : Net) (flags : Holds) (s : Sig) (b : BitId) → AreHolds net flags → IsInputOf net s → hold_at (driving flags s) b ≡ (hold_at flags b || is_bit b s)
-driving_at net flags Absent b h is = sym (or_false (hold_at flags b))
-driving_at net flags Zero b h is = sym (or_false (hold_at flags b))
-driving_at net flags One b h is = sym (or_false (hold_at flags b))
-driving_at net flags (Out inst port pos inverted) b h is = sym (or_false (hold_at flags b))
+driving_at net flags Absent b h is = sym (or-false (hold_at flags b))
+driving_at net flags Zero b h is = sym (or-false (hold_at flags b))
+driving_at net flags One b h is = sym (or-false (hold_at flags b))
+driving_at net flags (Out inst port pos inverted) b h is = sym (or-false (hold_at flags b))
 driving_at net flags (Bit c inverted) b h is = by_place (same_place b c) refl
   where
     by_place : (f : Bool) → same_place b c ≡ f → hold_at (set_hold flags c true) b ≡ (hold_at flags b || same_place b c)
     by_place true e =
         let same : b ≡ c = place_is b c e in
-        ap (hold_at (set_hold flags c true)) same ∙ set_hold-at flags c true (has_flag net flags c h is) ∙ sym (ap (λ f. hold_at flags b || f) e ∙ or_true (hold_at flags b))
+        ap (hold_at (set_hold flags c true)) same ∙ set_hold-at flags c true (has_flag net flags c h is) ∙ sym (ap (λ f. hold_at flags b || f) e ∙ or-true (hold_at flags b))
     by_place false e =
-        set_hold-other flags c b true (other_place b c e) ∙ sym (ap (λ f. hold_at flags b || f) e ∙ or_false (hold_at flags b))
+        set_hold-other flags c b true (other_place b c e) ∙ sym (ap (λ f. hold_at flags b || f) e ∙ or-false (hold_at flags b))
 
 driving_all_at : (net : Net) (ss : List Sig) (flags : Holds) (b : BitId) → AreHolds net flags → All (IsInputOf net) ss → hold_at (driving_all flags ss) b ≡ (hold_at flags b || list_any (is_bit b) ss)
-driving_all_at net [] flags b h a = sym (or_false (hold_at flags b))
+driving_all_at net [] flags b h a = sym (or-false (hold_at flags b))
 driving_all_at net (s ∷ ss) flags b h a =
     driving_all_at net ss (driving flags s) b (driving_fits net flags s h) (All-tail (IsInputOf net) s ss a)
     ∙ ap (λ f. f || list_any (is_bit b) ss) (driving_at net flags s b h (All-head (IsInputOf net) s ss a))
-    ∙ or_both (hold_at flags b) (is_bit b s) (list_any (is_bit b) ss)
-
-flat_any : {A B : Type 0} (p : B → Bool) (f : A → List B) (xs : List A) → list_any p (flat_map f xs) ≡ list_any (λ x. list_any p (f x)) xs
-flat_any p f [] = refl
-flat_any p f (x ∷ xs) = list_any-append p (f x) (flat_map f xs) ∙ ap (λ b. list_any p (f x) || b) (flat_any p f xs)
+    ∙ or_assoc (hold_at flags b) (is_bit b s) (list_any (is_bit b) ss)
 
 same_any : {A : Type 0} (p q : A → Bool) (xs : List A) → ((x : A) → p x ≡ q x) → list_any p xs ≡ list_any q xs
 same_any p q [] e = refl
@@ -190,24 +172,7 @@ same_any p q (x ∷ xs) e = ap (λ b. b || list_any p xs) (e x) ∙ ap (λ b. q 
 
 drives_inputs : (net : Net) (b : BitId) → list_any (is_bit b) (inputs net) ≡ list_any (drives b) net.insts.items
 drives_inputs net b =
-    flat_any (is_bit b) inputs_of net.insts.items ∙ same_any (λ inst. list_any (is_bit b) (inputs_of inst)) (drives b) net.insts.items (λ inst. flat_any (is_bit b) (λ port. port.bits.items) inst.ins.items)
-
-or_left_false : (a b : Bool) → (a || b) ≡ false → a ≡ false
-or_left_false true b e = e
-or_left_false false b e = refl
-
-or_right_false : (a b : Bool) → (a || b) ≡ false → b ≡ false
-or_right_false true b e = absurd (true≢false e)
-or_right_false false b e = e
-
-none_of : {A : Type 0} (p : A → Bool) (xs : List A) → list_any p xs ≡ false → All (λ x. p x ≡ false) xs
-none_of p [] e = All-nil (λ x. p x ≡ false)
-none_of p (x ∷ xs) e =
-    All-append (λ y. p y ≡ false) (x ∷ []) xs (only (or_left_false (p x) (list_any p xs) e)) (none_of p xs (or_right_false (p x) (list_any p xs) e))
-  where
-    only : p x ≡ false → All (λ y. p y ≡ false) (x ∷ [])
-    only h zero d l = h
-    only h (suc k) d l = absurd (omega (arith, l))
+    any_flat (is_bit b) inputs_of net.insts.items ∙ same_any (λ inst. list_any (is_bit b) (inputs_of inst)) (drives b) net.insts.items (λ inst. any_flat (is_bit b) (λ port. port.bits.items) inst.ins.items)
 
 inst_inputs : (net : Net) (inst : Inst) → IsInst net inst → All (IsInputOf net) (inputs_of inst)
 inst_inputs net inst i =
@@ -221,7 +186,7 @@ all_inputs net n =
 pub driver_flags : (net : Net) (flags : Holds) (b : BitId) → IsNet net → flags ≡ driving_all (zero_holds net) (inputs net) → IsFalse (hold_at flags b) ↔ DrivesNone net b
 driver_flags net flags b n e =
     let at : hold_at flags b ≡ list_any (drives b) net.insts.items = ap (λ h. hold_at h b) e ∙ driving_all_at net (inputs net) (zero_holds net) b (zeros_held net) (all_inputs net n) ∙ ap (λ f. f || list_any (is_bit b) (inputs net)) (nothing_flagged net b) ∙ drives_inputs net b in
-    ((λ f. none_of (drives b) net.insts.items (sym at ∙ f)), (λ a. at ∙ list_any_none (drives b) net.insts.items a))
+    ((λ f. any_false (drives b) net.insts.items (sym at ∙ f)), (λ a. at ∙ list_any_none (drives b) net.insts.items a))
 
 pub drivers_fit : (net : Net) (flags : Holds) → flags ≡ driving_all (zero_holds net) (inputs net) → AreHolds net flags
 drivers_fit net flags e = subst (AreHolds net) (sym e) (driving_all_fits net (inputs net) (zero_holds net) (zeros_held net))

@@ -19,12 +19,7 @@ use Rattle.nest_check.specs.declared.fault.NestFault.{NestFault}
 use Rattle.nest_check.specs.declared.fault.NestFault.TheVariants.{Unreached, NotNested, SelectInside, SelectShared, SelectDrives, SelectNoReset, ResetUnlisted, TooDeep, OutOfMemory}
 use Rattle.nest_check.proofs.AllMet.{form_is_met}
 use Rattle.nest_check.proofs.OneForm.{one_form}
-
-head_same : {A : Type 0} (x y : A) (xs ys : List A) → x ∷ xs ≡ y ∷ ys → x ≡ y
-head_same x y xs ys e = cc
-
-tail_same : {A : Type 0} (x y : A) (xs ys : List A) → x ∷ xs ≡ y ∷ ys → xs ≡ ys
-tail_same x y xs ys e = cc
+use Rattle.ij_bits.proofs.Lists.{head_same, tail_same}
 
 -- the first of a list of which something doesn't hold is one
 first_same : {A : Type 0} (P : A → Type 0) (before after others rest : List A) (x y : A) → before ++ x ∷ after ≡ others ++ y ∷ rest → All P before → All P others → (P x → ⊥) → (P y → ⊥) → (length before ≡ length others) × (x ≡ y)

@@ -1,5 +1,5 @@
 -- What one command does, by the pins that it is played with.
-use Rattle.std.proofs.Common.{◌≡◌, ℕ, suc, ◌<◌, Bool, List, [], ◌∷◌, length, Option, Some, true, false, ap, ◌∙◌, arith}
+use Rattle.std.proofs.Common.{◌≡◌, ℕ, suc, ◌<◌, Bool, List, [], ◌∷◌, length, Option, Some, true, false, ap, ◌∙◌}
 use Rattle.std.specs.Prelude.{replicate, unwrap_or}
 use Rattle.std.proofs.lemmas.List.{append-nil}
 use Rattle.svf_writer.specs.SeenCommands.{SDR, SIR, SeenScan, Run as RunTest}
@@ -11,6 +11,7 @@ use Rattle.net_bench.specs.Laws.{InstructionsLoad, ResetsReset, RunsWait, ScansS
 use Rattle.net_bench.specs.Playing.{after_pins, compares, resting}
 use Rattle.net_bench.proofs.Commands.{reset_at_power_up, reset_resets, run_runs, scan_loads}
 use Rattle.net_bench.proofs.Scans.{scan_exchanges_bits, scan_finds_bits}
+use Rattle.ij_bits.proofs.Lists.{none_below}
 
 rests_idle : {L : Type 0} (s : State L) → s.tap ≡ RunTestIdle → resting s ≡ InIdle
 rests_idle s i = ap (λ t. elim (is_reset t) [ true ↦ InReset | false ↦ InIdle ]) i
@@ -27,9 +28,6 @@ scan_plays chip scans scan bits s ready given some fits =
       ap (λ q. after_pins chip q s) ps ∙ scan_exchanges_bits chip (suc scans) bits es s ready some fits,
       ap (λ q. compares chip q s) ps ∙ scan_finds_bits chip (suc scans) bits es s ready some fits,
     )
-
-none_below : 0 < length {A = Bool} [] → ⊥
-none_below h = omega arith
 
 load_bits : {L : Type 0} (chip : Chip L) (scan : ℕ) (bits : List Bool) (es : List (Option Bool)) (s : State L) → s.tap ≡ RunTestIdle → 0 < length bits → length bits ≡ length s.ir_stage
     → after_pins chip (sir_pins scan (record { tdi = bits; expects = es })) s ≡ loaded chip s bits

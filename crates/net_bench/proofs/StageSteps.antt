@@ -1,12 +1,11 @@
 -- Steps of the loops over a stage, bit by bit.
 use Rattle.std.proofs.Common.{◌≡◌, ℕ, zero, suc, ◌+◌, ◌-◌, ◌<◌, ◌/◌, ◌%◌, ◌==◌, Bool, true, false, List, [], ◌∷◌, ◌++◌, length, take, drop, refl, sym, ap, ◌∙◌, arith, append_assoc}
-use Rattle.std.specs.Prelude.{slice_set, get_or, ◌&&◌, replicate}
+use Rattle.std.specs.Prelude.{slice_set, get_or, ◌&&◌}
 use Rattle.std.proofs.lemmas.List.{take_more_set, drop_more}
 use Rattle.ij_bits.specs.BitLists.{bits_of, bits_eq, same_bit}
 use Rattle.net_bench.specs.Instruction.{capture_ir}
-
-one_less : (w i : ℕ) → i < w → w - i ≡ suc (w - (i + 1))
-one_less w i h = omega arith
+use Rattle.ij_bits.proofs.WordBits.{bits_of-none}
+use Rattle.ij_bits.proofs.Tests.{one_less}
 
 pub put_step : (w i rest : ℕ) (items : List Bool) → length items ≡ w → i < w → take (i + 1) (slice_set items i ((rest % 2) == 1)) ++ bits_of (w - (i + 1)) (rest / 2) ≡ take i items ++ bits_of (w - i) rest
 put_step w i rest items e h =
@@ -19,11 +18,6 @@ eq_step xs i rest h =
     ap (λ ys. bits_eq ys (bits_of (length xs - i) rest)) (drop_more xs i false h)
     ∙ ap (λ k. bits_eq (get_or xs i false ∷ drop (i + 1) xs) (bits_of k rest)) (one_less (length xs) i h)
 
--- a number's bits
-no_bits : (n : ℕ) → bits_of n 0 ≡ replicate n false
-no_bits zero = refl
-no_bits (suc n) = ap (λ bs. false ∷ bs) (no_bits n)
-
 pub captured_ir : (n : ℕ) → bits_of n 1 ≡ capture_ir n
 captured_ir zero = refl
-captured_ir (suc n) = ap (λ bs. true ∷ bs) (no_bits n)
+captured_ir (suc n) = ap (λ bs. true ∷ bs) (bits_of-none n)

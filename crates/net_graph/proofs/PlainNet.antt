@@ -1,6 +1,6 @@
 -- The network of the register `net.R` is well formed.
-use Rattle.std.proofs.Common.{◌≡◌, ℕ, zero, suc, ◌+◌, ◌<◌, ◌≤◌, false, List, [], ◌∷◌, length, refl, sym, ap, ◌∙◌, arith}
-use Rattle.std.specs.Prelude.{map, All, Contains, IsTrue, codes}
+use Rattle.std.proofs.Common.{◌≡◌, ℕ, zero, suc, ◌+◌, ◌<◌, ◌≤◌, false, List, [], ◌∷◌, length, refl, ap, ◌∙◌, arith}
+use Rattle.std.specs.Prelude.{map, All, IsTrue, codes}
 use Rattle.ij_bits.specs.Room.{Listed, full}
 use Rattle.std.proofs.lemmas.List.Elements.{All-nil, All-cons}
 use Rattle.std.proofs.lemmas.List.{length-map, length-replicate}
@@ -14,6 +14,7 @@ use Rattle.net_graph.specs.Named.{IsSignalOf, IsSpotOf, bits_from}
 use Rattle.ij_text.specs.Words.{is_name}
 use Rattle.net_graph.specs.Nets.{IsReg, IsThing, IsMux, IsInst, IsNet, HaveThings}
 use Rattle.net_graph.specs.OneRegister.{plain_register, plain_thing, plain_top, plain_instance, plain_net}
+use Rattle.ij_bits.proofs.Contained.{none_in, only_in}
 
 pub length-bits_from : (r k n : ℕ) → length (bits_from r k n) ≡ n
 length-bits_from r k zero = refl
@@ -25,14 +26,7 @@ bits_have f P r m h k zero l = All-nil P
 bits_have f P r m h k (suc n) l =
     All-cons P (f (record { reg = r; pos = k })) (map f (bits_from r (suc k) n)) (h k (omega (arith, l))) (bits_have f P r m h (suc k) n (omega (arith, l)))
 
-nothing_in : {X : Type 0} (c : X) → Contains [] c → ⊥
-nothing_in c h = omega (arith, h.1)
-
-first_of : {X : Type 0} (x c : X) → Contains (x ∷ []) c → c ≡ x
-first_of x c (zero, l, e) = sym e
-first_of x c (suc n, l, e) = absurd (omega (arith, l))
-
-some_path : (x : List ℕ) → [] ≡ x ∷ [] → ⊥
+pub some_path : (x : List ℕ) → [] ≡ x ∷ [] → ⊥
 some_path x e =
     let n : 0 ≡ 1 = ap length e in
     omega (arith, n)
@@ -49,7 +43,7 @@ HasNames node = All IsNamed node.path.items
 abbrev instance_name : Listed ℕ
 instance_name = full (codes "net")
 
-named_instance : HasNames plain_instance
+pub named_instance : HasNames plain_instance
 named_instance = All-cons IsNamed instance_name [] refl (All-nil IsNamed)
 
 module _ (width : ℕ) (some : 1 ≤ width) (few : width ≤ 64) where
@@ -73,4 +67,4 @@ module _ (width : ℕ) (some : 1 ≤ width) (few : width ≤ 64) where
 
   pub plain_net_is_net : IsNet net
   plain_net_is_net =
-      record { regs = All-cons (IsReg net) (plain_register 0 width Entry) [] reg_fits (All-nil (IsReg net)); muxes = All-nil (IsMux net); insts = All-nil (IsInst net); output = omega arith; things = All-cons (IsThing net) (plain_thing width) [] thing_fits (All-nil (IsThing net)); top = omega arith; top_path = refl; node_paths = (λ c. some_path _ (first_of _ _ c), (nothing_in _, tt)); inst_nodes = tt; thing_names = (nothing_in _, tt); path_names = All-cons HasNames plain_top (plain_instance ∷ []) (All-nil IsNamed) (All-cons HasNames plain_instance [] named_instance (All-nil HasNames)); reg_things = reg_things; bits_within_limit = omega (arith, few); few_muxes = omega arith; few_insts = omega arith; few_nodes = omega arith; few_levels = All-cons IsNear plain_top (plain_instance ∷ []) (omega arith) (All-cons IsNear plain_instance [] (omega arith) (All-nil IsNear)) }
+      record { regs = All-cons (IsReg net) (plain_register 0 width Entry) [] reg_fits (All-nil (IsReg net)); muxes = All-nil (IsMux net); insts = All-nil (IsInst net); output = omega arith; things = All-cons (IsThing net) (plain_thing width) [] thing_fits (All-nil (IsThing net)); top = omega arith; top_path = refl; node_paths = (λ c. some_path _ (only_in _ _ c), (none_in _, tt)); inst_nodes = tt; thing_names = (none_in _, tt); path_names = All-cons HasNames plain_top (plain_instance ∷ []) (All-nil IsNamed) (All-cons HasNames plain_instance [] named_instance (All-nil HasNames)); reg_things = reg_things; bits_within_limit = omega (arith, few); few_muxes = omega arith; few_insts = omega arith; few_nodes = omega arith; few_levels = All-cons IsNear plain_top (plain_instance ∷ []) (omega arith) (All-cons IsNear plain_instance [] (omega arith) (All-nil IsNear)) }

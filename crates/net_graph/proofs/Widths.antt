@@ -43,11 +43,11 @@ sum-set (n ∷ ns) zero h = omega (arith, sum_by-cons (λ k. k) n ns, sum_by-con
 sum-set (n ∷ ns) (suc r) h =
     omega (arith, sum_by-cons (λ k. k) n ns, sum_by-cons (λ k. k) n (slice_set ns r 0), sum-set ns r (omega (arith, h)))
 
-total-set : (p ns : List ℕ) (r : ℕ) → NotIn r p → total p (slice_set ns r 0) ≡ total p ns
+pub total-set : (p ns : List ℕ) (r : ℕ) → NotIn r p → total p (slice_set ns r 0) ≡ total p ns
 total-set [] ns r h = refl
 total-set (x ∷ xs) ns r h = omega (arith, get_or-set_other ns r x 0 0 h.0, total-set xs ns r h.1)
 
-total_fits : (p ns : List ℕ) → IsRoute (length ns) p → total p ns ≤ sum ns
+pub total_fits : (p ns : List ℕ) → IsRoute (length ns) p → total p ns ≤ sum ns
 total_fits [] ns h = omega arith
 total_fits (r ∷ rs) ns h =
     let rest : total rs (slice_set ns r 0) ≤ sum (slice_set ns r 0) =

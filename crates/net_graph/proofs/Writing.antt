@@ -73,3 +73,7 @@ write_all-at (x ∷ ws) holds w d (zero, l, e) h =
     ap (λ (z : WriteBit). hold_at (write_all (write_bit holds x) ws) z.bit) (sym e) ∙ write_all-other ws (write_bit holds x) x.bit d.0 ∙ set_hold-at holds x.bit x.value (subst (λ (z : WriteBit). IsHeld (shape holds) z.bit) (sym e) h) ∙ ap (λ (z : WriteBit). z.value) e
 write_all-at (x ∷ ws) holds w d (suc k, l, e) h =
     write_all-at ws (write_bit holds x) w d.1 (k, omega (arith, l), e) (subst (λ n. IsHeld n w.bit) (sym (set_hold-shape holds x.bit x.value)) h)
+
+pub write_all-append : (h : Holds) (xs ys : List WriteBit) → write_all h (xs ++ ys) ≡ write_all (write_all h xs) ys
+write_all-append h [] ys = refl
+write_all-append h (x ∷ xs) ys = write_all-append (write_bit h x) xs ys

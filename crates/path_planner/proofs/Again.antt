@@ -1,8 +1,8 @@
 -- Rows whose muxes are done: they write nothing more.
-use Rattle.std.proofs.Common.{◌≡◌, ℕ, zero, suc, ◌<◌, Bool, true, false, List, [], ◌∷◌, ◌++◌, length, refl, sym, ap, ◌∙◌, subst, arith}
+use Rattle.std.proofs.Common.{◌≡◌, ℕ, ◌<◌, Bool, true, false, List, [], ◌∷◌, ◌++◌, length, refl, sym, ap, ◌∙◌, subst, arith}
 use Rattle.std.specs.Prelude.{All, slice_set}
 use Rattle.std.proofs.lemmas.List.{get_or-set_same, length-set, set-get_or}
-use Rattle.std.proofs.lemmas.List.Elements.{All-head, All-tail}
+use Rattle.std.proofs.lemmas.List.Elements.{All-head, All-tail, All-cons}
 use Rattle.ij_bits.specs.BitLists.{bit}
 use Rattle.net_graph.specs.declared.branch.Branch.{Branch}
 use Rattle.net_graph.specs.declared.net.Net.{Net}
@@ -10,25 +10,15 @@ use Rattle.net_graph.specs.declared.step.WriteBit.{WriteBit}
 use Rattle.net_graph.specs.Signals.{Holds}
 use Rattle.path_planner.specs.Collecting.{all_done, row_writes, settle_writes}
 use Rattle.path_planner.specs.Planning.{IsBranchOf}
+use Rattle.path_planner.proofs.Collecting.{marked_stays}
 
 -- the muxes of some rows are done
 abbrev pub AreDone : List Bool → List Branch → Type 0
 AreDone done bs = All (λ b. bit done b.mux ≡ true) bs
 
-pub all_cons : {A : Type 0} (P : A → Type 0) (x : A) (xs : List A) → P x → All P xs → All P (x ∷ xs)
-all_cons P x xs h k zero d l = h
-all_cons P x xs h k (suc i) d l = k i d (omega (arith, l))
-
-stays : (done : List Bool) (k m : ℕ) → bit done m ≡ true → bit (slice_set done k true) m ≡ true
-stays [] k m e = e
-stays (x ∷ xs) zero zero e = refl
-stays (x ∷ xs) zero (suc m) e = e
-stays (x ∷ xs) (suc k) zero e = e
-stays (x ∷ xs) (suc k) (suc m) e = stays xs k m e
-
 stays_done : (bs : List Branch) (done : List Bool) (m : ℕ) → bit done m ≡ true → bit (all_done done bs) m ≡ true
 stays_done [] done m e = e
-stays_done (b ∷ bs) done m e = stays_done bs (slice_set done b.mux true) m (stays done b.mux m e)
+stays_done (b ∷ bs) done m e = stays_done bs (slice_set done b.mux true) m (marked_stays done b.mux m e)
 
 -- what is marked is done
 marked_done : (bs : List Branch) (done : List Bool) → All (λ b. b.mux < length done) bs → AreDone (all_done done bs) bs
@@ -36,7 +26,7 @@ marked_done [] done h = λ k d l. absurd (omega (arith, l))
 marked_done (b ∷ bs) done h =
     let there : b.mux < length done = All-head (λ c. c.mux < length done) b bs h in
     let rest : All (λ c. c.mux < length (slice_set done b.mux true)) bs = λ k d l. let t = All-tail (λ c. c.mux < length done) b bs h k d l in omega (arith, t, length-set done b.mux true) in
-    all_cons (λ c. bit (all_done (slice_set done b.mux true) bs) c.mux ≡ true) b bs (stays_done bs (slice_set done b.mux true) b.mux (get_or-set_same done b.mux true false there)) (marked_done bs (slice_set done b.mux true) rest)
+    All-cons (λ c. bit (all_done (slice_set done b.mux true) bs) c.mux ≡ true) b bs (stays_done bs (slice_set done b.mux true) b.mux (get_or-set_same done b.mux true false there)) (marked_done bs (slice_set done b.mux true) rest)
 
 pub now_done : (net : Net) (bs : List Branch) (done now : List Bool) → All (IsBranchOf net) bs → length done ≡ length net.muxes.items → now ≡ all_done done bs → AreDone now bs
 now_done net bs done now h long e =

@@ -15,7 +15,7 @@ use Rattle.net_graph.specs.Signals.{Holds, bits_at, hold_at}
 use Rattle.net_graph.specs.Held.{set_hold}
 use Rattle.net_graph.specs.Writes.{write_all}
 use Rattle.net_graph.proofs.Shapes.{shape}
-use Rattle.net_graph.proofs.Writing.{IsHeld}
+use Rattle.net_graph.proofs.Writing.{IsHeld, write_all-append}
 use Rattle.net_tree.specs.Lawful.{selects_of}
 use Rattle.path_planner.specs.Collecting.{select_writes, value_writes, row_writes, settle_writes}
 use Rattle.path_planner.specs.Settling.{set_selects, is_in_row, settle_rows}
@@ -24,10 +24,6 @@ use Rattle.path_planner.proofs.Apart.{Apart, apart_part, one_part}
 use Rattle.path_planner.proofs.Values.{TakesOn}
 use Rattle.path_planner.proofs.Setting.{set_selects-on, takes_stay}
 use Rattle.path_planner.proofs.Rows.{value_for, step, step-shape, step-other}
-
-pub write_all-append : (h : Holds) (xs ys : List WriteBit) → write_all h (xs ++ ys) ≡ write_all (write_all h xs) ys
-write_all-append h [] ys = refl
-write_all-append h (x ∷ xs) ys = write_all-append (set_hold h x.bit x.value) xs ys
 
 -- writing what is held changes nothing
 same_bit_set : (h : Holds) (b : BitId) (v : Bool) → hold_at h b ≡ v → set_hold h b v ≡ h
@@ -84,7 +80,7 @@ pub apart_different : {A : Type 0} (xs : List A) → Apart xs → AreDifferent x
 apart_different [] h = tt
 apart_different (x ∷ xs) h = ((λ c. h.0 x (contains_among x xs c) refl), apart_different xs h.1)
 
-marked_stays : (done : List Bool) (k m : ℕ) → bit done m ≡ true → bit (slice_set done k true) m ≡ true
+pub marked_stays : (done : List Bool) (k m : ℕ) → bit done m ≡ true → bit (slice_set done k true) m ≡ true
 marked_stays [] k m e = e
 marked_stays (x ∷ xs) zero zero e = refl
 marked_stays (x ∷ xs) zero (suc m) e = e

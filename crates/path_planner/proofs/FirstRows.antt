@@ -2,14 +2,13 @@
 use Rattle.std.proofs.Common.{◌≡◌, ℕ, ◌+◌, ◌<◌, Bool, true, false, List, [], ◌∷◌, ◌++◌, length, drop, get_or, refl, sym, ap, ◌∙◌, subst, append_assoc}
 use Rattle.std.specs.Prelude.{All, flat_map, slice_set}
 use Rattle.std.proofs.lemmas.List.{at_drop_more}
-use Rattle.std.proofs.lemmas.List.Elements.{All-head, All-tail}
+use Rattle.std.proofs.lemmas.List.Elements.{All-head, All-tail, All-cons}
 use Rattle.ij_bits.specs.BitLists.{bit}
 use Rattle.net_graph.specs.declared.branch.Branch.{Branch}
 use Rattle.net_graph.specs.declared.net.Net.{Net}
 use Rattle.net_graph.specs.Signals.{Holds}
 use Rattle.path_planner.specs.Collecting.{all_done, row_writes, settle_writes}
 use Rattle.path_planner.specs.FirstRows.{first_row, first_rows}
-use Rattle.path_planner.proofs.Again.{all_cons}
 use Rattle.path_planner.proofs.Among.{all_among, among_all, among-flat_back}
 
 first_rows-append : (done : List Bool) (xs ys : List Branch) → first_rows done (xs ++ ys) ≡ first_rows done xs ++ first_rows (all_done done xs) ys
@@ -35,7 +34,7 @@ first_all P (b ∷ bs) done h =
   where
     by_mark : (d : Bool) → All P (first_rows (slice_set done b.mux true) bs) → All P (elim d [ true ↦ [] | false ↦ b ∷ [] ] ++ first_rows (slice_set done b.mux true) bs)
     by_mark true rest = rest
-    by_mark false rest = all_cons P b (first_rows (slice_set done b.mux true) bs) (All-head P b bs h) rest
+    by_mark false rest = All-cons P b (first_rows (slice_set done b.mux true) bs) (All-head P b bs h) rest
 
 pub rows_there : (P : Branch → Type 0) (f : ℕ → List Branch) (rs : List ℕ) (done : List Bool) (rows : List Branch) → rows ≡ first_rows done (flat_map f rs) → All (λ r. All P (f r)) rs → All P rows
 rows_there P f rs done rows e h =

@@ -2,7 +2,7 @@
 -- beginnings of its place.
 use Rattle.std.proofs.Common.{◌≡◌, ◌⊎◌, inl, inr, ⊎_elim, ℕ, suc, ◌+◌, ◌<◌, Bool, true, false, List, [], ◌∷◌, ◌++◌, length, Some, refl, sym, ap, ◌∙◌, subst, arith, append_assoc}
 use Rattle.std.specs.Prelude.{flat_map}
-use Rattle.std.proofs.lemmas.Bool.{true≢false, false≢true, eq-eqb, eqb-true}
+use Rattle.std.proofs.lemmas.Bool.{true≢false}
 use Rattle.net_graph.specs.declared.branch.Branch.{Branch}
 use Rattle.net_graph.specs.declared.net.Net.{Net}
 use Rattle.net_graph.specs.declared.net.Row.{Row}
@@ -19,6 +19,7 @@ use Rattle.path_planner.proofs.Tracing.{path_is_walk}
 use Rattle.path_planner.proofs.Pigeons.{each_in}
 use Rattle.path_planner.proofs.Places.{one_branch, place_front, AreIn, walk_meets, open_met}
 use Rattle.net_tree.proofs.Walks.{IsRoute-back}
+use Rattle.net_tree.proofs.Points.{same_is, same_self}
 
 -- the items of a form by kind
 abbrev pub reg_number : Point → List ℕ
@@ -70,23 +71,6 @@ mutual
       ∙ ap (λ z. z ++ numbers mux_number (placed_rows around m (suc k) rest)) (mux_numbers items (around ++ one_branch m k))
       ∙ ap (λ z. muxes_in items ++ z) (mux_row_numbers rest around m (suc k))
 
--- points are told apart
-same_tells : (a b : Point) → same_point a b ≡ true → a ≡ b
-same_tells Entry Entry e = refl
-same_tells Entry (FromReg b) e = absurd (false≢true e)
-same_tells Entry (FromMux b) e = absurd (false≢true e)
-same_tells (FromReg a) Entry e = absurd (false≢true e)
-same_tells (FromReg a) (FromReg b) e = ap FromReg (eqb-true a b e)
-same_tells (FromReg a) (FromMux b) e = absurd (false≢true e)
-same_tells (FromMux a) Entry e = absurd (false≢true e)
-same_tells (FromMux a) (FromReg b) e = absurd (false≢true e)
-same_tells (FromMux a) (FromMux b) e = ap FromMux (eqb-true a b e)
-
-same_itself : (a : Point) → same_point a a ≡ true
-same_itself Entry = refl
-same_itself (FromReg a) = eq-eqb a a refl
-same_itself (FromMux a) = eq-eqb a a refl
-
 -- where each number stands once, the place found is the item's
 find_is : (f : Point → List ℕ) (n k : ℕ) (item : Point) (xs : List Placed) (x : Placed) → f item ≡ k ∷ [] → IsRoute n (numbers f xs) → Among x xs → x.item ≡ item → find_place xs item ≡ x.place
 find_is f n k item [] x s h a e = absurd a
@@ -101,9 +85,9 @@ find_is f n k item (y ∷ ys) x s h a e =
         not_in k (numbers f ys) (subst (λ z. IsRoute n (z ++ numbers f ys)) (ap f t ∙ s) h).1 (among-flat (λ z. f z.item) x k ys b here)
 
     go : (b : Bool) → same_point y.item item ≡ b → (Among x ys → find_place ys item ≡ x.place) → elim b [ true ↦ y.place | false ↦ find_place ys item ] ≡ x.place
-    go true t rest = ⊎_elim (λ q. ap (λ z. z.place) q) (λ b. absurd (twice (same_tells y.item item t) b)) a
+    go true t rest = ⊎_elim (λ q. ap (λ z. z.place) q) (λ b. absurd (twice (same_is y.item item t) b)) a
     go false t rest =
-        ⊎_elim (λ q. absurd (true≢false (sym (ap (λ z. same_point z item) (ap (λ z. z.item) q ∙ e) ∙ same_itself item) ∙ t))) rest a
+        ⊎_elim (λ q. absurd (true≢false (sym (ap (λ z. same_point z item) (ap (λ z. z.item) q ∙ e) ∙ same_self item) ∙ t))) rest a
 
 -- a branch of a place, but for those around: its mux stands in front of it
 abbrev IsInside : List Placed → List Branch → Branch → Type 0

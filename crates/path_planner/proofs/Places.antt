@@ -11,15 +11,16 @@ use Rattle.net_tree.specs.Form.{Items, Nothing, RegThen, MuxThen, Rows, NoRow, R
 use Rattle.net_tree.specs.Places.{Placed, placed, placed_rows}
 use Rattle.net_tree.proofs.Walks.{walk, walk_rows}
 use Rattle.path_planner.proofs.Among.{Among, among-left, among-right, among-cases}
-use Rattle.path_planner.proofs.Tracing.{none_some, some_same, then_gives}
+use Rattle.std.proofs.lemmas.Option.{none-some, same_Some}
+use Rattle.ij_bits.proofs.Lists.{then_some}
 
 -- the row counted from a number is at least that number
 pub row_from_ge : (k : ℕ) (rs : List Row) (bits : List Bool) (q : ℕ) → row_from k rs bits ≡ Some q → k ≤ q
-row_from_ge k [] bits q e = absurd (none_some q e)
+row_from_ge k [] bits q e = absurd (none-some q e)
 row_from_ge k (r ∷ rs) bits q e = go (some_matches r.values.items bits) e (row_from_ge (suc k) rs bits q)
   where
     go : (b : Bool) → elim b [ true ↦ Some k | false ↦ row_from (suc k) rs bits ] ≡ Some q → (row_from (suc k) rs bits ≡ Some q → suc k ≤ q) → k ≤ q
-    go true f h = omega (arith, some_same k q f)
+    go true f h = omega (arith, same_Some k q f)
     go false f h = omega (arith, h f)
 
 abbrev pub one_branch : ℕ → ℕ → List Branch
@@ -64,19 +65,19 @@ module _ (net : Net) (holds : Holds) where
 
   mutual
     pub walk_meets : (items : Items) (around : List Branch) (met after : List ℕ) (r : ℕ) → walk net holds items met ≡ Some after → Among r after → Among r met ⊎ IsMet around (placed around items) r
-    walk_meets Nothing around met after r e a = inl (subst (Among r) (sym (some_same met after e)) a)
+    walk_meets Nothing around met after r e a = inl (subst (Among r) (sym (same_Some met after e)) a)
     walk_meets (RegThen x rest) around met after r e a =
         ⊎_elim (λ b. ⊎_elim (λ f. inr (record { item = FromReg x; place = around }, inl refl, ap FromReg f, λ h. h)) (λ c. inl c) b) (λ b. inr (met_more around (placed around rest) (placed around (RegThen x rest)) r (λ y c. inr c) b)) (walk_meets rest around (x ∷ met) after r e a)
     walk_meets (MuxThen m rows rest) around met after r e a =
-        let (met1, f, g) = then_gives (walk net holds rest) (walk_rows net holds (select_value net holds m) (rows_of net m) rows met) after e in
+        let (met1, f, g) = then_some (walk net holds rest) (walk_rows net holds (select_value net holds m) (rows_of net m) rows met) after e in
         let inside = placed_rows around m 0 rows in
         let behind = placed around rest in
         let all = placed around (MuxThen m rows rest) in
         ⊎_elim (λ b. ⊎_elim (λ c. inl c) (λ c. inr (met_more around inside all r (λ y d. inr (among-left y inside behind d)) c)) (rows_meet rows around m 0 (rows_of net m) (select_value net holds m) met met1 r refl f b)) (λ b. inr (met_more around behind all r (λ y d. inr (among-right y inside behind d)) b)) (walk_meets rest around met1 after r g a)
 
     rows_meet : (rows : Rows) (around : List Branch) (m k : ℕ) (rs : List Row) (bits : List Bool) (met after : List ℕ) (r : ℕ) → row_of net holds m ≡ row_from k rs bits → walk_rows net holds bits rs rows met ≡ Some after → Among r after → Among r met ⊎ IsMet around (placed_rows around m k rows) r
-    rows_meet NoRow around m k rs bits met after r o e a = absurd (none_some after e)
-    rows_meet (RowThen items rest) around m k [] bits met after r o e a = absurd (none_some after e)
+    rows_meet NoRow around m k rs bits met after r o e a = absurd (none-some after e)
+    rows_meet (RowThen items rest) around m k [] bits met after r o e a = absurd (none-some after e)
     rows_meet (RowThen items rest) around m k (q ∷ rs) bits met after r o e a =
         let inside = placed (around ++ one_branch m k) items in
         let behind = placed_rows around m (suc k) rest in
@@ -85,15 +86,15 @@ module _ (net : Net) (holds : Holds) where
   -- a walk keeps what was met
   mutual
     walk_keeps : (items : Items) (met after : List ℕ) (r : ℕ) → walk net holds items met ≡ Some after → Among r met → Among r after
-    walk_keeps Nothing met after r e a = subst (Among r) (some_same met after e) a
+    walk_keeps Nothing met after r e a = subst (Among r) (same_Some met after e) a
     walk_keeps (RegThen x rest) met after r e a = walk_keeps rest (x ∷ met) after r e (inr a)
     walk_keeps (MuxThen m rows rest) met after r e a =
-        let (met1, f, g) = then_gives (walk net holds rest) (walk_rows net holds (select_value net holds m) (rows_of net m) rows met) after e in
+        let (met1, f, g) = then_some (walk net holds rest) (walk_rows net holds (select_value net holds m) (rows_of net m) rows met) after e in
         walk_keeps rest met1 after r g (rows_keep rows (rows_of net m) (select_value net holds m) met met1 r f a)
 
     rows_keep : (rows : Rows) (rs : List Row) (bits : List Bool) (met after : List ℕ) (r : ℕ) → walk_rows net holds bits rs rows met ≡ Some after → Among r met → Among r after
-    rows_keep NoRow rs bits met after r e a = absurd (none_some after e)
-    rows_keep (RowThen items rest) [] bits met after r e a = absurd (none_some after e)
+    rows_keep NoRow rs bits met after r e a = absurd (none-some after e)
+    rows_keep (RowThen items rest) [] bits met after r e a = absurd (none-some after e)
     rows_keep (RowThen items rest) (q ∷ rs) bits met after r e a =
         pick_case (some_matches q.values.items bits) (walk net holds items met) (walk_rows net holds bits rs rest met) 0 None (elim (some_matches q.values.items bits) [ true ↦ Some 0 | false ↦ None ]) after (Among r after) e refl (λ w _. walk_keeps items met after r w a) (λ w _. rows_keep rest rs bits met after r w a)
 
@@ -111,7 +112,7 @@ module _ (net : Net) (holds : Holds) where
   far_row : (rest : Rows) (around : List Branch) (m k : ℕ) (x : Placed) → Among x (placed_rows around m (suc k) rest) → AreIn x.place → row_of net holds m ≡ Some k → ⊥
   far_row rest around m k x a h e =
       let (q, l, t, f) = row_front rest around m (suc k) x a in
-      let same : q ≡ k = some_same q k (sym (at_place around m q t x f h) ∙ e) in
+      let same : q ≡ k = same_Some q k (sym (at_place around m q t x f h) ∙ e) in
       omega (arith, same, l)
 
   near_row : (items : Items) (around : List Branch) (m k : ℕ) (rs : List Row) (bits : List Bool) (x : Placed) → Among x (placed (around ++ one_branch m k) items) → AreIn x.place → row_of net holds m ≡ row_from (suc k) rs bits → ⊥
@@ -127,12 +128,12 @@ module _ (net : Net) (holds : Holds) where
     open_met (RegThen y rest) around met after x r e a i h =
         ⊎_elim (λ f. walk_keeps rest (y ∷ met) after r e (inl (same_reg y r (ap (λ z. z.item) f ∙ i)))) (λ b. open_met rest around (y ∷ met) after x r e b i h) a
     open_met (MuxThen m rows rest) around met after x r e a i h =
-        let (met1, f, g) = then_gives (walk net holds rest) (walk_rows net holds (select_value net holds m) (rows_of net m) rows met) after e in
+        let (met1, f, g) = then_some (walk net holds rest) (walk_rows net holds (select_value net holds m) (rows_of net m) rows met) after e in
         ⊎_elim (λ b. absurd (mux_reg m r (ap (λ z. z.item) b ∙ i))) (λ b. ⊎_elim (λ c. walk_keeps rest met1 after r g (rows_open rows around m 0 (rows_of net m) (select_value net holds m) met met1 x r refl f c i h)) (λ c. open_met rest around met1 after x r g c i h) (among-cases x (placed_rows around m 0 rows) (placed around rest) b)) a
 
     rows_open : (rows : Rows) (around : List Branch) (m k : ℕ) (rs : List Row) (bits : List Bool) (met after : List ℕ) (x : Placed) (r : ℕ) → row_of net holds m ≡ row_from k rs bits → walk_rows net holds bits rs rows met ≡ Some after → Among x (placed_rows around m k rows) → x.item ≡ FromReg r → AreIn x.place → Among r after
     rows_open NoRow around m k rs bits met after x r o e a i h = absurd a
-    rows_open (RowThen items rest) around m k [] bits met after x r o e a i h = absurd (none_some after e)
+    rows_open (RowThen items rest) around m k [] bits met after x r o e a i h = absurd (none-some after e)
     rows_open (RowThen items rest) around m k (q ∷ rs) bits met after x r o e a i h =
         let inside = placed (around ++ one_branch m k) items in
         let behind = placed_rows around m (suc k) rest in

@@ -36,16 +36,17 @@ use Rattle.path_planner.proofs.Opening.{all_open, is_needed, deeper}
 use Rattle.path_planner.proofs.Plans.{at, plan_unseen}
 use Rattle.path_planner.proofs.Repeats.{same_all, same_writes}
 use Rattle.path_planner.proofs.Settled.{on_scan_path, settles}
-use Rattle.path_planner.proofs.Step.{is_there, selected}
+use Rattle.path_planner.proofs.Step.{selected}
 use Rattle.path_planner.proofs.Values.{select_there}
-use Rattle.path_planner.proofs.Tracing.{none_some}
 use Rattle.net_tree.proofs.Walks.{has_walk}
+use Rattle.ij_bits.proofs.Lists.{some_of}
+use Rattle.std.proofs.lemmas.Option.{none-some}
 
 -- there is a path
 pub path_found : (net : Net) (form : Items) (holds : Holds) (found : Bool) (p : List ℕ) → Describes net form → IsScannable net holds → (IsTrue found → scan_path net holds ≡ Some p) → (IsFalse found → (scan_path net holds ≡ None) × (p ≡ [])) → scan_path net holds ≡ Some p
 path_found net form holds found p d s there none =
-    let w = has_walk net holds form d (λ m l. is_there (mux_source net holds m) (s.rows m l)) in
-    ⊎_elim there (λ f. absurd (none_some (reverse w.path) (sym (none f).0 ∙ ap (option_map reverse) w.traced))) (cases_Bool found)
+    let w = has_walk net holds form d (λ m l. some_of (mux_source net holds m) (s.rows m l)) in
+    ⊎_elim there (λ f. absurd (none-some (reverse w.path) (sym (none f).0 ∙ ap (option_map reverse) w.traced))) (cases_Bool found)
 
 -- the muxes at a depth below a number are in their needed rows
 abbrev pub AreOpen : Net → Items → SeenGroup → Holds → ℕ → Type 0

@@ -3,7 +3,7 @@ use Rattle.std.proofs.Common.{◌≡◌, inl, inr, ℕ, suc, ◌-◌, ◌≤◌,
 use Rattle.std.specs.Prelude.{◌==◌, ◌&&◌, ◌||◌, All, map, flat_map, replicate}
 use Rattle.std.specs.List.{list_all}
 use Rattle.std.proofs.lemmas.Bool.{false≢true, eqb-true}
-use Rattle.std.proofs.lemmas.List.{length-replicate}
+use Rattle.std.proofs.lemmas.List.{length-replicate, append-nil}
 use Rattle.net_graph.specs.declared.branch.Branch.{Branch}
 use Rattle.net_graph.specs.declared.net.Net.{Net}
 use Rattle.net_graph.specs.declared.net.Point.TheVariants.{Reg as FromReg}
@@ -24,10 +24,7 @@ use Rattle.path_planner.proofs.Again.{AreDone, done_again, none_again, now_done}
 use Rattle.path_planner.proofs.Among.{Among, all_among, among-flat, on_true, true_on}
 use Rattle.path_planner.proofs.Joining.{settle_writes-append, length-all_done}
 use Rattle.path_planner.proofs.Opening.{is_needed}
-
-append_none : {A : Type 0} (xs : List A) → xs ++ [] ≡ xs
-append_none [] = refl
-append_none (x ∷ xs) = ap (λ l. x ∷ l) (append_none xs)
+use Rattle.std.proofs.lemmas.Grind.{flat_map-append}
 
 pub ends_at : (rs : List ℕ) (r : ℕ) → 1 ≤ length rs → (get_or rs (length rs - 1) 0 == r) ≡ ends_in rs r
 ends_at [] r h = absurd (omega (arith, h))
@@ -68,7 +65,7 @@ module _ {X : Type 0} (P : List ℕ → X) (Q : ℕ → Type 0) (twice : (front 
       ∙ sym (ap (λ l. P (l ++ r ∷ rest)) f)
 
   pub same_added : (rs xs : List ℕ) → ((r : ℕ) → Among r xs → Q r) → P (add_registers rs xs) ≡ P (rs ++ xs)
-  same_added rs [] h = ap P (sym (append_none rs))
+  same_added rs [] h = ap P (sym (append-nil rs))
   same_added rs (x ∷ xs) h =
       same_added (add_register rs x) xs (λ r a. h r (inr a)) ∙ one_more rs x xs (h x (inl refl)) (ends_in rs x) refl
 
@@ -100,10 +97,6 @@ among_added : (xs : List ℕ) (r : ℕ) → Among r (add_registers [] xs) → Am
 among_added xs r a =
     true_on r xs (sym (same_added (λ l. is_in l r) Any (on_twice r) [] xs (λ k b. tt)) ∙ on_true r (add_registers [] xs) a)
 
-flat_append : {A B : Type 0} (f : A → List B) (xs ys : List A) → flat_map f (xs ++ ys) ≡ flat_map f xs ++ flat_map f ys
-flat_append f [] ys = refl
-flat_append f (x ∷ xs) ys = ap (λ z. f x ++ z) (flat_append f xs ys) ∙ sym (append_assoc (f x) (flat_map f xs) (flat_map f ys))
-
 module _ (net : Net) (form : Items) (g : SeenGroup) (holds : Holds) (c : CanOpen net form g holds) where
   -- the rows around a register of the group are there
   places : (r : ℕ) → Among r (registers_of g) → All (IsBranchOf net) (place_of form (FromReg r))
@@ -133,11 +126,11 @@ module _ (net : Net) (form : Items) (g : SeenGroup) (holds : Holds) (c : CanOpen
         let marked = all_done done (place r) in
         let long : length done ≡ length net.muxes.items = length-all_done none f ∙ length-replicate (length net.muxes.items) false in
         let k : AreDone marked (place r) = now_done net (place r) done marked h long refl in
-        ap (settle_writes net before path none) (flat_append place front (r ∷ (r ∷ rest)))
+        ap (settle_writes net before path none) (flat_map-append place front (r ∷ (r ∷ rest)))
         ∙ settle_writes-append net before path none f (place r ++ (place r ++ more))
         ∙ ap (λ ws. settle_writes net before path none f ++ ws) (settle_writes-append net before path done (place r) (place r ++ more) ∙ ap (λ ws. settle_writes net before path done (place r) ++ ws) (settle_writes-append net before path marked (place r) more ∙ ap (λ ws. ws ++ settle_writes net before path (all_done marked (place r)) more) (none_again net before path (place r) marked k) ∙ ap (λ l. settle_writes net before path l more) (sym (done_again (place r) marked k))) ∙ sym (settle_writes-append net before path done (place r) more))
         ∙ sym (settle_writes-append net before path none f (place r ++ more))
-        ∙ sym (ap (settle_writes net before path none) (flat_append place front (r ∷ rest)))
+        ∙ sym (ap (settle_writes net before path none) (flat_map-append place front (r ∷ rest)))
 
     pub same_writes : (regs : List ℕ) → regs ≡ add_registers [] (registers_of g) → settle_writes net before path none (flat_map place regs) ≡ settle_writes net before path none (needs form g)
     same_writes regs e =

@@ -31,10 +31,8 @@ use Rattle.path_planner.proofs.Apart.{Apart, apart_counts, in_part, part_in, one
 use Rattle.path_planner.proofs.Rows.{in_row, row_in, value_for, Leaves, settle-shape, settle-off, settle-other, settle-takes}
 use Rattle.net_graph.proofs.Writing.{IsHeld, same_bit_id}
 use Rattle.path_planner.proofs.Values.{matches_some, values_at, row_lists, row_found, source_row, row_source, first_agrees, some_agrees, agree_lists, select_there, one_row, value_wide}
-
-pub is_there : {A : Type 0} (o : Option A) → IsSome o → (x : A) × (o ≡ Some x)
-is_there None e = absurd (false≢true e)
-is_there (Some x) e = (x, refl)
+use Rattle.ij_bits.proofs.Lists.{some_of}
+use Rattle.net_graph.proofs.Places.{place_self}
 
 pub there_is : {A : Type 0} (o : Option A) (x : A) → o ≡ Some x → IsSome o
 there_is o x e = ap is_some e
@@ -67,9 +65,6 @@ pub record IsNeeded (net : Net) (form : Items) (bs : List Branch) : Type 0 where
   pub outer : (b c : Branch) → Among b bs → Among c (place_of form (FromMux b.mux)) → Among c bs
   pub single : (b c : Branch) → Among b bs → Among c bs → c.mux ≡ b.mux → c ≡ b
 
-place_itself : (c : BitId) → same_place c c ≡ true
-place_itself c = and_from (c.reg == c.reg) (c.pos == c.pos) (eq-eqb c.reg c.reg refl) (eq-eqb c.pos c.pos refl)
-
 pub selects : (c : BitId) (xs : List BitId) → Among c xs → list_any (same_place c) xs ≡ true
 selects c [] a = absurd a
 selects c (x ∷ xs) a =
@@ -91,7 +86,7 @@ any_true f x (y ∷ ys) a e = ⊎_elim (λ q. or_left (f y) (list_any f ys) (ap 
 module _ (net : Net) (form : Items) (n : IsNet net) (d : Describes net form) (w : IsLawful net form) where
   pub once : Apart (select_bits net)
   once =
-      apart_counts same_place place_itself (select_bits net) (λ b a. let (m, l, i) = in_part (λ mux. mux.select.items) b net.muxes.items a in among_all (IsUnshared net) b (selects_of net m) (w m l).unshared i)
+      apart_counts same_place place_self (select_bits net) (λ b a. let (m, l, i) = in_part (λ mux. mux.select.items) b net.muxes.items a in among_all (IsUnshared net) b (selects_of net m) (w m l).unshared i)
 
   select_held : (m : ℕ) (s : BitId) → m < length net.muxes.items → Among s (selects_of net m) → IsHeld (widths net) s
   select_held m s l a = select_there net m s n l a
@@ -123,7 +118,7 @@ module _ (net : Net) (form : Items) (n : IsNet net) (d : Describes net form) (w 
 
   listed_row : (holds : Holds) (m : ℕ) → IsSome (mux_source net holds m) → (q : ℕ) × (row_of net holds m ≡ Some q)
   listed_row holds m s =
-      let (p, e) = is_there (mux_source net holds m) s in
+      let (p, e) = some_of (mux_source net holds m) s in
       source_row 0 (rows_of net m) (select_value net holds m) p e
 
   row_listed : (holds : Holds) (m q : ℕ) → row_of net holds m ≡ Some q → IsSome (mux_source net holds m)
@@ -133,7 +128,7 @@ module _ (net : Net) (form : Items) (n : IsNet net) (d : Describes net form) (w 
 
   pub has_path : (holds : Holds) → IsScannable net holds → (path : List ℕ) × (active net holds ≡ Some path)
   has_path holds s =
-      let p = has_walk net holds form d (λ m l. is_there (mux_source net holds m) (s.rows m l)) in
+      let p = has_walk net holds form d (λ m l. some_of (mux_source net holds m) (s.rows m l)) in
       (p.path, p.traced)
 
   -- where no select bit changes, each mux stays in its row
@@ -149,7 +144,7 @@ module _ (net : Net) (form : Items) (n : IsNet net) (d : Describes net form) (w 
       driven t =
           let (m, l, a) = in_part (λ mux. mux.select.items) b net.muxes.items (selected b (select_bits net) t) in
           let none = among_all (IsUndriven b) inst net.insts.items (among_all (DrivesNone net) b (selects_of net m) (w m l).undriven a) i in
-          let yes = any_true (λ (p : PortIn). list_any (is_bit b) p.bits.items) port inst.ins.items j (any_true (is_bit b) (Bit b inverted) port.bits.items k (place_itself b)) in
+          let yes = any_true (λ (p : PortIn). list_any (is_bit b) p.bits.items) port inst.ins.items j (any_true (is_bit b) (Bit b inverted) port.bits.items k (place_self b)) in
           true≢false (sym yes ∙ none)
 
   same_signal : (s t : Holds) (inst : Inst) (port : PortIn) (sig : Sig) (outs : Outputs) → ((b : BitId) → is_select net b ≡ false → hold_at t b ≡ hold_at s b) → Among inst net.insts.items → Among port inst.ins.items → Among sig port.bits.items → signal outs t sig ≡ signal outs s sig

@@ -1,6 +1,5 @@
 -- The traced path of a net that a form describes is the form's walk, also where muxes off the path have no row.
-use Rattle.std.proofs.Common.{◌≡◌, ℕ, zero, suc, Bool, true, false, List, [], ◌∷◌, ◌+◌, length, Option, Some, None, refl, sym, ap, ◌∙◌}
-use Rattle.std.specs.Prelude.{option_map}
+use Rattle.std.proofs.Common.{◌≡◌, ℕ, zero, suc, Bool, true, false, List, [], ◌∷◌, ◌+◌, length, Option, Some, refl, sym, ap, ◌∙◌}
 use Rattle.std.specs.Option.{option_and_then}
 use Rattle.net_graph.specs.declared.net.Net.{Net}
 use Rattle.net_graph.specs.declared.net.Row.{Row}
@@ -10,20 +9,8 @@ use Rattle.net_graph.specs.Signals.{Holds, some_matches, row_point}
 use Rattle.net_graph.specs.Path.{reg_source, rows_of, select_value, mux_source, trace, active}
 use Rattle.net_tree.specs.Form.{Items, Nothing, RegThen, MuxThen, Rows, NoRow, RowThen, end_of, IsWired, AreWired, Describes}
 use Rattle.net_tree.proofs.Walks.{walk, walk_rows}
-
-pub none_some : {A : Type 0} (x : A) → None ≡ Some x → ⊥
-none_some x e = cc
-
-pub some_same : {A : Type 0} (x y : A) → Some x ≡ Some y → x ≡ y
-some_same x y e = cc
-
-pub map_gives : {A B : Type 0} (f : A → B) (o : Option A) (y : B) → option_map f o ≡ Some y → (x : A) × (o ≡ Some x) × (f x ≡ y)
-map_gives f None y e = absurd (none_some y e)
-map_gives f (Some x) y e = (x, refl, some_same (f x) y e)
-
-pub then_gives : {A B : Type 0} (f : A → Option B) (o : Option A) (y : B) → option_and_then f o ≡ Some y → (x : A) × (o ≡ Some x) × (f x ≡ Some y)
-then_gives f None y e = absurd (none_some y e)
-then_gives f (Some x) y e = (x, refl, e)
+use Rattle.std.proofs.lemmas.Option.{same_Some, none-some}
+use Rattle.ij_bits.proofs.Lists.{map_some, then_some}
 
 module _ (net : Net) (holds : Holds) where
   -- a trace that goes on from a list's source, and the walk of the list
@@ -31,19 +18,19 @@ module _ (net : Net) (holds : Holds) where
   Goes p steps met = (k : ℕ) × (before : List ℕ) × (trace net holds k p ≡ Some before) × (steps before ≡ Some met)
 
   at_reg : (n r : ℕ) (met : List ℕ) → trace net holds n (FromReg r) ≡ Some met → (k : ℕ) × (before : List ℕ) × (trace net holds k (reg_source net r) ≡ Some before) × (r ∷ before ≡ met)
-  at_reg zero r met e = absurd (none_some met e)
+  at_reg zero r met e = absurd (none-some met e)
   at_reg (suc n) r met e =
-      let (rest, f, g) = map_gives (λ rs. r ∷ rs) (trace net holds n (reg_source net r)) met e in
+      let (rest, f, g) = map_some (λ rs. r ∷ rs) (trace net holds n (reg_source net r)) met e in
       (n, rest, f, g)
 
   at_mux : (n m : ℕ) (met : List ℕ) → trace net holds n (FromMux m) ≡ Some met → (k : ℕ) × (q : Point) × (mux_source net holds m ≡ Some q) × (trace net holds k q ≡ Some met)
-  at_mux zero m met e = absurd (none_some met e)
+  at_mux zero m met e = absurd (none-some met e)
   at_mux (suc n) m met e =
-      let (q, f, g) = then_gives (trace net holds n) (mux_source net holds m) met e in
+      let (q, f, g) = then_some (trace net holds n) (mux_source net holds m) met e in
       (n, q, f, g)
 
   pick_goes : (b : Bool) (here there : List ℕ → Option (List ℕ)) (from q p : Point) (next : Option Point) (k : ℕ) (met : List ℕ) → elim b [ true ↦ Some from | false ↦ next ] ≡ Some q → (from ≡ q → Goes p here met) → (next ≡ Some q → Goes p there met) → Goes p (λ before. elim b [ true ↦ here before | false ↦ there before ]) met
-  pick_goes true here there from q p next k met e f g = f (some_same from q e)
+  pick_goes true here there from q p next k met e f g = f (same_Some from q e)
   pick_goes false here there from q p next k met e f g = g e
 
   mutual
@@ -60,15 +47,15 @@ module _ (net : Net) (holds : Holds) where
         (i, first, x, ap (option_and_then (walk net holds rest)) y ∙ s)
 
     rows_go : (rows : Rows) (p : Point) (rs : List Row) (bits : List Bool) (q : Point) (n : ℕ) (met : List ℕ) → AreWired net p rs rows → row_point rs bits ≡ Some q → trace net holds n q ≡ Some met → Goes p (walk_rows net holds bits rs rows) met
-    rows_go NoRow p [] bits q n met w e t = absurd (none_some q e)
+    rows_go NoRow p [] bits q n met w e t = absurd (none-some q e)
     rows_go NoRow p (r ∷ rs) bits q n met w e t = absurd w
     rows_go (RowThen items rest) p [] bits q n met w e t = absurd w
     rows_go (RowThen items rest) p (r ∷ rs) bits q n met w e t =
         pick_goes (some_matches r.values.items bits) (walk net holds items) (walk_rows net holds bits rs rest) r.from q p (row_point rs bits) n met e (λ f. goes items p n met w.1 (ap (trace net holds n) (sym w.0 ∙ f) ∙ t)) (λ f. rows_go rest p rs bits q n met w.2 f t)
 
 at_entry : (net : Net) (holds : Holds) (k : ℕ) (before : List ℕ) → trace net holds k Entry ≡ Some before → before ≡ []
-at_entry net holds zero before e = sym (some_same [] before e)
-at_entry net holds (suc k) before e = sym (some_same [] before e)
+at_entry net holds zero before e = sym (same_Some [] before e)
+at_entry net holds (suc k) before e = sym (same_Some [] before e)
 
 pub path_is_walk : (net : Net) (holds : Holds) (form : Items) (met : List ℕ) → Describes net form → active net holds ≡ Some met → walk net holds form [] ≡ Some met
 path_is_walk net holds form met d e =

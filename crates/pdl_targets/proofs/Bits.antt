@@ -2,7 +2,7 @@
 use Rattle.std.proofs.Common.{◌≡◌, ℕ, zero, suc, ◌+◌, ◌-◌, ◌<◌, Bool, true, false, cond, List, [], ◌∷◌, length, map, get_or, drop, Option, Some, None, refl, sym, ap, ◌∙◌, subst, arith}
 use Rattle.std.specs.Prelude.{◌==◌, ◌&&◌, not, nat_lt, All}
 use Rattle.std.specs.Str.{bytes_eq}
-use Rattle.std.proofs.lemmas.List.Elements.{All-head, All-tail, All-take, All-drop, All-weaker}
+use Rattle.std.proofs.lemmas.List.Elements.{All-head, All-tail, All-take, All-drop, All-weaker, All-nil, All-cons}
 use Rattle.ij_text.specs.declared.Place.{Place}
 use Rattle.ij_text.specs.Options.{or_else}
 use Rattle.net_graph.specs.declared.net.BitId.{BitId}
@@ -24,7 +24,6 @@ use Rattle.pdl_parser.specs.Values.{AValue, ATarget}
 use Rattle.pdl_targets.specs.declared.picks.Picked.{Picked}
 use Rattle.pdl_targets.specs.Targets.{AFault, Found, Is, Fails, found_then, and_more, unless_select, select_written, select_compared, captured_select, same_source, differ, is_inverted, capturing, captured_from, held_if_captured, write_bit, read_bit, written, compared, writes_of, reads_of, named, target_thing, thing_in, thing_of, thing_at, spots_of, has_index, position_of, number_at, fitted}
 use Rattle.pdl_targets.specs.Laws.{OfFound, WriteNoSelect, ReadNoSelect, WritesAreOfTheNetwork, ReadsAreOfTheNetwork}
-use Rattle.pdl_targets.proofs.Apart.{all_nil, all_cons}
 use Rattle.pdl_targets.proofs.Selects.{then_of, writes_select_nothing, reads_select_nothing}
 
 -- ---- values that are found
@@ -47,7 +46,7 @@ found_where P true a fault p = p
 found_where P false a fault p = tt
 
 more_found : {A : Type 0} (P : A → Type 0) (x : Found A) (more : Found (List A)) → OfFound P x → OfFound (All P) more → OfFound (All P) (and_more x more)
-more_found P (Is a) (Is more) p ps = all_cons P a more p ps
+more_found P (Is a) (Is more) p ps = All-cons P a more p ps
 more_found P (Is a) (Fails fault) p ps = tt
 more_found P (Fails fault) more p ps = tt
 
@@ -106,8 +105,8 @@ module _ (net : Net) (well : IsNet net) where
   write_there at (Some p) v h = if_no_select IsThere at (select_written net p.bit) _ h
 
   writes_there : (at : Place) (spots : List Spot) (values : List (Option Bool)) → All (IsSpotOf net) spots → OfFound (All IsThere) (writes_of net at spots values)
-  writes_there at [] values h = all_nil IsThere
-  writes_there at (spot ∷ spots) [] h = all_nil IsThere
+  writes_there at [] values h = All-nil IsThere
+  writes_there at (spot ∷ spots) [] h = All-nil IsThere
   writes_there at (spot ∷ spots) (None ∷ vs) h = writes_there at spots vs (All-tail (IsSpotOf net) spot spots h)
   writes_there at (spot ∷ spots) (Some v ∷ vs) h =
       more_found IsThere (write_bit net at (written spot) v) (writes_of net at spots vs) (write_there at (written spot) v (is_written spot (All-head (IsSpotOf net) spot spots h))) (writes_there at spots vs (All-tail (IsSpotOf net) spot spots h))
@@ -204,8 +203,8 @@ module _ (net : Net) (well : IsNet net) where
     read_there index (Some p) v h = if_no_select IsCaptured at (select_compared net p.bit) _ h
 
     reads_there : (index : ℕ) (spots : List Spot) (values : List (Option Bool)) → All (IsSpotOf net) spots → OfFound (All IsCaptured) (reads_of net at number index spots values)
-    reads_there index [] values h = all_nil IsCaptured
-    reads_there index (spot ∷ spots) [] h = all_nil IsCaptured
+    reads_there index [] values h = All-nil IsCaptured
+    reads_there index (spot ∷ spots) [] h = All-nil IsCaptured
     reads_there index (spot ∷ spots) (None ∷ vs) h = reads_there (index + 1) spots vs (All-tail (IsSpotOf net) spot spots h)
     reads_there index (spot ∷ spots) (Some v ∷ vs) h =
         more_found IsCaptured (read_bit net at number index (compared net spot) v) (reads_of net at number (index + 1) spots vs) (read_there index (compared net spot) v (is_compared spot (All-head (IsSpotOf net) spot spots h)))
@@ -214,8 +213,8 @@ module _ (net : Net) (well : IsNet net) where
   -- ---- both
 
   data_writes : (ws : List WriteBit) → All IsThere ws → WriteNoSelect net ws → All (λ w. IsDataBit net w.bit) ws
-  data_writes [] h free = all_nil (λ w. IsDataBit net w.bit)
-  data_writes (w ∷ ws) h free = all_cons (λ w. IsDataBit net w.bit) w ws (record { there = All-head IsThere w ws h; data_bit = free.0 }) (data_writes ws (All-tail IsThere w ws h) free.1)
+  data_writes [] h free = All-nil (λ w. IsDataBit net w.bit)
+  data_writes (w ∷ ws) h free = All-cons (λ w. IsDataBit net w.bit) w ws (record { there = All-head IsThere w ws h; data_bit = free.0 }) (data_writes ws (All-tail IsThere w ws h) free.1)
 
   readable : (s : Sig) → HasSource s → captured_select net s ≡ None → IsReadable net s
   readable Absent h e = h
@@ -232,10 +231,10 @@ module _ (net : Net) (well : IsNet net) where
   IsData r = IsDataBit net r.bit × IsReadable net (capture_signal net r.bit)
 
   data_reads : (rs : List ReadBit) → All IsCaptured rs → ReadNoSelect net rs → All IsData rs
-  data_reads [] h free = all_nil IsData
+  data_reads [] h free = All-nil IsData
   data_reads (r ∷ rs) h free =
       let here : Captures r.bit = All-head IsCaptured r rs h in
-      all_cons IsData r rs (record { there = here.0; data_bit = free.0.0 }, readable (capture_signal net r.bit) here.1 free.0.1) (data_reads rs (All-tail IsCaptured r rs h) free.1)
+      All-cons IsData r rs (record { there = here.0; data_bit = free.0.0 }, readable (capture_signal net r.bit) here.1 free.0.1) (data_reads rs (All-tail IsCaptured r rs h) free.1)
 
 pub writes_are_of_the_network : WritesAreOfTheNetwork
 writes_are_of_the_network net at node target value well =
@@ -245,7 +244,7 @@ writes_are_of_the_network net at node target value well =
 
 pub reads_are_of_the_network : ReadsAreOfTheNetwork
 reads_are_of_the_network net at node number target None well =
-    then_of (All (IsData net well)) (target_thing at (thing_at net node target.path)) _ (λ t. then_of (All (IsData net well)) (spots_of at t target.range) _ (λ spots. all_nil (IsData net well)))
+    then_of (All (IsData net well)) (target_thing at (thing_at net node target.path)) _ (λ t. then_of (All (IsData net well)) (spots_of at t target.range) _ (λ spots. All-nil (IsData net well)))
 reads_are_of_the_network net at node number target (Some value) well =
     both_found (All (IsCaptured net well)) (ReadNoSelect net) (All (IsData net well)) (data_reads net well) (found_then (named net at node target value) (λ n. reads_of net at number 0 n.spots n.values))
     (then_with (λ n. All (IsSpotOf net) n.spots) (All (IsCaptured net well)) (named net at node target value) _ (named_spots net well at node target value) (λ n h. reads_there net well at number 0 n.spots n.values h))

@@ -2,7 +2,7 @@
 use Rattle.std.proofs.Common.{◌≡◌, ℕ, zero, suc, ◌+◌, ◌<◌, ◌==◌, Bool, true, false, cond, List, [], ◌∷◌, ◌++◌, length, get_or, set, map, drop, Option, Some, None, refl, sym, ap, ◌∙◌, arith}
 use Rattle.std.specs.Prelude.{◌&&◌}
 use Rattle.std.proofs.Math.Seq.{drop-cons}
-use Rattle.std.proofs.lemmas.Bool.{eqb-true, eq-eqb}
+use Rattle.std.proofs.lemmas.Bool.{eqb-true, eq-eqb, and_parts}
 use Rattle.std.proofs.lemmas.List.{get_or-set_same, get_or-set_other, get_or-map, map-set, map-append, length-map}
 use Rattle.ij_bits.specs.Room.{Listed}
 use Rattle.ij_text.specs.Options.{or_else}
@@ -30,11 +30,6 @@ one_behind (d ∷ cs) c s = ap (or_else (picked d s)) (one_behind cs c s) ∙ sy
 
 -- ---- slots
 
-both : (x y : Bool) → (x && y) ≡ true → (x ≡ true) × (y ≡ true)
-both true true e = (refl, refl)
-both true false e = absurd cc
-both false y e = absurd cc
-
 same_slot : (c s : Sig) → same_source c s ≡ true → slot_of c ≡ slot_of s
 same_slot Absent s e = absurd cc
 same_slot Zero s e = absurd cc
@@ -44,15 +39,15 @@ same_slot (Bit b i) Zero e = absurd cc
 same_slot (Bit b i) One e = absurd cc
 same_slot (Bit b i) (Out inst port pos j) e = absurd cc
 same_slot (Bit b i) (Bit c j) e =
-    let t = both (b.reg == c.reg) (b.pos == c.pos) e in
+    let t = and_parts (b.reg == c.reg) (b.pos == c.pos) e in
     ap (λ r. slot r 0 b.pos) (eqb-true b.reg c.reg t.0) ∙ ap (slot c.reg 0) (eqb-true b.pos c.pos t.1)
 same_slot (Out inst port pos i) Absent e = absurd cc
 same_slot (Out inst port pos i) Zero e = absurd cc
 same_slot (Out inst port pos i) One e = absurd cc
 same_slot (Out inst port pos i) (Bit c j) e = absurd cc
 same_slot (Out inst port pos i) (Out other that at j) e =
-    let t = both (inst == other) ((port == that) && (pos == at)) e in
-    let u = both (port == that) (pos == at) t.1 in
+    let t = and_parts (inst == other) ((port == that) && (pos == at)) e in
+    let u = and_parts (port == that) (pos == at) t.1 in
     ap (λ x. slot x port pos) (eqb-true inst other t.0) ∙ ap (λ x. slot other x pos) (eqb-true port that u.0) ∙ ap (slot other that) (eqb-true pos at u.1)
 
 not_picked : (c : Captor) (s : Sig) → (slot_of c.signal ≡ slot_of s → ⊥) → picked c s ≡ None

@@ -1,17 +1,14 @@
 -- A round of an iApply takes each register that it can, in the order of the queue.
 use Rattle.std.proofs.Common.{◌≡◌, ◌⊎◌, inl, inr, ⊎_elim, ◌≤◌, ℕ, zero, suc, ◌==◌, Bool, true, false, cond, List, [], ◌∷◌, ◌++◌, length, refl, sym, ap, ◌∙◌, arith}
 use Rattle.std.specs.Prelude.{All, not, ◌||◌, filter}
-use Rattle.std.proofs.lemmas.Bool.{eqb-true, eq-eqb, or_left, or_right, or_parts}
+use Rattle.std.proofs.lemmas.Bool.{eqb-true, eq-eqb, or_left, or_right, or_parts, or_cases}
 use Rattle.net_graph.specs.Path.{is_in}
 use Rattle.pdl_targets.specs.Rounds.{Places, clash, clashes, round, left_over, rounds_upto}
 use Rattle.pdl_targets.specs.Laws.{times, AreEachOnce, IsInOrder, FirstRoundIsGreedy, RoundsGoOn, RoundsKeepTheOrder}
-use Rattle.pdl_targets.proofs.Apart.{all_nil, all_cons, fewer}
+use Rattle.pdl_targets.proofs.Apart.{fewer}
+use Rattle.std.proofs.lemmas.List.Elements.{All-nil, All-cons}
 
 -- ---- registers in a list
-
-pub either : (a b : Bool) → (a || b) ≡ true → (a ≡ true) ⊎ (b ≡ true)
-either true b e = inl refl
-either false b e = inr e
 
 pub is_first : (q : ℕ) (qs : List ℕ) → is_in (q ∷ qs) q ≡ true
 is_first q qs = or_left (q == q) (is_in qs q) (eq-eqb q q refl)
@@ -74,10 +71,10 @@ module _ (places : Places) where
       by_clash ih false = in_order_behind (left_over places (taken ++ r ∷ []) rs) r rs (ih (taken ++ r ∷ []))
 
   pub all_in_order : (registers : List ℕ) (n : ℕ) (rs : List ℕ) → IsInOrder rs registers → All (λ qs. IsInOrder qs registers) (rounds_upto places n rs)
-  all_in_order registers zero rs h = all_nil (λ qs. IsInOrder qs registers)
-  all_in_order registers (suc n) [] h = all_nil (λ qs. IsInOrder qs registers)
+  all_in_order registers zero rs h = All-nil (λ qs. IsInOrder qs registers)
+  all_in_order registers (suc n) [] h = All-nil (λ qs. IsInOrder qs registers)
   all_in_order registers (suc n) (r ∷ rs) h =
-      all_cons (λ qs. IsInOrder qs registers) (round places [] (r ∷ rs)) (rounds_upto places n (left_over places [] (r ∷ rs)))
+      All-cons (λ qs. IsInOrder qs registers) (round places [] (r ∷ rs)) (rounds_upto places n (left_over places [] (r ∷ rs)))
       (in_order_both (round places [] (r ∷ rs)) (r ∷ rs) registers (round_in_order [] (r ∷ rs)) h)
       (all_in_order registers n (left_over places [] (r ∷ rs)) (in_order_both (left_over places [] (r ∷ rs)) (r ∷ rs) registers (left_in_order [] (r ∷ rs)) h))
 
@@ -94,10 +91,10 @@ module _ (places : Places) where
   with_another f front taken q w = (w.0, is_behind f front w.0 w.1, is_behind f taken w.0 w.2, w.3)
 
   clashes_last : (taken : List ℕ) (f q : ℕ) → clashes places (taken ++ f ∷ []) q ≡ true → (clashes places taken q ≡ true) ⊎ (clash places f q ≡ true)
-  clashes_last [] f q e = ⊎_elim (λ h. inr h) (λ h. absurd cc) (either (clash places f q) false e)
+  clashes_last [] f q e = ⊎_elim (λ h. inr h) (λ h. absurd cc) (or_cases (clash places f q) false e)
   clashes_last (t ∷ ts) f q e =
       ⊎_elim (λ h. inl (or_left (clash places t q) (clashes places ts q) h)) (λ h. ⊎_elim (λ k. inl (or_right (clash places t q) (clashes places ts q) k)) (λ k. inr k) (clashes_last ts f q h))
-      (either (clash places t q) (clashes places (ts ++ f ∷ []) q) e)
+      (or_cases (clash places t q) (clashes places (ts ++ f ∷ []) q) e)
 
   waits : (front taken back : List ℕ) (q : ℕ) → is_in (round places taken (front ++ q ∷ back)) q ≡ false → (clashes places taken q ≡ true) ⊎ Waits front (round places taken (front ++ q ∷ back)) q
   waits [] taken back q h = by_clash (clashes places taken q) refl h

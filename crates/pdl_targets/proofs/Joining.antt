@@ -9,19 +9,11 @@ use Rattle.net_graph.specs.declared.branch.Branch.{Branch}
 use Rattle.pdl_targets.specs.Rounds.{Places, clashes, exclude}
 use Rattle.pdl_targets.specs.Insertion.{AreExcluded, put_at, put_in}
 use Rattle.pdl_targets.specs.SeenRounds.{seen_rounds}
-use Rattle.pdl_targets.proofs.Together.{any_same, any_swapped}
-
-or_back : (a b : Bool) → (a || b) ≡ (b || a)
-or_back true true = refl
-or_back true false = refl
-or_back false true = refl
-or_back false false = refl
+use Rattle.pdl_targets.proofs.Together.{any_swapped}
+use Rattle.std.proofs.Math.Bool.{or_comm}
+use Rattle.ij_bits.proofs.Lists.{any_flat, any_same}
 
 -- ---- the first round that a register can join
-
-any_flat : {X Y : Type 0} (f : Y → Bool) (g : X → List Y) (xs : List X) → list_any f (flat_map g xs) ≡ list_any (λ x. list_any f (g x)) xs
-any_flat f g [] = refl
-any_flat f g (x ∷ xs) = list_any-append f (g x) (flat_map g xs) ∙ ap (λ b. list_any f (g x) || b) (any_flat f g xs)
 
 module _ (places : Places) where
   -- a register clashes with a round that excludes one of the rows around it
@@ -82,7 +74,7 @@ module _ (places : Places) where
       → ((t && list_any (λ a. exclude a b) (places r)) || list_any (λ a. exclude a b) (flat_map places rs)) ≡ list_any (λ a. exclude a b) (flat_map places (cond t (rs ++ r ∷ []) rs))
   one_round rs r b false = refl
   one_round rs r b true =
-      or_back (list_any (λ a. exclude a b) (places r)) (list_any (λ a. exclude a b) (flat_map places rs))
+      or_comm (list_any (λ a. exclude a b) (places r)) (list_any (λ a. exclude a b) (flat_map places rs))
       ∙ sym (list_any-append (λ a. exclude a b) (flat_map places rs) (places r))
       ∙ ap (λ l. list_any (λ a. exclude a b) l) (sym (flat_more rs r))
 

@@ -12,9 +12,9 @@ use Rattle.pdl_targets.specs.Targets.{Found, Is, Fails, write_bits, read_bits}
 use Rattle.pdl_targets.specs.Rounds.{Places, groups}
 use Rattle.pdl_targets.specs.Binding.{Queue, empty, Answer, Bound, with_step, applied, run_of, run, run_value, feed, bound_from, bound}
 use Rattle.pdl_targets.specs.Laws.{OfFound, rounds_of, cycles_of, rounds_in, cycles_in, RoundsAreFew, CyclesAreFew, RunsAreShort}
-use Rattle.pdl_targets.proofs.Apart.{all_nil, all_cons}
 use Rattle.pdl_targets.proofs.Selects.{then_of}
 use Rattle.pdl_targets.proofs.Procedures.{unless_found, rounds_applied}
+use Rattle.std.proofs.lemmas.List.Elements.{All-nil, All-cons}
 
 -- a queue within the limits
 abbrev IsLimited : Queue → Type 0
@@ -87,16 +87,16 @@ module _ (net : Net) (places : Places) where
     where
       by_step : (o : Option SeenStep) → a.queue.rounds ≡ q.rounds + length (rounds_of o) → a.queue.cycles ≡ q.cycles + cycles_of o → cycles_of o ≤ 1000000 → Few q (with_step o b)
       by_step None e f g = (omega (arith, e, k.0), omega (arith, f, k.1), k.2)
-      by_step (Some s) e f g = (omega (arith, e, k.0), omega (arith, f, k.1), all_cons (λ s. cycles_of (Some s) ≤ 1000000) s b.steps g k.2)
+      by_step (Some s) e f g = (omega (arith, e, k.0), omega (arith, f, k.1), All-cons (λ s. cycles_of (Some s) ≤ 1000000) s b.steps g k.2)
 
   all_few : (steps : List AStep) (q : Queue) → IsLimited q → Few q (bound_from net places q steps)
-  all_few [] q h = (omega (arith, h.0), omega (arith, h.1), all_nil (λ s. cycles_of (Some s) ≤ 1000000))
+  all_few [] q h = (omega (arith, h.0), omega (arith, h.1), All-nil (λ s. cycles_of (Some s) ≤ 1000000))
   all_few (s ∷ ss) q h = by_answer (λ p k. all_few ss p k) (feed net places q s) (after s.at s.node q h s.what)
     where
       by_answer : ((p : Queue) → IsLimited p → Few p (bound_from net places p ss)) → (x : Found Answer) → OfFound (Counts q) x
           → Few q (elim x as (λ x. Bound) [ Is answer ↦ with_step answer.step (bound_from net places answer.queue ss) | Fails fault ↦ record { steps = []; fault = Some fault } ])
       by_answer ih (Is answer) k = with_few q answer (bound_from net places answer.queue ss) k (ih answer.queue k.0)
-      by_answer ih (Fails fault) k = (omega (arith, h.0), omega (arith, h.1), all_nil (λ s. cycles_of (Some s) ≤ 1000000))
+      by_answer ih (Fails fault) k = (omega (arith, h.0), omega (arith, h.1), All-nil (λ s. cycles_of (Some s) ≤ 1000000))
 
 pub rounds_are_few : RoundsAreFew
 unfolding bound

@@ -4,6 +4,7 @@ use Rattle.std.specs.Prelude.{◌==◌, ◌||◌}
 use Rattle.std.proofs.lemmas.Bool.{eqb-true}
 use Rattle.net_graph.specs.Path.{is_in}
 use Rattle.pdl_targets.specs.Laws.{times, MentionsAreOnce, EachIsMentioned}
+use Rattle.std.proofs.Math.Bool.{or_assoc}
 
 pub none_in : (rs : List ℕ) (r : ℕ) → is_in rs r ≡ false → times rs r ≡ 0
 none_in [] r e = refl
@@ -39,17 +40,13 @@ pub mentions_are_once : MentionsAreOnce
 mentions_are_once registers [] r few = few
 mentions_are_once registers (q ∷ qs) r few = mentions_are_once (cond (is_in registers q) registers (registers ++ q ∷ [])) qs r (one_more registers q r few)
 
-pub or_more : (a b c : Bool) → ((a || b) || c) ≡ (a || (b || c))
-or_more true b c = refl
-or_more false b c = refl
-
 pub is_in_last : (rs : List ℕ) (q r : ℕ) → is_in (rs ++ q ∷ []) r ≡ (is_in rs r || (q == r))
 is_in_last [] q r = by_test (q == r)
   where
     by_test : (t : Bool) → (t || false) ≡ t
     by_test true = refl
     by_test false = refl
-is_in_last (p ∷ ps) q r = ap (λ t. (p == r) || t) (is_in_last ps q r) ∙ sym (or_more (p == r) (is_in ps r) (q == r))
+is_in_last (p ∷ ps) q r = ap (λ t. (p == r) || t) (is_in_last ps q r) ∙ sym (or_assoc (p == r) (is_in ps r) (q == r))
 
 with_it : (registers : List ℕ) (q r : ℕ) → is_in (cond (is_in registers q) registers (registers ++ q ∷ [])) r ≡ (is_in registers r || (q == r))
 with_it registers q r = by_test (is_in registers q) refl
@@ -75,4 +72,4 @@ each_is_mentioned registers [] r = or_none (is_in registers r)
 each_is_mentioned registers (q ∷ qs) r =
     each_is_mentioned (cond (is_in registers q) registers (registers ++ q ∷ [])) qs r
     ∙ ap (λ t. t || is_in qs r) (with_it registers q r)
-    ∙ or_more (is_in registers r) (q == r) (is_in qs r)
+    ∙ or_assoc (is_in registers r) (q == r) (is_in qs r)

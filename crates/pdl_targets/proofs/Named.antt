@@ -2,7 +2,7 @@
 use Rattle.std.proofs.Common.{◌≡◌, ℕ, zero, suc, ◌<◌, ◌==◌, Bool, true, false, cond, List, [], ◌∷◌, length, get_or, map, Some, refl, sym, ap, ◌∙◌, arith}
 use Rattle.std.specs.Prelude.{◌&&◌}
 use Rattle.std.specs.Str.{bytes_eq}
-use Rattle.std.proofs.lemmas.Bool.{eqb-true}
+use Rattle.std.proofs.lemmas.Bool.{eqb-true, and_parts}
 use Rattle.std.proofs.lemmas.List.{get_or-map, length-map}
 use Rattle.std.proofs.lemmas.Slice.Eq.{bytes_eq-Decides}
 use Rattle.ij_bits.specs.Different.{AreDifferent}
@@ -18,14 +18,9 @@ key_of t = (t.node, t.name.items)
 abbrev pub is_it : ℕ → List ℕ → Thing → Bool
 is_it node name t = (t.node == node) && bytes_eq t.name.items name
 
-both : (a b : Bool) → (a && b) ≡ true → (a ≡ true) × (b ≡ true)
-both true true e = (refl, refl)
-both true false e = absurd cc
-both false b e = absurd cc
-
 key_is : (node : ℕ) (name : List ℕ) (t : Thing) → is_it node name t ≡ true → key_of t ≡ (node, name)
 key_is node name t e =
-    let parts = both (t.node == node) (bytes_eq t.name.items name) e in
+    let parts = and_parts (t.node == node) (bytes_eq t.name.items name) e in
     let with_node : key_of t ≡ (node, t.name.items) = ap (λ (n : ℕ). (n, t.name.items)) (eqb-true t.node node parts.0) in
     with_node ∙ ap (λ (n : List ℕ). (node, n)) ((bytes_eq-Decides t.name.items name).0 parts.1)
 

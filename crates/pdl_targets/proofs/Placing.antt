@@ -8,32 +8,23 @@ use Rattle.net_graph.specs.declared.step.ReadBit.{ReadBit}
 use Rattle.net_graph.specs.declared.step.Group.{Group}
 use Rattle.net_graph.specs.SeenSteps.{SeenGroup, seen_group}
 use Rattle.net_graph.specs.Path.{is_in}
-use Rattle.pdl_targets.specs.Laws.{times, times_in_all}
+use Rattle.pdl_targets.specs.Laws.{times_in_all}
 use Rattle.pdl_targets.specs.Rounds.{part_on}
 use Rattle.pdl_targets.specs.SeenRounds.{AreOnceInAll, IsRoundOf, TakesRead, TakesWrite, is_in_any, seen_groups, with_read, with_write}
 use Rattle.pdl_targets.proofs.Parted.{some_in}
+use Rattle.std.proofs.lemmas.Bool.{or_parts}
+use Rattle.pdl_targets.proofs.Greedy.{not_in}
 
 -- ---- a register that is in one round is in no other
 
-isnt_in : (rs : List ℕ) (r : ℕ) → times rs r ≡ 0 → is_in rs r ≡ false
-isnt_in rs r none = by_test (is_in rs r) refl
-  where
-    by_test : (t : Bool) → is_in rs r ≡ t → t ≡ false
-    by_test true e = let some = some_in rs r e in absurd (omega (arith, some, none))
-    by_test false e = refl
-
 in_none : (rss : List (List ℕ)) (r : ℕ) → times_in_all rss r ≡ 0 → is_in_any rss r ≡ false
 in_none [] r none = refl
-in_none (rs ∷ rss) r none = ap (λ t. t || is_in_any rss r) (isnt_in rs r (omega (arith, none))) ∙ in_none rss r (omega (arith, none))
+in_none (rs ∷ rss) r none = ap (λ t. t || is_in_any rss r) (not_in rs r (omega (arith, none))) ∙ in_none rss r (omega (arith, none))
 
 in_some : (rss : List (List ℕ)) (k r : ℕ) → k < length rss → is_in (get_or rss k []) r ≡ true → 1 ≤ times_in_all rss r
 in_some [] k r l e = absurd (omega (arith, l))
 in_some (rs ∷ rss) zero r l e = let some = some_in rs r e in omega (arith, some)
 in_some (rs ∷ rss) (suc k) r l e = let some = in_some rss k r (omega (arith, l)) e in omega (arith, some)
-
-neither : (s t : Bool) → (s || t) ≡ false → (s ≡ false) × (t ≡ false)
-neither true t e = absurd cc
-neither false t e = (refl, e)
 
 -- ---- the parts of a queue with one item more
 
@@ -42,7 +33,7 @@ module _ (before after : List ℕ → SeenGroup) (r : ℕ) (same : (rs : List �
   pub in_no_round : (rss : List (List ℕ)) → is_in_any rss r ≡ false → map before rss ≡ map after rss
   in_no_round [] e = refl
   in_no_round (rs ∷ rss) e =
-      let no = neither (is_in rs r) (is_in_any rss r) e in
+      let no = or_parts (is_in rs r) (is_in_any rss r) e in
       ap (λ g. g ∷ map before rss) (same rs no.0) ∙ ap (λ gs. after rs ∷ gs) (in_no_round rss no.1)
 
   module _ (put : List SeenGroup → ℕ → List SeenGroup) (here : (rs : List ℕ) (gs : List SeenGroup) → is_in rs r ≡ true → put (before rs ∷ gs) 0 ≡ after rs ∷ gs)
@@ -55,7 +46,7 @@ module _ (before after : List ℕ → SeenGroup) (r : ℕ) (same : (rs : List �
     in_one_round (rs ∷ rss) (suc k) once l e =
         let some = in_some rss k r (omega (arith, l)) e in
         there (before rs) (map before rss) k
-        ∙ ap (λ g. g ∷ put (map before rss) k) (same rs (isnt_in rs r (omega (arith, once, some))))
+        ∙ ap (λ g. g ∷ put (map before rss) k) (same rs (not_in rs r (omega (arith, once, some))))
         ∙ ap (λ gs. after rs ∷ gs) (in_one_round rss k (omega (arith, once)) (omega (arith, l)) e)
 
 -- what a filter takes of one item more

@@ -2,7 +2,7 @@
 use Rattle.std.proofs.Common.{◌≡◌, ap, ◌∙◌, ◌≤◌, ℕ, ◌+◌, ◌==◌, Bool, true, false, cond, List, [], ◌∷◌, length, refl, arith}
 use Rattle.std.specs.Prelude.{All, filter, flat_map, nat_lt, Option, Some, None}
 use Rattle.std.proofs.lemmas.Bool.{ltb-false}
-use Rattle.std.proofs.lemmas.List.Elements.{All-map, All-filter, All-weaker}
+use Rattle.std.proofs.lemmas.List.Elements.{All-map, All-filter, All-weaker, All-nil, All-cons}
 use Rattle.ij_text.specs.declared.Place.{Place}
 use Rattle.ij_text.specs.Numbers.{InDecimal, InBits}
 use Rattle.net_graph.specs.declared.net.Net.{Net}
@@ -19,7 +19,6 @@ use Rattle.pdl_targets.specs.Targets.{AFault, Found, Is, Fails, write_bits, read
 use Rattle.pdl_targets.specs.Rounds.{Places, rounds, part_on, groups}
 use Rattle.pdl_targets.specs.Binding.{Queue, empty, Answer, Bound, with_step, applied, run_of, run, run_value, feed, bound_from, bound}
 use Rattle.pdl_targets.specs.Laws.{OfFound, rounds_of, DoesTheQueue, AppliesDoTheQueue, IsQueue, QueueBegins, QueueGoesOn, IsForOnePath, HasPaths, AppliesHavePaths, StepsAreOfTheNetwork}
-use Rattle.pdl_targets.proofs.Apart.{all_nil, all_cons}
 use Rattle.pdl_targets.proofs.Lasting.{stay_once}
 use Rattle.pdl_targets.proofs.LastingReads.{reads_stay_once}
 use Rattle.pdl_targets.proofs.Parted.{have_each_write, have_each_read}
@@ -107,7 +106,7 @@ module _ (net : Net) (places : Places) (N : Type 0) (given : N → IsNet net) wh
       (λ rs k. (((with_reads_named q.writes q.reads q.registers h.0.0 rs, h.0.1, reads_stay_once q.reads rs h.0.2), λ well. ((h.1 well).0, puts_all_reads IsData q.reads rs (h.1 well).1 (k well))), tt))
   after at node q h Applies =
       unless_found GoodAnswer (nat_lt 4096 (q.rounds + length (groups places q.writes q.reads q.registers))) _ _
-      (λ e. (((none_named, tt, tt), λ well. (all_nil (λ w. IsDataBit net w.bit), all_nil IsData)), good_apply (groups places q.writes q.reads q.registers) (of_groups q h) (λ well. net_groups q h.0 (h.1 well))))
+      (λ e. (((none_named, tt, tt), λ well. (All-nil (λ w. IsDataBit net w.bit), All-nil IsData)), good_apply (groups places q.writes q.reads q.registers) (of_groups q h) (λ well. net_groups q h.0 (h.1 well))))
   after at node q h (Runs value) = run_values at q h value
   after at node q h Resets = (h, (tt, λ well. tt))
   after at node q h BeginsMerge = (h, tt)
@@ -121,19 +120,19 @@ module _ (net : Net) (places : Places) (N : Type 0) (given : N → IsNet net) wh
 
   with_all : (o : Option SeenStep) (b : Bound) → OfOption GoodStep o → All GoodStep b.steps → All GoodStep (with_step o b).steps
   with_all None b h k = k
-  with_all (Some s) b h k = all_cons GoodStep s b.steps h k
+  with_all (Some s) b h k = All-cons GoodStep s b.steps h k
 
   all_good : (steps : List AStep) (q : Queue) → Good q → All GoodStep (bound_from net places q steps).steps
-  all_good [] q h = all_nil GoodStep
+  all_good [] q h = All-nil GoodStep
   all_good (s ∷ ss) q h = by_answer (λ p k. all_good ss p k) (feed net places q s) (after_step q h s)
     where
       by_answer : ((p : Queue) → Good p → All GoodStep (bound_from net places p ss).steps) → (x : Found Answer) → OfFound GoodAnswer x
           → All GoodStep (elim x as (λ x. Bound) [ Is answer ↦ with_step answer.step (bound_from net places answer.queue ss) | Fails fault ↦ record { steps = []; fault = Some fault } ]).steps
       by_answer ih (Is answer) k = with_all answer.step (bound_from net places answer.queue ss) k.1 (ih answer.queue k.0)
-      by_answer ih (Fails fault) k = all_nil GoodStep
+      by_answer ih (Fails fault) k = All-nil GoodStep
 
   begins : Good empty
-  begins = ((none_named, tt, tt), λ well. (all_nil (λ w. IsDataBit net w.bit), all_nil IsData))
+  begins = ((none_named, tt, tt), λ well. (All-nil (λ w. IsDataBit net w.bit), All-nil IsData))
 
 pub queue_begins : QueueBegins
 queue_begins = (none_named, tt, tt)

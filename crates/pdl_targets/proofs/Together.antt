@@ -1,8 +1,8 @@
 -- The groups of an iApply: their registers don't clash, and none is empty.
 use Rattle.std.proofs.Common.{◌≡◌, ◌≢◌, ⊎_elim, ℕ, zero, suc, Bool, true, false, cond, List, [], ◌∷◌, ◌++◌, length, map, refl, sym, ap, ◌∙◌, subst, arith}
-use Rattle.std.specs.Prelude.{◌==◌, ◌||◌, ◌&&◌, not, All, Contains, filter, flat_map}
+use Rattle.std.specs.Prelude.{◌==◌, ◌||◌, ◌&&◌, not, Contains, filter, flat_map}
 use Rattle.std.specs.List.{list_any}
-use Rattle.std.proofs.lemmas.Bool.{eqb-true, eq-eqb, or_left, or_right, or_parts, cases_Bool}
+use Rattle.std.proofs.lemmas.Bool.{eqb-true, eq-eqb, or_left, or_right, or_parts, cases_Bool, or_cases}
 use Rattle.std.proofs.lemmas.List.Elements.{All-append, All-map, All-weaker, All-contains, filter_passes, Contains-append_cases}
 use Rattle.net_graph.specs.declared.branch.Branch.{Branch}
 use Rattle.net_graph.specs.declared.step.WriteBit.{WriteBit}
@@ -12,49 +12,28 @@ use Rattle.net_graph.specs.SeenSteps.{SeenGroup}
 use Rattle.net_graph.specs.Path.{is_in}
 use Rattle.pdl_targets.specs.Rounds.{Places, exclude, clash, clashes, rounds, part_on}
 use Rattle.pdl_targets.specs.Laws.{AreApart, IsInOrder, AreItsRegisters, AreTogether, HaveOneRow, GroupsAreTogether, GroupsNeedOneRow, NoGroupIsEmpty}
-use Rattle.pdl_targets.proofs.Apart.{all_nil, all_cons, have_registers, are_apart}
+use Rattle.pdl_targets.proofs.Apart.{have_registers, are_apart}
 use Rattle.pdl_targets.proofs.Mentioned.{is_in_last}
-use Rattle.pdl_targets.proofs.Greedy.{either, is_behind, keep_the_order}
+use Rattle.pdl_targets.proofs.Greedy.{is_behind, keep_the_order}
+use Rattle.ij_bits.proofs.Tests.{or_four, number_turned}
+use Rattle.ij_bits.proofs.Lists.{any_same, any_false}
 
 -- ---- clashes, either way
 
-same_number : (a b : ℕ) → (a == b) ≡ (b == a)
-same_number a b = by_tests (a == b) (b == a) refl refl
-  where
-    by_tests : (t u : Bool) → (a == b) ≡ t → (b == a) ≡ u → t ≡ u
-    by_tests true true e f = refl
-    by_tests true false e f = let on = eq-eqb b a (sym (eqb-true a b e)) in absurd cc
-    by_tests false true e f = let on = eq-eqb a b (sym (eqb-true b a f)) in absurd cc
-    by_tests false false e f = refl
-
 exclude_back : (a b : Branch) → exclude a b ≡ exclude b a
-exclude_back a b = ap (λ t. t && not (a.row == b.row)) (same_number a.mux b.mux) ∙ ap (λ t. (b.mux == a.mux) && not t) (same_number a.row b.row)
-
-four : (a b c d : Bool) → ((a || b) || (c || d)) ≡ ((a || c) || (b || d))
-four true b c d = refl
-four false true true d = refl
-four false true false d = refl
-four false false c d = refl
+exclude_back a b = ap (λ t. t && not (a.row == b.row)) (number_turned a.mux b.mux) ∙ ap (λ t. (b.mux == a.mux) && not t) (number_turned a.row b.row)
 
 any_or : {X : Type 0} (f g : X → Bool) (xs : List X) → list_any (λ x. f x || g x) xs ≡ (list_any f xs || list_any g xs)
 any_or f g [] = refl
-any_or f g (x ∷ xs) = ap (λ t. (f x || g x) || t) (any_or f g xs) ∙ four (f x) (g x) (list_any f xs) (list_any g xs)
+any_or f g (x ∷ xs) = ap (λ t. (f x || g x) || t) (any_or f g xs) ∙ or_four (f x) (g x) (list_any f xs) (list_any g xs)
 
 any_none : {X : Type 0} (xs : List X) → false ≡ list_any (λ x. false) xs
 any_none [] = refl
 any_none (x ∷ xs) = any_none xs
 
-pub any_same : {X : Type 0} (f g : X → Bool) → ((x : X) → f x ≡ g x) → (xs : List X) → list_any f xs ≡ list_any g xs
-any_same f g h [] = refl
-any_same f g h (x ∷ xs) = ap (λ t. t || list_any f xs) (h x) ∙ ap (λ t. g x || t) (any_same f g h xs)
-
 pub any_swapped : (e : Branch → Branch → Bool) (xs ys : List Branch) → list_any (λ a. list_any (e a) ys) xs ≡ list_any (λ b. list_any (λ a. e a b) xs) ys
 any_swapped e [] ys = any_none ys
 any_swapped e (x ∷ xs) ys = ap (λ t. list_any (e x) ys || t) (any_swapped e xs ys) ∙ sym (any_or (e x) (λ b. list_any (λ a. e a b) xs) ys)
-
-any_false : {X : Type 0} (f : X → Bool) (xs : List X) → list_any f xs ≡ false → All (λ x. f x ≡ false) xs
-any_false f [] e = all_nil (λ x. f x ≡ false)
-any_false f (x ∷ xs) e = let parts = or_parts (f x) (list_any f xs) e in all_cons (λ x. f x ≡ false) x xs parts.0 (any_false f xs parts.1)
 
 module _ (places : Places) where
   pub clash_back : (q r : ℕ) → clash places q r ≡ clash places r q
@@ -68,21 +47,21 @@ module _ (places : Places) where
   no_clash [] r p h i = absurd cc
   no_clash (t ∷ ts) r p h i =
       let parts = or_parts (clash places t r) (clashes places ts r) h in
-      ⊎_elim (λ e. subst (λ n. clash places n r ≡ false) (eqb-true t p e) parts.0) (λ j. no_clash ts r p parts.1 j) (either (t == p) (is_in ts p) i)
+      ⊎_elim (λ e. subst (λ n. clash places n r ≡ false) (eqb-true t p e) parts.0) (λ j. no_clash ts r p parts.1 j) (or_cases (t == p) (is_in ts p) i)
 
   in_front : (front rs : List ℕ) (p r : ℕ) → AreApart places front rs → is_in front p ≡ true → is_in rs r ≡ true → clash places p r ≡ false
   in_front front [] p r h i j = absurd cc
   in_front front (s ∷ ss) p r h i j =
       ⊎_elim (λ e. subst (λ n. clash places p n ≡ false) (eqb-true s r e) (no_clash front s p h.0 i))
       (λ k. in_front (front ++ s ∷ []) ss p r h.1 (is_in_last front s p ∙ or_left (is_in front p) (s == p) i) k)
-      (either (s == r) (is_in ss r) j)
+      (or_cases (s == r) (is_in ss r) j)
 
   two_of : (front rs : List ℕ) (q r : ℕ) → AreApart places front rs → is_in rs q ≡ true → is_in rs r ≡ true → q ≢ r → clash places q r ≡ false
   two_of front [] q r h i j other = absurd cc
   two_of front (s ∷ ss) q r h i j other =
-      ⊎_elim (λ e. ⊎_elim (λ f. absurd (other (sym (eqb-true s q e) ∙ eqb-true s r f))) (λ k. in_front (front ++ s ∷ []) ss q r h.1 (is_in_last front s q ∙ or_right (is_in front q) (s == q) e) k) (either (s == r) (is_in ss r) j))
-      (λ k. ⊎_elim (λ f. clash_back q r ∙ in_front (front ++ s ∷ []) ss r q h.1 (is_in_last front s r ∙ or_right (is_in front r) (s == r) f) k) (λ l. two_of (front ++ s ∷ []) ss q r h.1 k l other) (either (s == r) (is_in ss r) j))
-      (either (s == q) (is_in ss q) i)
+      ⊎_elim (λ e. ⊎_elim (λ f. absurd (other (sym (eqb-true s q e) ∙ eqb-true s r f))) (λ k. in_front (front ++ s ∷ []) ss q r h.1 (is_in_last front s q ∙ or_right (is_in front q) (s == q) e) k) (or_cases (s == r) (is_in ss r) j))
+      (λ k. ⊎_elim (λ f. clash_back q r ∙ in_front (front ++ s ∷ []) ss r q h.1 (is_in_last front s r ∙ or_right (is_in front r) (s == r) f) k) (λ l. two_of (front ++ s ∷ []) ss q r h.1 k l other) (or_cases (s == r) (is_in ss r) j))
+      (or_cases (s == q) (is_in ss q) i)
 
   -- ---- rows
 
@@ -126,7 +105,7 @@ some_left {X = X} reg [] rs r i j e = absurd cc
 some_left {X = X} reg (x ∷ xs) rs r i j e =
     ⊎_elim (λ here. kept (is_in rs (reg x)) (filter (λ x. is_in rs (reg x)) xs) (subst (λ n. is_in rs n ≡ true) (sym (eqb-true (reg x) r here)) j) e)
     (λ there. behind (is_in rs (reg x)) (filter (λ x. is_in rs (reg x)) xs) (some_left reg xs rs r there j) e)
-    (either (reg x == r) (is_in (map reg xs) r) i)
+    (or_cases (reg x == r) (is_in (map reg xs) r) i)
   where
     kept : (t : Bool) (ys : List X) → t ≡ true → cond t (x ∷ ys) ys ≡ [] → ⊥
     kept true ys on f = absurd (omega (arith, ap length f))
@@ -154,7 +133,7 @@ module _ (writes : List WriteBit) (reads : List ReadBit) where
   part_is_some registers (r ∷ rs) h some order e =
       ⊎_elim (λ i. some_left (λ (w : WriteBit). w.bit.reg) writes (r ∷ rs) r i (or_left (r == r) (is_in rs r) (eq-eqb r r refl)) e.0)
       (λ i. some_left (λ (q : ReadBit). q.bit.reg) reads (r ∷ rs) r i (or_left (r == r) (is_in rs r) (eq-eqb r r refl)) e.1)
-      (either (is_in (map (λ (w : WriteBit). w.bit.reg) writes) r) (is_in (map (λ (q : ReadBit). q.bit.reg) reads) r) (sym (h.each r) ∙ first_is_there r rs registers order))
+      (or_cases (is_in (map (λ (w : WriteBit). w.bit.reg) writes) r) (is_in (map (λ (q : ReadBit). q.bit.reg) reads) r) (sym (h.each r) ∙ first_is_there r rs registers order))
 
 pub are_together : GroupsAreTogether
 are_together places writes reads registers =

@@ -1,13 +1,13 @@
 -- The bits of a value, one by one, and the writes and reads of a step.
-use Rattle.std.proofs.Common.{◌≡◌, ℕ, zero, suc, ◌+◌, ◌/◌, ◌<◌, ◌≤◌, Bool, true, false, cond, List, [], ◌∷◌, ◌++◌, length, get_or, drop, Option, Some, None, refl, sym, ap, subst, ◌∙◌, arith}
+use Rattle.std.proofs.Common.{◌≡◌, ℕ, zero, suc, ◌+◌, ◌<◌, ◌≤◌, Bool, true, false, cond, List, [], ◌∷◌, ◌++◌, length, get_or, drop, Option, Some, None, refl, sym, ap, subst, ◌∙◌, arith}
 use Rattle.std.proofs.Math.Seq.{drop-cons}
 use Rattle.ij_bits.specs.declared.tern.Tern.{Tern}
 use Rattle.ij_text.specs.declared.Place.{Place}
 use Rattle.ij_bits.specs.BitLists.{bits_of}
 use Rattle.ij_text.specs.Numbers.{Written, InDecimal, InBits, bits_in, tern_bits}
 use Rattle.ij_text.proofs.Widths.{open_get, read_bit as as_read}
-use Rattle.ij_text.proofs.Numbers.{open_length}
-use Rattle.std.proofs.lemmas.List.{length-map}
+use Rattle.ij_text.proofs.Numbers.{tern_length}
+use Rattle.std.proofs.lemmas.List.{length-map, append-nil}
 use Rattle.std.proofs.lemmas.List.FromFn.{length-map-range_with_len}
 use Rattle.net_graph.specs.declared.net.Net.{Net}
 use Rattle.net_graph.specs.declared.net.Spot.{Spot}
@@ -19,13 +19,11 @@ use Rattle.pdl_targets.specs.declared.fault.TargetFault.{TargetFault}
 use Rattle.pdl_targets.specs.Seen.{Refuses}
 use Rattle.pdl_targets.specs.Targets.{Found, Is, Fails, IsValueWide, compared, fitted, found_then, is_wide, one_read, one_write, or_skip, read_bit, reads_of, write_bit, writes_of, written}
 use Rattle.pdl_targets.proofs.Finding.{behind, behind_more, refused_as, refused_more}
+use Rattle.ij_bits.proofs.WordBits.{length-bits_of}
 
 pub value_read : (t : Tern) (i : ℕ) (result : Option Bool) → i < length t.value.items → (get_or t.care.items i false ≡ true → result ≡ Some (get_or t.value.items i false)) → (get_or t.care.items i false ≡ false → result ≡ None)
     → result ≡ get_or (tern_bits t) i (Some false)
 value_read t i result h counts free = as_read result (get_or t.value.items i false) (get_or t.care.items i false) counts free ∙ sym (open_get t.value.items t.care.items i t.same_length h)
-
-pub as_many : (t : Tern) → length (tern_bits t) ≡ length t.value.items
-as_many t = open_length t.value.items t.care.items t.same_length
 
 -- any bit
 abbrev pub first_spot : Spot
@@ -46,10 +44,6 @@ nothing_left [] zero h = refl
 nothing_left [] (suc i) h = refl
 nothing_left (x ∷ xs) zero h = absurd (omega (arith, h))
 nothing_left (x ∷ xs) (suc i) h = nothing_left xs i (omega (arith, h))
-
-none_more : {A : Type 0} (xs : List A) → xs ++ [] ≡ xs
-none_more [] = refl
-none_more (x ∷ xs) = ap (λ l. x ∷ l) (none_more xs)
 
 -- a bit of a target with the value for it
 pub record Pair (spots : List Spot) (values : List (Option Bool)) (i : ℕ) (spot : Spot) (v : Option Bool) : Type 0 where
@@ -84,7 +78,7 @@ module _ (net : Net) (at : Place) (spots : List Spot) (values : List (Option Boo
 
   pub all_written : (i : ℕ) (ws : List WriteBit) (all : Found (List WriteBit)) → length spots ≤ i → behind ws (writes_of net at (drop i spots) (drop i values)) ≡ all → all ≡ Is ws
   all_written i ws all h e =
-      sym e ∙ ap (λ l. behind ws (writes_of net at l (drop i values))) (nothing_left spots i h) ∙ ap Is (none_more ws)
+      sym e ∙ ap (λ l. behind ws (writes_of net at l (drop i values))) (nothing_left spots i h) ∙ ap Is (append-nil ws)
 
 module _ (net : Net) (at : Place) (number : ℕ) (spots : List Spot) (values : List (Option Bool)) where
   reads_next : (i : ℕ) (spot : Spot) (v : Option Bool) → Pair spots values i spot v → reads_of net at number i (drop i spots) (drop i values) ≡ or_skip (one_read net at number i spot v) (reads_of net at number (i + 1) (drop (i + 1) spots) (drop (i + 1) values))
@@ -112,16 +106,12 @@ module _ (net : Net) (at : Place) (number : ℕ) (spots : List Spot) (values : L
 
   pub all_read : (i : ℕ) (rs : List ReadBit) (all : Found (List ReadBit)) → length spots ≤ i → behind rs (reads_of net at number i (drop i spots) (drop i values)) ≡ all → all ≡ Is rs
   all_read i rs all h e =
-      sym e ∙ ap (λ l. behind rs (reads_of net at number i l (drop i values))) (nothing_left spots i h) ∙ ap Is (none_more rs)
+      sym e ∙ ap (λ l. behind rs (reads_of net at number i l (drop i values))) (nothing_left spots i h) ∙ ap Is (append-nil rs)
 
 -- ---- the width of a value
 
-bits_length : (width n : ℕ) → length (bits_of width n) ≡ width
-bits_length zero n = refl
-bits_length (suc width) n = ap suc (bits_length width (n / 2))
-
 in_length : (width : ℕ) (w : Written) → length (bits_in width w) ≡ width
-in_length width (InDecimal n) = length-map (bits_of width n) (λ bit. Some bit) ∙ bits_length width n
+in_length width (InDecimal n) = length-map (bits_of width n) (λ bit. Some bit) ∙ length-bits_of width n
 in_length width (InBits bits) = length-map-range_with_len (λ k. get_or bits k (Some false)) 0 width
 
 abbrev HasWidth : ℕ → Found (List (Option Bool)) → Type 0
@@ -140,4 +130,4 @@ then_width at width (Is w) = fitted_width at width w
 then_width at width (Fails fault) = tt
 
 pub value_width : (at : Place) (width : ℕ) (x : Found Written) (t : Tern) → found_then x (fitted at width) ≡ Is (tern_bits t) → length t.value.items ≡ width
-value_width at width x t e = sym (as_many t) ∙ subst (HasWidth width) e (then_width at width x)
+value_width at width x t e = sym (tern_length t) ∙ subst (HasWidth width) e (then_width at width x)

@@ -1,16 +1,9 @@
 -- Lists that are walked from the front, item by item.
-use Rattle.std.proofs.Common.{◌≡◌, ℕ, suc, ◌+◌, ◌-◌, ◌<◌, ◌≤◌, Bool, true, false, cond, List, [], ◌∷◌, ◌++◌, length, take, drop, get_or, map, refl, sym, ap, ◌∙◌, append_assoc, arith}
-use Rattle.std.proofs.Math.Seq.{drop-cons}
+use Rattle.std.proofs.Common.{◌≡◌, ℕ, suc, ◌+◌, ◌-◌, ◌≤◌, Bool, true, false, cond, List, [], ◌∷◌, ◌++◌, length, take, get_or, map, refl, sym, ap, ◌∙◌, append_assoc, arith}
 use Rattle.std.specs.Prelude.{filter}
 use Rattle.ij_bits.specs.Room.{Listed}
 use Rattle.pdl_parser.specs.Views.{bytes_of}
 use Rattle.pdl_expand.specs.Expansion.{but_last, last}
-
--- what is left of a list begins with the next item
-pub next : {A : Type 0} (xs : List A) (i : ℕ) (x : A) → i < length xs → x ≡ get_or xs i x → drop i xs ≡ x ∷ drop (i + 1) xs
-next xs i x h is =
-    let e : suc i ≡ i + 1 = omega arith in
-    drop-cons xs i x h ∙ ap (λ y. y ∷ drop (suc i) xs) (sym is) ∙ ap (λ k. x ∷ drop k xs) e
 
 -- an item more, if it passes
 pub passed : {A : Type 0} (p : A → Bool) (part rest all : List A) (x : A) → part ++ filter p (x ∷ rest) ≡ all → p x ≡ true → (part ++ x ∷ []) ++ filter p rest ≡ all

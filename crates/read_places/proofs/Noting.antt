@@ -10,12 +10,12 @@ use Rattle.net_graph.specs.Held.{AreHolds}
 use Rattle.net_graph.specs.Path.{active, path as scan_path, route_of}
 use Rattle.net_graph.specs.Resets.{zero_holds}
 use Rattle.net_graph.specs.Signals.{Holds, bits_at}
-use Rattle.net_graph.proofs.Tracing.{map_some}
 use Rattle.net_graph.proofs.Shapes.{length_at}
 use Rattle.scan_packer.proofs.Filling.{zero_bits}
 use Rattle.read_places.specs.Noting.{place_on}
 use Rattle.read_places.specs.Places.{place_in, scan_places}
 use Rattle.read_places.specs.declared.place.ReadPlace.{ReadPlace}
+use Rattle.ij_bits.proofs.Lists.{map_some}
 
 -- the route of a walk, turned round, is the active path
 pub turned : (net : Net) (holds : Holds) (route : List ℕ) → scan_path net holds ≡ Some route → route_of net holds ≡ reverse route

@@ -12,9 +12,10 @@ use Rattle.net_tree.specs.Form.{Items}
 use Rattle.path_planner.specs.Plans.{ArePlans, Settles}
 use Rattle.group_scans.specs.Scans.{holds_after}
 use Rattle.group_scans.specs.Retargeting.{PlannedGroup, PlannedStep, Applies, Runs, Resets, seen_of, holds_after_rounds, GroupsArePlanned, StepsArePlanned}
-use Rattle.group_scans.proofs.StepKinds.{kind, groups, head_same, no_head}
+use Rattle.group_scans.proofs.StepKinds.{kind, groups, head_same}
 use Rattle.read_places.specs.Laws.{PlacesAreOne}
 use Rattle.read_places.specs.Places.{scan_places, plans_places, rounds_places, steps_places, scans_after_rounds}
+use Rattle.ij_bits.proofs.Lists.{no_head}
 
 module _ (net : Net) (form : Items) (g : SeenGroup) where
   pub record AreSame (h : Holds) (n : ℕ) (ps qs : List SeenGroup) : Type 0 where

@@ -13,12 +13,11 @@ use Rattle.net_graph.specs.declared.net.Net.{Net}
 use Rattle.bench_report.specs.Report.{Names}
 use Rattle.net_graph.specs.declared.step.ReadBit.{ReadBit}
 use Rattle.net_graph.specs.Resets.{start_holds}
-use Rattle.net_graph.specs.SeenSteps.{SeenStep, Apply, Run, Reset}
+use Rattle.net_graph.specs.SeenSteps.{SeenStep}
 use Rattle.net_graph.specs.Signals.{Holds}
 use Rattle.net_tree.specs.Form.{Items}
 use Rattle.pdl_targets.specs.Laws.{rounds_in, round_count}
 use Rattle.group_scans.specs.Retargeting.{PlannedStep, seen_of, holds_after_step}
-use Rattle.group_scans.proofs.StepKinds.{no_head}
 use Rattle.retargeter.specs.Plans.{AreStepsOf}
 use Rattle.read_places.specs.Noting.{NotesStep, ScansStep, HoldsStep}
 use Rattle.read_places.specs.Places.{places, read_at, step_places, steps_places, scans_after_step}
@@ -27,13 +26,10 @@ use Rattle.read_places.specs.declared.place.ReadPlace.{ReadPlace}
 use Rattle.read_places.proofs.Looking.{none_front, none_back}
 use Rattle.read_places.proofs.Planning.{first_of, others_of}
 use Rattle.read_places.proofs.Within.{none_behind, none_before, after_more}
+use Rattle.pdl_targets.proofs.Counted.{rounds_first}
+use Rattle.ij_bits.proofs.Lists.{no_head}
 
 -- ---- how many
-
-pub rounds_first : (step : SeenStep) (later : List SeenStep) → rounds_in (step ∷ later) ≡ round_count step + rounds_in later
-rounds_first (Apply gs) later = refl
-rounds_first (Run n) later = refl
-rounds_first Reset later = refl
 
 module _ (net : Net) (form : Items) where
   -- before the first step

@@ -1,13 +1,12 @@
 -- The reads of steps stand in the scans of these steps.
 use Rattle.std.proofs.Common.{◌≡◌, ◌≢◌, ◌<◌, ◌≤◌, ◌+◌, ℕ, suc, List, [], ◌∷◌, length, None, arith}
 use Rattle.std.specs.Prelude.{All}
-use Rattle.std.proofs.lemmas.List.Elements.{All-nil, All-cons, All-append}
+use Rattle.std.proofs.lemmas.List.Elements.{All-nil, All-cons, All-append, All-weaker}
 use Rattle.net_graph.specs.declared.net.Net.{Net}
 use Rattle.net_graph.specs.declared.step.ReadBit.{ReadBit}
 use Rattle.net_graph.specs.SeenSteps.{SeenGroup}
 use Rattle.net_graph.specs.Signals.{Holds}
 use Rattle.net_graph.specs.Writes.{write_all}
-use Rattle.net_graph.proofs.Routes.{all_with}
 use Rattle.group_scans.specs.Retargeting.{PlannedGroup, PlannedStep, Applies, Runs, Resets, holds_after_step}
 use Rattle.group_scans.specs.Scans.{holds_after}
 use Rattle.read_places.specs.Places.{scan_places, plans_places, rounds_places, step_places, steps_places, scans_after_rounds, scans_after_step, place_in, read_at}
@@ -22,7 +21,7 @@ AreWithin low high ps = All (IsWithin low high) ps
 
 wider : (low high down up : ℕ) (ps : List ReadPlace) → down ≤ low → high ≤ up → AreWithin low high ps → AreWithin down up ps
 wider low high down up ps l h a =
-    all_with (IsWithin low high) (IsWithin down up) (λ p w. let below = w.0 in let above = w.1 in (omega (arith, l, below), omega (arith, h, above))) ps a
+    All-weaker (IsWithin low high) (IsWithin down up) (λ p w. let below = w.0 in let above = w.1 in (omega (arith, l, below), omega (arith, h, above))) ps a
 
 scan_within : (net : Net) (holds : Holds) (scans : ℕ) (rs : List ReadBit) → AreWithin scans (suc scans) (scan_places net holds (suc scans) rs)
 scan_within net holds scans [] = All-nil (IsWithin scans (suc scans))
@@ -70,13 +69,13 @@ steps_above net (x ∷ xs) holds scans =
     let after = scans_after_step scans x in
     let there = steps_places net (holds_after_step net holds x) after xs in
     let more = after_more x scans in
-    All-append (IsAbove scans) here there (all_with (IsWithin scans after) (IsAbove scans) (λ p w. w.0) here (step_within net x holds scans)) (all_with (IsAbove after) (IsAbove scans) (λ p w. omega (arith, w, more)) there (steps_above net xs (holds_after_step net holds x) after))
+    All-append (IsAbove scans) here there (All-weaker (IsWithin scans after) (IsAbove scans) (λ p w. w.0) here (step_within net x holds scans)) (All-weaker (IsAbove after) (IsAbove scans) (λ p w. omega (arith, w, more)) there (steps_above net xs (holds_after_step net holds x) after))
 
 -- a step has no read behind its scans, and no step one in front of them
 pub none_behind : (net : Net) (x : PlannedStep) (holds : Holds) (scans scan bit : ℕ) → scans_after_step scans x < scan → read_at (step_places net holds scans x) scan bit ≡ None
 none_behind net x holds scans scan bit l =
-    none_of (step_places net holds scans x) scan bit (all_with (IsWithin scans (scans_after_step scans x)) (λ p. p.scan ≢ scan) (λ p w e. let above = w.1 in omega (arith, l, above, e)) (step_places net holds scans x) (step_within net x holds scans))
+    none_of (step_places net holds scans x) scan bit (All-weaker (IsWithin scans (scans_after_step scans x)) (λ p. p.scan ≢ scan) (λ p w e. let above = w.1 in omega (arith, l, above, e)) (step_places net holds scans x) (step_within net x holds scans))
 
 pub none_before : (net : Net) (xs : List PlannedStep) (holds : Holds) (scans scan bit : ℕ) → scan ≤ scans → read_at (steps_places net holds scans xs) scan bit ≡ None
 none_before net xs holds scans scan bit l =
-    none_of (steps_places net holds scans xs) scan bit (all_with (IsAbove scans) (λ p. p.scan ≢ scan) (λ p w e. omega (arith, l, w, e)) (steps_places net holds scans xs) (steps_above net xs holds scans))
+    none_of (steps_places net holds scans xs) scan bit (All-weaker (IsAbove scans) (λ p. p.scan ≢ scan) (λ p w e. omega (arith, l, w, e)) (steps_places net holds scans xs) (steps_above net xs holds scans))

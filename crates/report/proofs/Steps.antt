@@ -1,5 +1,5 @@
 -- How a loop's text goes on.
-use Rattle.std.proofs.Common.{◌≡◌, ℕ, suc, ◌*◌, ◌/◌, ◌%◌, ◌^◌, ◌<◌, ◌≤◌, List, [], ◌∷◌, ◌++◌, Option, length, take, drop, ◌-◌, map, ap, sym, ◌∙◌, subst, arith}
+use Rattle.std.proofs.Common.{◌≡◌, ℕ, suc, ◌*◌, ◌/◌, ◌%◌, ◌^◌, ◌<◌, ◌≤◌, List, [], ◌∷◌, ◌++◌, length, take, drop, ◌-◌, map, ap, sym, ◌∙◌, subst, arith}
 use Rattle.std.specs.Prelude.{get_or, codes}
 use Rattle.std.specs.List.{flat_map}
 use Rattle.std.proofs.Math.Seq.{drop-cons}
@@ -7,7 +7,6 @@ use Rattle.std.proofs.lemmas.List.{take_all, length-drop, length-map, get_or-map
 use Rattle.std.proofs.lemmas.List.Elements.{All-get_or}
 use Rattle.std.specs.Prelude.{All}
 use Rattle.ij_bits.specs.Room.{Listed}
-use Rattle.ij_io.specs.Bytes.{Adds, AddsPart}
 use Rattle.instruments.specs.declared.model.WordDef.{WordDef}
 use Rattle.instruments.specs.Models.{IsWord}
 use Rattle.instruments.specs.Seen.{SeenWord, seen_word}
@@ -57,13 +56,6 @@ words_next numbers ws k s d number within there next is =
     ∙ ap (λ (x : SeenWord). word_text x.name x.width (get_or numbers k 0) ++ words_from numbers (suc k) (drop (suc k) ds)) (sym (word_there ws k d within there))
     ∙ ap (λ (x : ℕ). word_text d.name.items d.width x ++ words_from numbers (suc k) (drop (suc k) ds)) (sym is)
     ∙ ap (λ (x : ℕ). word_text d.name.items d.width number ++ words_from numbers x (drop x ds)) (sym next)
-
--- one text for another that is the same
-pub as_part : {old new : Option (List ℕ)} {x y : List ℕ} → x ≡ y → AddsPart old new x → AddsPart old new y
-as_part {old} {new} same part = subst (λ (text : List ℕ). AddsPart old new text) same part
-
-pub as_whole : {old new : Option (List ℕ)} {x y : List ℕ} → x ≡ y → Adds old new x → Adds old new y
-as_whole {old} {new} same whole = subst (λ (text : List ℕ). Adds old new text) same whole
 
 -- names, by their parts
 pub thing_is : (net : Net) (t : ℕ) (names : List (Listed ℕ)) (name : List ℕ) (n : ℕ) → n ≡ get_or (map (λ thing. thing.node) net.things.items) t 0 → names ≡ node_names net n

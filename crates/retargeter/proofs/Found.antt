@@ -22,10 +22,10 @@ use Rattle.path_planner.proofs.Step.{has_path}
 use Rattle.group_scans.specs.Retargeting.{PlannedGroup, PlannedStep, Applies, Runs, Resets, holds_after_rounds, holds_after_step, IsPlannedGroup, GroupsArePlanned, StepsArePlanned, IsRetargetable}
 use Rattle.group_scans.specs.Rounds.{IsPlannable, StepIsPlannable}
 use Rattle.group_scans.specs.Scans.{holds_after}
-use Rattle.path_planner.specs.Plans.{AreScans}
 use Rattle.path_planner.proofs.Plans.{planned}
 use Rattle.path_planner.proofs.Starting.{reset_scannable}
 use Rattle.retargeter.specs.Plans.{AreRoundsOf, IsPlanOf}
+use Rattle.group_scans.proofs.Scanned.{scans_listed}
 
 module _ (net : Net) (form : Items) (g : SeenGroup) where
   -- an opening is made of plans
@@ -37,11 +37,6 @@ module _ (net : Net) (form : Items) (g : SeenGroup) where
       let s : Settles net form g holds p = settles net form g holds c (reverse path) p o.0 (ap (option_map reverse) e) refl refl in
       let (q, ps, a) = plans_of hs (write_all holds p.writes) (can_go_on net form g holds c p s) named (subst (λ k. IsOpening net form g k hs) (o.1 ∙ sym s.settled) o.2) in
       (p, q ∷ ps, (s, a))
-
--- more scans can follow those of plans
-pub scans_listed : (net : Net) (ps : List SeenGroup) (holds : Holds) → AreScans net holds ps → IsScannable net (holds_after holds ps)
-scans_listed net [] holds s = s
-scans_listed net (p ∷ ps) holds s = scans_listed net ps (write_all holds p.writes) s.1
 
 module _ (net : Net) (form : Items) (n : IsRetargetable net form) where
   pub can_open : (holds : Holds) (g : SeenGroup) → IsScannable net holds → IsPlannable net form g → CanOpen net form g holds

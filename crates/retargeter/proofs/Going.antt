@@ -1,13 +1,13 @@
 -- Rounds that are written one after the other.
 use Rattle.std.proofs.Common.{◌≡◌, ◌<◌, ◌≤◌, ℕ, suc, Option, List, [], ◌∷◌, ◌++◌, length, get_or, drop, refl, sym, ap, ◌∙◌, subst, arith, append_assoc}
-use Rattle.std.specs.Prelude.{All, map}
+use Rattle.std.specs.Prelude.{map}
 use Rattle.std.proofs.Math.Seq.{drop-cons}
 use Rattle.std.proofs.lemmas.List.{get_or-map, length-map, at_drop_all}
 use Rattle.ij_io.specs.Bytes.{Adds, AddsPart}
 use Rattle.ij_io.proofs.Fronts.{AddsFront, front_start, front_next, front_part, front_all}
 use Rattle.net_graph.specs.declared.net.Net.{Net}
 use Rattle.net_graph.specs.declared.step.Group.{Group}
-use Rattle.net_graph.specs.SeenSteps.{SeenGroup, seen_group}
+use Rattle.net_graph.specs.SeenSteps.{seen_group}
 use Rattle.net_graph.specs.Signals.{Holds}
 use Rattle.net_tree.specs.Form.{Items}
 use Rattle.svf_writer.specs.SeenCommands.{SDR}
@@ -33,11 +33,6 @@ at_round rounds gs g i e l is =
       is_next = drop-cons rounds i none within;
       of_group = sym (get_or-map (λ (p : PlannedGroup). p.group) rounds i none (seen_group g) within) ∙ ap (λ xs. get_or xs i (seen_group g)) e ∙ get_or-map seen_group gs i g (seen_group g) l ∙ ap seen_group (sym is);
     }
-
--- what holds of each group's view holds of the next one's
-pub seen_next : (P : SeenGroup → Type 0) (gs : List Group) (g : Group) (i : ℕ) → All P (map seen_group gs) → i < length gs → g ≡ get_or gs i g → P (seen_group g)
-seen_next P gs g i a l is =
-    subst P (get_or-map seen_group gs i g (seen_group g) l ∙ ap seen_group (sym is)) (a i (seen_group g) (omega (arith, l, length-map gs seen_group)))
 
 -- some rounds are written, and the others go on from the update stages now
 pub record GoesOn (net : Net) (form : Items) (n i : ℕ) (first now : Holds) (old new : Option (List ℕ)) (rounds : List PlannedGroup) : Type 0 where

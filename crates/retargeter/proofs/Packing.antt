@@ -10,12 +10,12 @@ use Rattle.net_graph.specs.SeenSteps.{SeenGroup}
 use Rattle.net_graph.specs.Signals.{Holds}
 use Rattle.net_graph.specs.Writes.{write_all}
 use Rattle.net_graph.proofs.Shapes.{length-chain_same}
-use Rattle.net_graph.proofs.Tracing.{map_some}
 use Rattle.net_graph.proofs.Writing.{write_all-shape}
 use Rattle.scan_packer.specs.Packed.{tdi_bits, tdo_bits, mask_bits}
 use Rattle.tap_machine.specs.Play.{is_empty}
 use Rattle.group_scans.specs.Scans.{scan_of}
 use Rattle.retargeter.specs.Packed.{quiet_scan, comparing_scan}
+use Rattle.ij_bits.proofs.Lists.{map_some}
 
 some_read : (rs : List ReadBit) → ¬ (rs ≡ []) → is_empty rs ≡ false
 some_read [] n = absurd (n refl)

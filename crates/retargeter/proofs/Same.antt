@@ -1,6 +1,6 @@
 -- A group's plans give one text and leave the update stages alike, whatever plans were found.
 use Rattle.std.proofs.Common.{◌≡◌, ℕ, Option, List, ◌∙◌, subst}
-use Rattle.std.specs.Prelude.{map, Result, Ok, Err, OnOk, OnErr}
+use Rattle.std.specs.Prelude.{map}
 use Rattle.ij_io.specs.Bytes.{Adds, AddsPart}
 use Rattle.net_graph.specs.declared.net.Net.{Net}
 use Rattle.net_graph.specs.Groups.{IsEmpty}
@@ -26,12 +26,3 @@ module _ (net : Net) (form : Items) (g : SeenGroup) (holds : Holds) (named : ¬ 
 
   pub is_after : {after : Holds} → after ≡ holds_after holds mine → IsAfterGroup net form holds g after
   is_after h plans a = h ∙ (plans_same net form g named mine plans holds m a.plans).1
-
--- at an answer
-pub at_ok : {T E P Q : Type 0} (result : Result T E) → (P → Q) → OnOk result P → OnOk result Q
-at_ok (Ok x) f p = f p
-at_ok (Err e) f p = tt
-
-pub at_err : {T E P Q : Type 0} (result : Result T E) → (P → Q) → OnErr result P → OnErr result Q
-at_err (Ok x) f p = tt
-at_err (Err e) f p = f p

@@ -1,7 +1,7 @@
 -- Plans of a group can be scanned, one after the other.
 use Rattle.std.proofs.Common.{◌≡◌, true, List, [], ◌∷◌, sym, subst}
 use Rattle.std.specs.Prelude.{All, map, IsTrue}
-use Rattle.std.proofs.lemmas.List.Elements.{All-nil}
+use Rattle.std.proofs.lemmas.List.Elements.{All-nil, All-weaker}
 use Rattle.ij_bits.specs.Different.{AreDifferent}
 use Rattle.net_graph.specs.declared.net.BitId.{BitId}
 use Rattle.net_graph.specs.declared.net.Net.{Net}
@@ -15,7 +15,6 @@ use Rattle.net_graph.specs.SeenSteps.{SeenGroup}
 use Rattle.net_graph.specs.Signals.{Holds}
 use Rattle.net_graph.specs.Steps.{IsDataBit}
 use Rattle.net_graph.specs.Writes.{write_all}
-use Rattle.net_graph.proofs.Routes.{all_with}
 use Rattle.net_graph.proofs.Selecting.{is_held}
 use Rattle.net_tree.specs.Form.{Items}
 use Rattle.path_planner.specs.Least.{AreOnPath}
@@ -32,7 +31,7 @@ use Rattle.retargeter.specs.Scanning.{CanScanAll}
 -- the bits that a scan writes are there
 pub plan_held : (net : Net) (holds : Holds) (plan : SeenGroup) → CanScan net holds plan → All (λ w. IsHeld holds w.bit) plan.writes
 plan_held net holds plan (path, e, can) =
-    all_with (λ (w : WriteBit). IsBitOf net w.bit) (λ (w : WriteBit). IsHeld holds w.bit) (λ w b. is_held net holds w.bit can.widths b) plan.writes can.writes
+    All-weaker (λ (w : WriteBit). IsBitOf net w.bit) (λ (w : WriteBit). IsHeld holds w.bit) (λ w b. is_held net holds w.bit can.widths b) plan.writes can.writes
 
 module _ (net : Net) (form : Items) (g : SeenGroup) where
   module _ (holds : Holds) (c : CanOpen net form g holds) where
@@ -44,7 +43,7 @@ module _ (net : Net) (form : Items) (g : SeenGroup) where
     -- the group itself
     group_scan : AreOnPath net (registers_of g) holds → CanScan net holds g
     group_scan (path, e, on) =
-        (path, e, record { widths = c.listed.widths; writes = all_with (λ (x : WriteBit). IsDataBit net x.bit) (λ (x : WriteBit). IsBitOf net x.bit) (λ x d. d.there) g.writes c.group.written; reads = all_with (λ (x : ReadBit). IsDataBit net x.bit) (λ (x : ReadBit). IsBitOf net x.bit) (λ x d. d.there) g.reads c.group.read; written_once = c.group.written_once; read_once = c.group.read_once; on_path = on })
+        (path, e, record { widths = c.listed.widths; writes = All-weaker (λ (x : WriteBit). IsDataBit net x.bit) (λ (x : WriteBit). IsBitOf net x.bit) (λ x d. d.there) g.writes c.group.written; reads = All-weaker (λ (x : ReadBit). IsDataBit net x.bit) (λ (x : ReadBit). IsBitOf net x.bit) (λ x d. d.there) g.reads c.group.read; written_once = c.group.written_once; read_once = c.group.read_once; on_path = on })
 
     -- a plan that opens the way to it
     opening_scan : (p : SeenGroup) → Settles net form g holds p → AreOnPath net (registers_of p) holds → CanScan net holds p

@@ -1,31 +1,15 @@
 -- What is known of the rounds of a mux's rows.
-use Rattle.std.proofs.Common.{◌≡◌, ◌≢◌, inl, inr, ℕ, ◌+◌, ◌*◌, ◌<◌, ◌≤◌, Bool, true, false, refl, sym, ap, subst, ◌∙◌, arith}
+use Rattle.std.proofs.Common.{◌≡◌, ◌≢◌, ℕ, ◌+◌, ◌*◌, ◌<◌, ◌≤◌, Bool, true, false, refl, sym, ap, subst, ◌∙◌, arith}
 use Rattle.std.specs.Prelude.{◌==◌, ◌&&◌, ◌||◌, not}
 use Rattle.std.specs.Int.{bit_at}
 use Rattle.std.proofs.lemmas.Bool.{eq-eqb, eqb-true, false≢true}
-use Rattle.std.proofs.lemmas.Bool.Decides.{eqb_tells, nat_tests}
 use Rattle.round_sets.specs.Sets.{has_round, word_of}
 use Rattle.round_sets.proofs.Bits.{word_place}
 use Rattle.round_sets.specs.Rows.{AreMuxSets, MuxSets, has_other, row_at}
+use Rattle.std.proofs.Math.Bool.{or-true}
+use Rattle.ij_bits.proofs.Tests.{number_turned}
 
 -- ---- tests
-
-apart_turned : (m n : ℕ) → (m == n) ≡ (n == m)
-apart_turned m n =
-    elim (eqb_tells m n) [
-      | inl same ↦ same.0 ∙ sym (turned_true m n same.1)
-      | inr apart ↦ apart.0 ∙ sym (turned_false m n apart.1)
-    ]
-  where
-    turned_true : (a b : ℕ) → a ≡ b → (b == a) ≡ true
-    turned_true a b same = grind (arith, nat_tests)
-
-    turned_false : (a b : ℕ) → a ≢ b → (b == a) ≡ false
-    turned_false a b apart = grind (arith, nat_tests)
-
-or_true : (b : Bool) → (b || true) ≡ true
-or_true true = refl
-or_true false = refl
 
 -- ---- a row more has a round
 
@@ -48,7 +32,7 @@ here_bits false false has = refl
 -- where it is another row
 other_bits : (several any has had : Bool) → (has ≡ true → any ≡ true) → (has ≡ true → had ≡ true → several ≡ true)
     → ((((any && not had) && true) || several) || ((true || any) && not ((false && true) || has))) ≡ ((true && not false) || (several || (any && not has)))
-other_bits several any false had covered both = or_true ((((any && not had) && true) || several))
+other_bits several any false had covered both = or-true ((((any && not had) && true) || several))
 other_bits several true true false covered both = refl
 other_bits true true true true covered both = refl
 other_bits false true true true covered both = absurd (false≢true (both refl refl))
@@ -74,11 +58,11 @@ any_bits false false any has any_now has_now is_any is_has covered h = is_any �
 
 -- several has it where this row and another one have it
 further_bits : (further several several_now any had : Bool) → several_now ≡ ((further && true) || several) → further ≡ (any && not had) → any ≡ true → (had ≡ true → several ≡ true) → several_now ≡ true
-further_bits further several several_now any true is is_further has both = is ∙ ap (λ t. (further && true) || t) (both refl) ∙ or_true (further && true)
+further_bits further several several_now any true is is_further has both = is ∙ ap (λ t. (further && true) || t) (both refl) ∙ or-true (further && true)
 further_bits further several several_now any false is is_further has both = is ∙ ap (λ f. (f && true) || several) (is_further ∙ ap (λ t. t && true) has)
 
 same_bits : (further e several several_now : Bool) → several_now ≡ ((further && e) || several) → several ≡ true → several_now ≡ true
-same_bits further e several several_now is has = is ∙ ap (λ t. (further && e) || t) has ∙ or_true (further && e)
+same_bits further e several several_now is has = is ∙ ap (λ t. (further && e) || t) has ∙ or-true (further && e)
 
 several_bits : (e x z further several several_now any has1 has1_now has2 has2_now had : Bool) → several_now ≡ ((further && e) || several) → has1_now ≡ ((x && e) || has1) → has2_now ≡ ((z && e) || has2)
     → (e ≡ true → further ≡ (any && not had)) → (x ≡ true → z ≡ true → ⊥) → (has1 ≡ true → has2 ≡ true → several ≡ true) → (has1 ≡ true → any ≡ true) → (has2 ≡ true → any ≡ true)
@@ -125,7 +109,7 @@ module _ (stamp : ℕ) (old new : MuxSets) (row round : ℕ) (further : Bool) (h
       ∙ ap (λ t. ((further && k == round) || has_round stamp old.several k) || (t && not (has_round stamp (row_at new.rows r) k))) (h.any k)
       ∙ ap (λ t. ((further && k == round) || has_round stamp old.several k) || ((k == round || has_round stamp old.any k) && not t)) (h.rows r k)
       ∙ put_bits (k == round) (r == row) (row == r) further (has_round stamp old.several k) (has_round stamp old.any k) (has_round stamp (row_at old.rows r) k) (has_round stamp (row_at old.rows row) k)
-      (further_now k) (apart_turned r row) (own_row r k) (h.were.any_has r k) (λ apart. h.were.several_has r row k apart)
+      (further_now k) (number_turned r row) (own_row r k) (h.were.any_has r k) (λ apart. h.were.several_has r row k apart)
 
   pub more_are : AreMuxSets stamp new
   more_are = record {

@@ -52,11 +52,6 @@ add_step p xs i d e old current now within so_far here =
     turned true false b c = refl
     turned false a b c = refl
 
-pub word_step : {A : Type 0} (p : A → Bool) (xs : List A) (i : ℕ) (d : A) (before here all : Bool) → i < length xs
-    → before ≡ list_any p (take i xs) → here ≡ p (get_or xs i d) → all ≡ (before || here) → all ≡ list_any p (take (i + 1) xs)
-word_step p xs i d before here all within so_far one is =
-    is ∙ ap (λ t. t || here) so_far ∙ ap (λ t. list_any p (take i xs) || t) one ∙ sym (list_any_more p xs i d within)
-
 -- the word of a mux, as a function sees it
 pub place_in : (stamp mux row k : ℕ) (muxes : List MuxSets) (now : StampedRows) (rounds : MuxSets) (b : Bool) → mux < length muxes → record { stamp = stamp; muxes = muxes } ≡ now → rounds ≡ get_or muxes mux rounds
     → b ≡ has_other stamp rounds row k → b ≡ has_other now.stamp (mux_at now.muxes mux) row k

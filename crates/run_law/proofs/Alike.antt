@@ -3,7 +3,6 @@ use Rattle.std.proofs.Common.{◌≡◌, ◌≢◌, zero, suc, Bool, true, false
 use Rattle.std.specs.Prelude.{◌↔◌, Contains, filter, map, Result, Ok}
 use Rattle.std.proofs.lemmas.Bool.{true≢false}
 use Rattle.ij_bits.specs.BitLists.{same_bit}
-use Rattle.ij_bits.proofs.SameBits.{same_bits}
 use Rattle.instruments.specs.After.{machine_of}
 use Rattle.instruments.specs.declared.Counts.{Counts}
 use Rattle.instruments.specs.Machine.{whole_log}
@@ -24,6 +23,7 @@ use Rattle.bench_report.specs.Report.{differs_of}
 use Rattle.direct_report.specs.Report.{differs, direct_differs}
 use Rattle.run_law.specs.Laws.{RunsDifferAlike}
 use Rattle.run_law.proofs.Counted.{meanings_are_counted}
+use Rattle.ij_bits.proofs.Contained.{first_in, later_in}
 
 -- ---- bits that are the same
 
@@ -48,17 +48,11 @@ alike false false f g = refl
 
 -- ---- an item of a list
 
-pub first_one : {X : Type 0} (x : X) (xs : List X) → Contains (x ∷ xs) x
-first_one x xs = (zero, omega arith, refl)
-
-pub later_one : {X : Type 0} (x y : X) (xs : List X) → Contains xs y → Contains (x ∷ xs) y
-later_one x y xs (k, l, e) = (suc k, omega (arith, l), e)
-
 -- ---- compares, and reads, some of which differ
 
 compare_test : (c : Compare) (cs : List Compare) → (is_empty (differing cs) ≡ false → SomeCompareDiffers cs) → (t : Bool) → same_bit c.expect c.found ≡ t → is_empty (cond t (differing cs) (c ∷ differing cs)) ≡ false → SomeCompareDiffers (c ∷ cs)
-compare_test c cs f true s n = let (x, i, d) = f n in (x, later_one c x cs i, d)
-compare_test c cs f false s n = (c, first_one c cs, other_is c.expect c.found s)
+compare_test c cs f true s n = let (x, i, d) = f n in (x, later_in c x cs i, d)
+compare_test c cs f false s n = (c, first_in c cs, other_is c.expect c.found s)
 
 some_compare : (cs : List Compare) → is_empty (differing cs) ≡ false → SomeCompareDiffers cs
 some_compare [] e = absurd (true≢false e)
@@ -80,8 +74,8 @@ abbrev Read : Type 0
 Read = ReadBit × Bool
 
 read_test : (r : Read) (rs : List Read) → (is_empty (filter differs rs) ≡ false → SomeReadDiffers rs) → (t : Bool) → same_bit r.0.expect r.1 ≡ t → is_empty (cond (not t) (r ∷ filter differs rs) (filter differs rs)) ≡ false → SomeReadDiffers (r ∷ rs)
-read_test r rs f true s n = let (x, i, d) = f n in (x, later_one r x rs i, d)
-read_test r rs f false s n = (r, first_one r rs, other_is r.0.expect r.1 s)
+read_test r rs f true s n = let (x, i, d) = f n in (x, later_in r x rs i, d)
+read_test r rs f false s n = (r, first_in r rs, other_is r.0.expect r.1 s)
 
 some_read : (rs : List Read) → is_empty (filter differs rs) ≡ false → SomeReadDiffers rs
 some_read [] e = absurd (true≢false e)

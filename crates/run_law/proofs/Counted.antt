@@ -3,21 +3,16 @@ use Rattle.std.proofs.Common.{◌≡◌, ℕ, zero, suc, Bool, List, [], ◌∷�
 use Rattle.std.specs.Prelude.{map}
 use Rattle.instruments.specs.declared.Counts.{Counts}
 use Rattle.instruments.specs.Machine.{Event, Machine, Run as RunEvent, Reset as ResetEvent, count_log, whole_log}
-use Rattle.instruments.specs.OnNetwork.{Running, fresh}
+use Rattle.instruments.specs.OnNetwork.{Running}
 use Rattle.net_graph.specs.declared.net.Net.{Net}
 use Rattle.net_graph.specs.declared.step.ReadBit.{ReadBit}
 use Rattle.net_graph.specs.Resets.{reset_holds}
 use Rattle.net_graph.specs.SeenSteps.{SeenGroup, SeenStep, Apply, Run, Reset}
 use Rattle.net_graph.specs.Signals.{signal, capture_signal}
 use Rattle.net_graph.specs.Writes.{write_all}
-use Rattle.net_bench.specs.Counting.{tallied}
-use Rattle.net_bench.proofs.Forgetting.{all_have_tallied, changes_tallied, outputs_tallied}
+use Rattle.net_bench.proofs.Forgetting.{all_have_tallied, changes_tallied, outputs_tallied, fresh_tallied}
 use Rattle.pdl_meaning.specs.Direct.{Direct, do_all, do_group, do_rounds, do_step, found, power_up, run_cycles}
 use Rattle.run_law.specs.Laws.{MeaningsAreCounted, with_counts}
-
-fresh_tallied : (machines : List Machine) → fresh count_log machines ≡ map tallied (fresh whole_log machines)
-fresh_tallied [] = refl
-fresh_tallied (m ∷ ms) = ap (λ xs. record { inner = m.start; log = count_log.none } ∷ xs) (fresh_tallied ms)
 
 module _ (net : Net) (machines : List Machine) where
   found_counted : (d : Direct (List Event)) (r : ReadBit) → found count_log net machines (with_counts d) r ≡ found whole_log net machines d r

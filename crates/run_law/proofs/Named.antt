@@ -28,10 +28,11 @@ use Rattle.read_places.specs.declared.place.ReadPlace.{ReadPlace}
 use Rattle.bench_report.specs.Report.{differs_of}
 use Rattle.run_law.specs.Laws.{ComparesAreNamed, DiffersAreNamed, ReadsAreCompared}
 use Rattle.run_law.specs.Naming.{compares_at, IsNamed}
-use Rattle.run_law.proofs.Alike.{first_one, later_one, ok_same}
+use Rattle.run_law.proofs.Alike.{ok_same}
 use Rattle.run_law.proofs.Compared.{all_added}
 use Rattle.run_law.proofs.Counted.{meanings_are_counted}
 use Rattle.run_law.proofs.Naming.{AreAdded, Read, named_at, reads_found, reads_placed}
+use Rattle.ij_bits.proofs.Contained.{first_in, later_in}
 
 module _ (net : Net) (form : Items) (device : Device) (machines : List Machine) (plans : List PlannedStep) (c : IsRetargetable net form) (d : IsDevice device) (a : StepsArePlanned net form (start_holds net) plans) where
   abbrev chip : Chip (List Event)
@@ -79,9 +80,9 @@ compares_are_named scripts apart play net form device machines plans c d a x m =
 -- ---- the compares that differ
 
 differs_by : (t : Bool) (c x : Compare) (cs : List Compare) → (Contains (differing cs) x → Contains cs x) → Contains (cond t (differing cs) (c ∷ differing cs)) x → Contains (c ∷ cs) x
-differs_by true c x cs f m = later_one c x cs (f m)
-differs_by false c x cs f (zero, l, e) = subst (Contains (c ∷ cs)) e (first_one c cs)
-differs_by false c x cs f (suc k, l, e) = later_one c x cs (f (k, omega (arith, l), e))
+differs_by true c x cs f m = later_in c x cs (f m)
+differs_by false c x cs f (zero, l, e) = subst (Contains (c ∷ cs)) e (first_in c cs)
+differs_by false c x cs f (suc k, l, e) = later_in c x cs (f (k, omega (arith, l), e))
 
 differs_are : (cs : List Compare) (x : Compare) → Contains (differing cs) x → Contains cs x
 differs_are [] x m = m

@@ -1,5 +1,5 @@
 -- Compares of reads at their places, and which read is named at each.
-use Rattle.std.proofs.Common.{◌≡◌, ◌≢◌, ◌⊎◌, inl, inr, ⊎_elim, ℕ, zero, suc, ◌==◌, ◌&&◌, Bool, true, false, cond, List, [], ◌∷◌, ◌++◌, drop, Some, refl, sym, ap, ◌∙◌, subst, arith, append_assoc}
+use Rattle.std.proofs.Common.{◌≡◌, ◌≢◌, ◌⊎◌, inl, inr, ℕ, zero, suc, ◌==◌, ◌&&◌, Bool, true, false, cond, List, [], ◌∷◌, ◌++◌, drop, Some, refl, sym, ap, ◌∙◌, subst, arith, append_assoc}
 use Rattle.std.specs.Prelude.{Contains, map}
 use Rattle.std.proofs.lemmas.Bool.Decides.{eqb_tells}
 use Rattle.std.proofs.lemmas.List.{append-nil, map-append}
@@ -7,11 +7,13 @@ use Rattle.ij_bits.specs.Different.{AreDifferent}
 use Rattle.net_bench.specs.Playing.{Compare}
 use Rattle.net_graph.specs.declared.step.ReadBit.{ReadBit}
 use Rattle.headline.specs.ReadPlaces.{place}
-use Rattle.headline.proofs.Comparing.{is_mapped, none_here}
+use Rattle.headline.proofs.Comparing.{is_mapped}
 use Rattle.read_places.specs.Places.{read_at}
 use Rattle.read_places.specs.declared.place.ReadPlace.{ReadPlace}
 use Rattle.run_law.specs.Naming.{compare_at, compares_at, IsNamed}
-use Rattle.group_scans.proofs.StepKinds.{no_head}
+use Rattle.ij_bits.proofs.Tests.{number_self}
+use Rattle.ij_bits.proofs.Contained.{none_in}
+use Rattle.ij_bits.proofs.Lists.{no_head}
 
 abbrev pub Read : Type 0
 Read = ReadBit × Bool
@@ -54,11 +56,8 @@ added_both cs ds ps qs a b c v w =
 
 -- ---- the read that is named
 
-same_test : (n : ℕ) → (n == n) ≡ true
-same_test n = ⊎_elim (λ e. e.0) (λ e. absurd (e.1 refl)) (eqb_tells n n)
-
 here_test : (p : ReadPlace) → ((p.scan == p.scan) && (p.bit == p.bit)) ≡ true
-here_test p = ap (λ t. t && (p.bit == p.bit)) (same_test p.scan) ∙ same_test p.bit
+here_test p = ap (λ t. t && (p.bit == p.bit)) (number_self p.scan) ∙ number_self p.bit
 
 other_test : (p : ReadPlace) (scan bit : ℕ) → ¬ ((p.scan ≡ scan) × (p.bit ≡ bit)) → ((p.scan == scan) && (p.bit == bit)) ≡ false
 other_test p scan bit n = by (eqb_tells p.scan scan) (eqb_tells p.bit bit)
@@ -95,8 +94,8 @@ place_is a b c d e f = cc
 
 -- where no two compares stand at one place
 pub named_at : (ps : List ReadPlace) (rs : List Read) (c : Compare) → reads_placed ps ≡ reads_found rs → AreDifferent {A = ℕ × ℕ} (map place (compares_at ps rs)) → Contains (compares_at ps rs) c → IsNamed ps rs c
-named_at [] rs c e d m = absurd (none_here c m)
-named_at (p ∷ ps) [] c e d m = absurd (none_here c m)
+named_at [] rs c e d m = absurd (none_in c m)
+named_at (p ∷ ps) [] c e d m = absurd (none_in c m)
 named_at (p ∷ ps) (r ∷ rs) c e d (zero, l, q) =
     subst (IsNamed (p ∷ ps) (r ∷ rs)) q (named_first p r ps rs (first_is p.read r.0 (reads_placed ps) (reads_found rs) e))
 named_at (p ∷ ps) (r ∷ rs) c e d (suc k, l, q) =

@@ -26,6 +26,7 @@ use Rattle.net_graph.specs.declared.net.Sig.{Sig}
 use Rattle.net_graph.specs.declared.net.Sig.TheVariants.{Absent, Zero, One, Bit, Out}
 use Rattle.net_graph.proofs.Shapes.{length_at}
 use Rattle.std.proofs.lemmas.List.Elements.{All-get_or, All-weaker}
+use Rattle.instruments.proofs.Changing.{same_refl}
 
 -- ---- arrays of numbers
 
@@ -85,13 +86,6 @@ one_reset c n e = ap (λ (k : ℕ). record c { resets = k }) e
 
 pub one_change : (c : Counts) (n : ℕ) (before after : Inputs) → n ≡ saturating_up c.changes → ◌≡◌ {A = Counts} (record { changes = n; runs = c.runs; resets = c.resets }) (counted c (Change before after))
 one_change c n before after e = ap (λ (k : ℕ). record c { changes = k }) e
-
-same_refl : (xs : Inputs) → same_numbers xs xs ≡ true
-same_refl [] = refl
-same_refl (x ∷ xs) = ap (λ b. b && same_numbers xs xs) (eq_same x) ∙ same_refl xs
-  where
-    eq_same : (n : ℕ) → (n == n) ≡ true
-    eq_same n = elim (eqb_tells n n) [ inl e ↦ e.0 | inr e ↦ absurd (e.1 refl) ]
 
 same_is : (xs ys : Inputs) → same_numbers xs ys ≡ true → xs ≡ ys
 same_is [] [] e = refl

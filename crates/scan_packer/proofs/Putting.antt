@@ -12,17 +12,13 @@ use Rattle.net_graph.specs.Named.{IsBitOf}
 use Rattle.net_graph.specs.Resets.{zero_holds}
 use Rattle.net_graph.specs.Signals.{Holds, bits_at}
 use Rattle.net_graph.specs.Held.{set_hold}
-use Rattle.net_graph.specs.Writes.{write_bit, write_all}
+use Rattle.net_graph.specs.Writes.{write_all}
 use Rattle.net_graph.proofs.Shapes.{shape, length_at}
-use Rattle.net_graph.proofs.Writing.{IsHeld, within, write_all-shape}
+use Rattle.net_graph.proofs.Writing.{IsHeld, within, write_all-shape, write_all-append}
 use Rattle.net_graph.proofs.Widths.{zero-shape}
 use Rattle.scan_packer.specs.Packed.{IsWritten}
 use Rattle.scan_packer.proofs.Bits.{same_width, pop}
-
-chain_apart : (p : List ℕ) (s : Holds) (r : ℕ) (v : List Bool) → NotIn r p → chain p (slice_set s r v) ≡ chain p s
-chain_apart [] s r v h = refl
-chain_apart (x ∷ xs) s r v h =
-    ap (λ a. a ++ chain xs (slice_set s r v)) (get_or-set_other s r x v [] h.0) ∙ ap (λ a. bits_at s x ++ a) (chain_apart xs s r v h.1)
+use Rattle.net_graph.proofs.Chains.{chain-set}
 
 pub place_within : (p : List ℕ) (s : Holds) (b : BitId) → Contains p b.reg → IsHeld (shape s) b → position p s b < length (chain p s)
 place_within [] s b c h = absurd (omega (arith, c.1))
@@ -50,7 +46,7 @@ put_at n (r ∷ rs) s t b v u e c h = ⊎_elim (λ q. here q.0 q.1) (λ q. there
         ∙ ap (λ z. slice_set (bits_at s z) b.pos v ++ chain rs s) q
         ∙ ap (λ z. z ++ chain rs s) (sym (get_or-set_same s b.reg (slice_set (bits_at s b.reg) b.pos v) [] w.0))
         ∙ ap (λ z. bits_at (set_hold s b v) z ++ chain rs s) (sym q)
-        ∙ ap (λ z. bits_at (set_hold s b v) r ++ z) (sym (chain_apart rs s b.reg (slice_set (bits_at s b.reg) b.pos v) (subst (λ z. NotIn z rs) q u.1)))
+        ∙ ap (λ z. bits_at (set_hold s b v) r ++ z) (sym (chain-set rs s b.reg (slice_set (bits_at s b.reg) b.pos v) (subst (λ z. NotIn z rs) q u.1)))
 
     there : (r == b.reg) ≡ false → (r ≢ b.reg) → slice_set (chain rs s) (position rs t b) v ≡ chain rs (set_hold s b v) → slice_set (chain (r ∷ rs) s) (position (r ∷ rs) t b) v ≡ chain (r ∷ rs) (set_hold s b v)
     there o q rest =
@@ -75,10 +71,6 @@ zero_held net b h = subst (λ ws. IsHeld ws b) (sym (zero-shape net.regs.items))
 -- one write more
 pub written_none : (net : Net) (p : List ℕ) (bits : List Bool) → IsWritten net p [] bits bits
 written_none net p bits = record { long = refl; written = λ h a e. e }
-
-write_all-append : (h : Holds) (xs ys : List WriteBit) → write_all h (xs ++ ys) ≡ write_all (write_all h xs) ys
-write_all-append h [] ys = refl
-write_all-append h (x ∷ xs) ys = write_all-append (write_bit h x) xs ys
 
 pub written_more : (net : Net) (n : ℕ) (path : List ℕ) (before bits after : List Bool) (ws : List WriteBit) (w : WriteBit) → IsRoute n (reverse path) → Contains path w.bit.reg → IsBitOf net w.bit → IsWritten net (reverse path) ws before bits → after ≡ slice_set bits (position (reverse path) (zero_holds net) w.bit) w.value → IsWritten net (reverse path) (ws ++ w ∷ []) before after
 written_more net n path before bits after ws w u c b i e =

@@ -10,14 +10,16 @@ use Rattle.net_graph.specs.Nets.{IsNet}
 use Rattle.net_graph.specs.Path.{active, path as scan_path}
 use Rattle.net_graph.specs.SeenSteps.{SeenGroup}
 use Rattle.net_graph.specs.Signals.{Holds}
-use Rattle.net_graph.proofs.Tracing.{from_some, map_some, trace_route}
+use Rattle.net_graph.proofs.Tracing.{trace_route}
 use Rattle.scan_packer.specs.Packing.{CanPack, CanScan, plan_of}
+use Rattle.std.proofs.lemmas.Option.{same_Some}
+use Rattle.ij_bits.proofs.Lists.{map_some}
 
 module _ (net : Net) (holds : Holds) (route : List ℕ) (e : scan_path net holds ≡ Some route) where
   turned_back : (path : List ℕ) → active net holds ≡ Some path → path ≡ reverse route
   turned_back path a =
       let (x, f, g) = map_some reverse (active net holds) route e in
-      from_some path x (sym a ∙ f) ∙ sym (reverse-reverse x) ∙ ap reverse g
+      same_Some path x (sym a ∙ f) ∙ sym (reverse-reverse x) ∙ ap reverse g
 
   pub is_route : IsNet net → (p : List ℕ) → p ≡ route → IsRoute (length net.regs.items) (reverse p)
   is_route n p f =

@@ -18,10 +18,11 @@ use Rattle.svf_audit.specs.Audit.{bits_on, has_row}
 use Rattle.svf_audit.specs.Registers.{differing, differs, path_in, to_move, AreFound, AreRegisters, AreShifted, IsTurned}
 use Rattle.svf_audit.specs.declared.registers.Registers.{Registers}
 use Rattle.svf_audit.proofs.Moving.{bits_kept, moved_is, select_stays, stays, OthersSame}
-use Rattle.svf_audit.proofs.Paths.{bits_of_net, length-bits_on, route_in}
+use Rattle.svf_audit.proofs.Paths.{bits_of_net, length-bits_on}
 use Rattle.svf_audit.proofs.Places.{first}
 use Rattle.svf_audit.proofs.Steering.{path_same, rows_same}
 use Rattle.svf_audit.proofs.Turning.{all_taken, none_left, set_on, take_both}
+use Rattle.net_graph.proofs.Routes.{route_in}
 
 pub holds_route : (r : Registers) → AreRegisters r → IsRoute (length r.holds) (path_in r)
 holds_route r k = route_in r.net.now r.holds r.holds k.net k.holds

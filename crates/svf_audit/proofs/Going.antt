@@ -1,9 +1,8 @@
 -- Each command, step by step: what its tests tell of the definition.
-use Rattle.std.proofs.Common.{◌≡◌, ⊎_elim, ℕ, suc, ◌==◌, Bool, true, false, List, [], ◌∷◌, ◌++◌, length, drop, Some, None, refl, sym, ap, ◌∙◌, eq-eqb}
+use Rattle.std.proofs.Common.{◌≡◌, ℕ, suc, Bool, true, false, List, [], ◌∷◌, ◌++◌, length, drop, Some, None, refl, sym, ap, ◌∙◌, eq-eqb}
 use Rattle.std.specs.Prelude.{not, map, Err, option_map}
 use Rattle.std.specs.List.{list_all}
 use Rattle.std.proofs.lemmas.List.{map-append}
-use Rattle.std.proofs.lemmas.Bool.Decides.{eqb_tells}
 use Rattle.ij_bits.specs.BitLists.{bits_eq, bits_of}
 use Rattle.net_graph.specs.declared.device.Device.{Device}
 use Rattle.net_graph.specs.declared.net.Net.{Net}
@@ -20,6 +19,7 @@ use Rattle.svf_audit.specs.Audit.{Reading, State, changed, compares, do_group, d
 use Rattle.svf_audit.specs.Auditing.{act, ok}
 use Rattle.svf_audit.specs.Kept.{looked_for, seen_kept, seen_tdi}
 use Rattle.svf_audit.specs.Work.{Work, Group, Cycle, Reset as ResetWork, due, group_first, behind_cycles, behind_reset}
+use Rattle.std.proofs.lemmas.Bool.{ne_eqb}
 
 -- ---- what a scan shifts and looks for
 
@@ -32,15 +32,12 @@ kept_tdi k last x e = ap (λ z. z.tdi) e
 pub kept_looks : (k : Kept) (last : LastScan) (x : SeenScan) → seen_kept k ≡ after_scan last x → looked_for k x.tdo ≡ (played last x).expects
 kept_looks k last x e = ap (λ z. expected z.len x.tdo z.mask) e
 
-unequal : (a b : ℕ) → (a ≡ b → ⊥) → (a == b) ≡ false
-unequal a b h = ⊎_elim (λ t. absurd (h t.1)) (λ t. t.0) (eqb_tells a b)
-
 module _ (net : Net) (device : Device) (a : State) (x : SeenScan) where
   -- ---- an instruction scan
 
   pub load_length : (x.len ≡ device.ir → ⊥) → load net device a x ≡ Err Length
   load_length h =
-      ap (λ t. need t Length (need (not (compares (played a.ir x))) Compare (ok (record a { linked = bits_eq (played a.ir x).tdi (bits_of device.ir device.opcode); rest = InIdle; ir = after_scan a.ir x; scans = suc a.scans })))) (unequal x.len device.ir h)
+      ap (λ t. need t Length (need (not (compares (played a.ir x))) Compare (ok (record a { linked = bits_eq (played a.ir x).tdi (bits_of device.ir device.opcode); rest = InIdle; ir = after_scan a.ir x; scans = suc a.scans })))) (ne_eqb x.len device.ir h)
 
   pub load_compares : x.len ≡ device.ir → compares (played a.ir x) ≡ true → load net device a x ≡ Err Compare
   load_compares e c =
@@ -75,7 +72,7 @@ module _ (net : Net) (device : Device) (a : State) (x : SeenScan) where
 
   pub scan_length : (x.len ≡ length (chain path a.holds) → ⊥) → scan net device a x ≡ Err Length
   scan_length h =
-      ap (λ t. need t Length (need (list_all (has_row after) net.muxes.items) Select (act net device a x after))) (unequal x.len (length (chain path a.holds)) h)
+      ap (λ t. need t Length (need (list_all (has_row after) net.muxes.items) Select (act net device a x after))) (ne_eqb x.len (length (chain path a.holds)) h)
 
   pub scan_select : x.len ≡ length (chain path a.holds) → list_all (has_row after) net.muxes.items ≡ false → scan net device a x ≡ Err Select
   scan_select e r =

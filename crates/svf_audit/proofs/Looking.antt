@@ -7,10 +7,11 @@ use mathlib.Core.Bool.{beq}
 use Rattle.std.proofs.lemmas.List.{drop_all, drop_more, drop-drop, length-replicate, take-append-drop}
 use Rattle.std.proofs.lemmas.List.Folds.{list_any-append}
 use Rattle.std.proofs.lemmas.Bool.Decides.{eqb_tells}
-use Rattle.ij_bits.specs.BitLists.{bits_of, bits_eq, number_of, same_bit, has_one}
+use Rattle.ij_bits.specs.BitLists.{bits_of, bits_eq, same_bit, has_one}
 use Rattle.svf_writer.specs.Fits.{HasLength}
 use Rattle.tap_machine.proofs.Shifts.{masked_at}
 use Rattle.tap_machine.specs.Play.{expected, masked}
+use Rattle.ij_bits.proofs.Tests.{same_truth, one_less}
 
 abbrev nothing : Option Bool
 nothing = None
@@ -31,7 +32,7 @@ expected_given len k None mask compared h s l e = absurd (cc)
 expected_given len k (Some bits) mask compared h s l e =
     masked_at bits mask k (omega (arith, h, l)) ∙ ap (λ b. cond b (Some (get_or bits k false)) None) e
 
-length-masked : (tdo mask : List Bool) → length (masked tdo mask) ≡ length tdo
+pub length-masked : (tdo mask : List Bool) → length (masked tdo mask) ≡ length tdo
 length-masked [] mask = refl
 length-masked (t ∷ ts) [] = ap suc (length-masked ts [])
 length-masked (t ∷ ts) (m ∷ ms) = ap suc (length-masked ts ms)
@@ -39,11 +40,6 @@ length-masked (t ∷ ts) (m ∷ ms) = ap suc (length-masked ts ms)
 pub length-expected : (len : ℕ) (tdo : Option (List Bool)) (mask : List Bool) → HasLength len tdo → length (expected len tdo mask) ≡ len
 length-expected len None mask h = length-replicate len None
 length-expected len (Some tdo) mask h = length-masked tdo mask ∙ h
-
-same_truth : (a b : Bool) → (a ≡ true → b ≡ true) → (b ≡ true → a ≡ true) → a ≡ b
-same_truth true b f g = sym (f refl)
-same_truth false true f g = g refl
-same_truth false false f g = refl
 
 -- whether TDO is there, by a test that was made
 pub is_there : (b : Bool) (tdo : Option (List Bool)) → IsTrue b ↔ IsSome tdo → b ≡ true → is_some tdo ≡ true
@@ -68,12 +64,6 @@ nonzero n h = ⊎_elim (λ t. absurd (omega (arith, h, t.1))) (λ t. ap not t.0)
 twice : (n : ℕ) → not ((0 + 2 * n) == 0) ≡ not (n == 0)
 twice n =
     ⊎_elim (λ t. ap (λ k. not ((0 + 2 * k) == 0)) t.1 ∙ ap (λ k. not (k == 0)) (sym t.1)) (λ t. nonzero (0 + 2 * n) (omega (arith, t.1)) ∙ sym (ap not t.0)) (eqb_tells n 0)
-
--- a number with a bit isn't 0
-pub has_number : (xs : List Bool) → not (number_of xs == 0) ≡ has_one xs
-has_number [] = refl
-has_number (true ∷ xs) = nonzero (1 + 2 * number_of xs) (omega arith)
-has_number (false ∷ xs) = twice (number_of xs) ∙ has_number xs
 
 pub ones_some : (len from n : ℕ) → from + n ≤ len → has_one (take n (drop from (replicate len true))) ≡ not (n == 0)
 ones_some len from zero l = refl
@@ -113,9 +103,6 @@ pub one_here : (mask : List Bool) (from n : ℕ) → has_one (slice_range mask f
 one_here mask from n e = in_front mask from n ∙ ap (λ t. t || has_one (drop (from + n) mask)) e
 
 -- ---- a number
-
-one_less : (w i : ℕ) → i < w → w - i ≡ suc (w - (i + 1))
-one_less w i h = omega arith
 
 pub eq_at : (xs : List Bool) (len i rest : ℕ) → length xs ≡ len → i < len → bits_eq (drop i xs) (bits_of (len - i) rest) ≡ (same_bit (get_or xs i false) ((rest % 2) == 1) && bits_eq (drop (i + 1) xs) (bits_of (len - (i + 1)) (rest / 2)))
 eq_at xs len i rest e h =

@@ -5,7 +5,7 @@ use Rattle.std.specs.Cmp.{IsEquivalence}
 use Rattle.std.specs.List.{AllByRecursion, IsDistinct, list_all, list_any, position, position_or_len}
 use Rattle.std.specs.Option.{is_some}
 use Rattle.std.proofs.lemmas.Bool.{cases_lt, false≢true, or_left, or_right}
-use Rattle.std.proofs.lemmas.List.{get_or-map, length-map, length-take-le, take_all, take_more}
+use Rattle.std.proofs.lemmas.List.{get_or-map, length-map, length-take-le, take_all, take_more, get_or_default}
 use Rattle.std.proofs.lemmas.List.Elements.{All-cons, All-head, All-map, All-nil, All-tail, All-weaker}
 use Rattle.std.proofs.lemmas.List.Folds.{list_any-append, list_any_at, list_any_none}
 use Rattle.std.proofs.lemmas.List.Quantifiers.{position-Some}
@@ -31,7 +31,6 @@ use Rattle.bit_marks.proofs.Numbering.{no_position}
 use Rattle.svf_audit.specs.Audit.{expected_of, same_expects}
 use Rattle.svf_audit.specs.Numbers.{AreCountable}
 use Rattle.svf_audit.proofs.Places.{place_of}
-use Rattle.svf_audit.proofs.Turning.{any_default}
 
 -- ---- one bit after the other
 
@@ -46,7 +45,7 @@ bit_before (b ∷ bs) (suc i) d a l =
     by : (t : Bool) → same_place b (get_or bs i d) ≡ t → t ≡ false
     by true e =
         let short : i < length bs = omega (arith, l) in
-        absurd (a.0 (i, short, any_default bs i b d short ∙ sym (place_is b (get_or bs i d) e)))
+        absurd (a.0 (i, short, get_or_default bs i b d short ∙ sym (place_is b (get_or bs i d) e)))
     by false e = refl
 
 pub number_none : (net : Net) (marks : Marks) → HaveMarks net marks → AreNumbered net marks []

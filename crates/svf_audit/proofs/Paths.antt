@@ -1,6 +1,6 @@
 -- The active path and its bits: its registers take the bits of one list, and every path has room.
-use Rattle.std.proofs.Common.{◌≡◌, ℕ, zero, suc, ◌+◌, ◌-◌, ◌<◌, ◌≤◌, Bool, get_or, List, [], ◌∷◌, ◌++◌, length, take, drop, Option, Some, None, refl, sym, ap, ◌∙◌, subst, arith, length-append, append_assoc, add-one}
-use Rattle.std.specs.Prelude.{All, map, unwrap_or, slice_range}
+use Rattle.std.proofs.Common.{◌≡◌, ℕ, zero, suc, ◌+◌, ◌-◌, ◌<◌, ◌≤◌, Bool, get_or, List, [], ◌∷◌, ◌++◌, length, take, drop, refl, sym, ap, ◌∙◌, subst, arith, length-append, append_assoc, add-one}
+use Rattle.std.specs.Prelude.{All, map, slice_range}
 use Rattle.std.proofs.lemmas.List.{append-nil, drop_more, length-take-le, take_all, take-append-drop}
 use Rattle.std.proofs.lemmas.List.Elements.{All-append, All-cons, All-nil}
 use Rattle.std.proofs.Math.Seq.{drop-append_seam, drop-append-add, take-append_seam, take-append-add}
@@ -15,20 +15,9 @@ use Rattle.net_graph.specs.declared.net.BitId.{BitId}
 use Rattle.net_graph.specs.declared.net.Net.{Net}
 use Rattle.net_graph.proofs.PlainNet.{length-bits_from}
 use Rattle.net_graph.proofs.Shapes.{length_at}
-use Rattle.net_graph.proofs.Tracing.{trace_route}
-use Rattle.net_graph.proofs.Widths.{as_many_held, chain_fits, started_held}
+use Rattle.net_graph.proofs.Widths.{chain_fits, started_held}
 use Rattle.svf_audit.specs.Audit.{bits_on}
-
--- the active path has different registers of the network
-pub route_is : (net : Net) (holds : Holds) → IsNet net → IsRoute (length net.regs.items) (route_of net holds)
-route_is net holds w = by (active net holds) refl
-  where
-    by : (o : Option (List ℕ)) → active net holds ≡ o → IsRoute (length net.regs.items) (unwrap_or o [])
-    by None e = tt
-    by (Some met) e = trace_route net holds w (length net.regs.items + length net.muxes.items) net.out met w.output e
-
-pub route_in : (net : Net) (holds s : Holds) → IsNet net → AreHolds net s → IsRoute (length s) (route_of net holds)
-route_in net holds s w h = subst (λ n. IsRoute n (route_of net holds)) (sym (as_many_held net s h)) (route_is net holds w)
+use Rattle.net_graph.proofs.Routes.{route_in}
 
 -- ---- every path has room
 

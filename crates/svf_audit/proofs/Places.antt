@@ -2,7 +2,7 @@
 use Rattle.std.proofs.Common.{◌≡◌, ℕ, zero, suc, ◌+◌, ◌<◌, ◌≤◌, ◌==◌, inl, inr, Bool, true, false, List, [], ◌∷◌, ◌++◌, length, get_or, drop, map, refl, sym, ap, ◌∙◌, subst, arith}
 use Rattle.std.specs.Prelude.{◌&&◌, ◌||◌, filter, cond}
 use Rattle.std.specs.List.{list_any}
-use Rattle.std.proofs.lemmas.Bool.{cases_lt, eq-eqb, false≢true, or_left, or_right}
+use Rattle.std.proofs.lemmas.Bool.{cases_lt, eq-eqb, false≢true, or_left, or_right, or_parts}
 use Rattle.std.proofs.lemmas.List.{get_or_append_left, get_or-append-add, map-append}
 use Rattle.std.proofs.lemmas.List.Folds.{list_any-append}
 use Rattle.net_graph.specs.declared.net.BitId.{BitId}
@@ -16,10 +16,6 @@ use Rattle.svf_audit.specs.Audit.{bits_on}
 
 pub place_of : (a b : BitId) → a.reg ≡ b.reg → a.pos ≡ b.pos → same_place a b ≡ true
 place_of a b r p = ap (λ t. t && (a.pos == b.pos)) (eq-eqb a.reg b.reg r) ∙ eq-eqb a.pos b.pos p
-
-pub or_none : (a b : Bool) → (a || b) ≡ false → (a ≡ false) × (b ≡ false)
-or_none true b e = absurd (false≢true (sym e))
-or_none false b e = (refl, e)
 
 -- any bit
 abbrev pub first : BitId
@@ -62,7 +58,7 @@ pub off_path : (s : Holds) (path : List ℕ) (b : BitId) → b.pos < length (bit
 off_path s [] b l e = tt
 off_path s (r ∷ rs) b l e =
     let w = length (bits_at s r) in
-    let parts = or_none (list_any (same_place b) (bits_from r 0 w)) (list_any (same_place b) (bits_on s rs)) (sym (list_any-append (same_place b) (bits_from r 0 w) (bits_on s rs)) ∙ e) in (
+    let parts = or_parts (list_any (same_place b) (bits_from r 0 w)) (list_any (same_place b) (bits_on s rs)) (sym (list_any-append (same_place b) (bits_from r 0 w) (bits_on s rs)) ∙ e) in (
       λ same. false≢true (sym parts.0 ∙ in_register b r 0 w same (omega arith) (omega (arith, subst (λ q. b.pos < length (bits_at s q)) (sym same) l))),
       off_path s rs b l parts.1,
     )
@@ -70,10 +66,10 @@ off_path s (r ∷ rs) b l e =
 -- a test that some bit passes isn't passed by none
 pub passes : (p : BitId → Bool) (b : BitId) (xs : List BitId) → p b ≡ true → list_any p xs ≡ false → list_any (same_place b) xs ≡ false
 passes p b [] h e = refl
-passes p b (x ∷ xs) h e = by (same_place b x) refl (passes p b xs h (or_none (p x) (list_any p xs) e).1)
+passes p b (x ∷ xs) h e = by (same_place b x) refl (passes p b xs h (or_parts (p x) (list_any p xs) e).1)
   where
     by : (t : Bool) → same_place b x ≡ t → list_any (same_place b) xs ≡ false → list_any (same_place b) (x ∷ xs) ≡ false
-    by true s rest = absurd (false≢true (sym (or_none (p x) (list_any p xs) e).0 ∙ ap p (sym (place_is b x s)) ∙ h))
+    by true s rest = absurd (false≢true (sym (or_parts (p x) (list_any p xs) e).0 ∙ ap p (sym (place_is b x s)) ∙ h))
     by false s rest = ap (λ t. t || list_any (same_place b) xs) s ∙ rest
 
 -- a bit that passes stays where a list is filtered
@@ -84,11 +80,11 @@ filtered p b (x ∷ xs) h e = by (same_place b x) (p x) refl refl (filtered p b 
     by : (t u : Bool) → same_place b x ≡ t → p x ≡ u → (list_any (same_place b) (filter p xs) ≡ false → list_any (same_place b) xs ≡ false) → list_any (same_place b) (x ∷ xs) ≡ false
     by true true s k rest =
         let kept : list_any (same_place b) (x ∷ filter p xs) ≡ false = sym (ap (λ u. list_any (same_place b) (cond u (x ∷ filter p xs) (filter p xs))) k) ∙ e in
-        absurd (false≢true (sym (or_none (same_place b x) (list_any (same_place b) (filter p xs)) kept).0 ∙ s))
+        absurd (false≢true (sym (or_parts (same_place b x) (list_any (same_place b) (filter p xs)) kept).0 ∙ s))
     by true false s k rest = absurd (false≢true (sym k ∙ ap p (sym (place_is b x s)) ∙ h))
     by false true s k rest =
         let kept : list_any (same_place b) (x ∷ filter p xs) ≡ false = sym (ap (λ u. list_any (same_place b) (cond u (x ∷ filter p xs) (filter p xs))) k) ∙ e in
-        ap (λ t. t || list_any (same_place b) xs) s ∙ rest (or_none (same_place b x) (list_any (same_place b) (filter p xs)) kept).1
+        ap (λ t. t || list_any (same_place b) xs) s ∙ rest (or_parts (same_place b x) (list_any (same_place b) (filter p xs)) kept).1
     by false false s k rest =
         ap (λ t. t || list_any (same_place b) xs) s ∙ rest (sym (ap (λ u. list_any (same_place b) (cond u (x ∷ filter p xs) (filter p xs))) k) ∙ e)
 

@@ -93,11 +93,6 @@ pub taken_one : (before now : List Bool) (k : ℕ) (v : Bool) → k < length bef
 taken_one before now k v l m is e =
     take_more_set before k v l ∙ ap (λ xs. xs ++ v ∷ []) e ∙ ap (λ x. take k now ++ x ∷ []) is ∙ sym (take_more now k false m)
 
-pub any_default : {A : Type 0} (xs : List A) (k : ℕ) (d e : A) → k < length xs → get_or xs k d ≡ get_or xs k e
-any_default [] k d e l = absurd (omega (arith, l))
-any_default (x ∷ xs) zero d e l = refl
-any_default (x ∷ xs) (suc k) d e l = any_default xs k d e (omega (arith, l))
-
 -- where nothing changes over some positions
 pub skips_all : (n : ℕ) (bits : List BitId) (before now : List Bool) → take n before ≡ take n now → n ≤ length bits → n ≤ length before → n ≤ length now → differing bits before now ≡ differing (drop n bits) (drop n before) (drop n now)
 skips_all zero bits before now e l m k = refl

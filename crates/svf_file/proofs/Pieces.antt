@@ -1,12 +1,13 @@
 -- What a file holds after a piece more, and with the next piece behind it.
 use Rattle.std.specs.Option.{option_map}
 use Rattle.std.specs.Prelude.{unwrap_or}
-use Rattle.std.proofs.Common.{◌≡◌, ◌⊎◌, inl, inr, ⊎_elim, ℕ, zero, suc, ◌+◌, Option, Some, None, List, [], ◌∷◌, ◌++◌, length, take, drop, refl, sym, ap, ◌∙◌, subst, append_assoc, append-nil, arith}
+use Rattle.std.proofs.Common.{◌≡◌, ◌⊎◌, inl, inr, ⊎_elim, ℕ, zero, suc, ◌+◌, Option, Some, None, List, [], ◌∷◌, ◌++◌, length, take, drop, refl, sym, ap, ◌∙◌, append_assoc, append-nil}
 use Rattle.std.proofs.lemmas.List.{take-append-drop}
 use Rattle.ij_io.specs.Bytes.{Adds, AddsPart}
 use Rattle.ij_io.specs.Files.{Files, Grows, GrowsPart, bytes_of, file_at, told_bytes}
 use Rattle.svf_file.specs.Files.{HoldsPart}
 use Rattle.svf_file.specs.Pieces.{HoldsFront, IsThere, with_piece}
+use Rattle.std.proofs.lemmas.Option.{same_Some}
 
 -- ---- maps one after the other
 
@@ -78,12 +79,9 @@ grown_part old new name piece g there = ⊎_elim same more g.either
 
 -- ---- a piece that grows
 
-of_some : (a b : List ℕ) → Some a ≡ Some b → a ≡ b
-of_some a b e = cc
-
 pub piece_adds : (files : Option Files) (name before after more : List ℕ) → Adds (Some before) (Some after) more → Adds (with_piece files name before) (with_piece files name after) more
 piece_adds files name before after more a =
-    let e : after ≡ before ++ more = of_some after (before ++ more) a.added in
+    let e : after ≡ before ++ more = same_Some after (before ++ more) a.added in
     record {
       added =
           ap (with_piece files name) e
@@ -98,7 +96,7 @@ nothing files = option_map (λ _. []) files
 
 pub first_piece : (old new : Option Files) (name piece front : List ℕ) → Adds (Some []) (Some piece) front → file_at new name ≡ option_map (λ f. Some []) old → Adds (nothing old) (with_piece new name piece) front
 first_piece old new name piece front a e =
-    let same : piece ≡ front = of_some piece front a.added in
+    let same : piece ≡ front = same_Some piece front a.added in
     record { added = (begun old new name piece e).0 ∙ ap (λ p. option_map (λ (f : Files). p) old) same ∙ sym (both_maps (λ f. []) (λ bytes. bytes ++ front) old) }
 
 pub all_held : (old new : Option Files) (name bytes : List ℕ) → IsThere new name → Adds (nothing old) (told_bytes new name) bytes → file_at new name ≡ option_map (λ _. Some bytes) old
@@ -125,7 +123,7 @@ part_held (Some f) new name bytes text a h = some h.held h.there (sym h.front �
   where
     some : (held : Option (List ℕ)) → file_at new name ≡ option_map (λ b. Some b) held → option_map (λ b. b ++ h.rest) held ≡ Some (take a.count bytes) → HoldsPart (Some f) new name bytes
     some None t e = absurd cc
-    some (Some b) t e = inr (length b, t ∙ ap (λ x. Some (Some x)) (taken a.count bytes b h.rest (of_some (b ++ h.rest) (take a.count bytes) e)))
+    some (Some b) t e = inr (length b, t ∙ ap (λ x. Some (Some x)) (taken a.count bytes b h.rest (same_Some (b ++ h.rest) (take a.count bytes) e)))
 
 -- nothing is begun, or an empty file
 pub begin_part : (old new : Option Files) (name bytes : List ℕ) → ((file_at new name ≡ file_at old name) ⊎ (file_at new name ≡ option_map (λ f. Some []) old)) → HoldsPart old new name bytes

@@ -1,12 +1,11 @@
 -- Written hexadecimal digits and decimal numbers are read again.
-use Rattle.std.proofs.Common.{◌≡◌, ℕ, zero, suc, ◌+◌, ◌-◌, ◌*◌, ◌/◌, ◌%◌, ◌^◌, ◌<◌, ◌≤◌, Bool, true, false, not, cond, List, [], ◌∷◌, ◌++◌, length, take, drop, replicate, refl, ap, sym, ◌∙◌, arith, append_assoc, Option, Some, None, nat_lt, nat_le, decimal}
+use Rattle.std.proofs.Common.{◌≡◌, ℕ, zero, suc, ◌+◌, ◌-◌, ◌*◌, ◌/◌, ◌%◌, ◌^◌, ◌<◌, ◌≤◌, Bool, true, false, not, cond, List, [], ◌∷◌, ◌++◌, length, take, drop, replicate, refl, ap, sym, ◌∙◌, arith, append_assoc, Option, Some, None, nat_lt, nat_le, decimal, lit<}
 use Rattle.std.specs.Prelude.{◌==◌, ◌&&◌, ◌||◌}
 use Rattle.std.specs.List.{list_all}
 use Rattle.std.specs.Char.{is_ascii_digit, is_ascii_hexdigit}
 use Rattle.std.proofs.lemmas.Bool.Decides.{nat_tests}
 use Rattle.std.proofs.lemmas.List.{take_at, drop_at, length-take}
-use Rattle.std.proofs.Math.Nat.{pow-suc}
-use Rattle.std.proofs.lemmas.Nat.{pow_pos}
+use Rattle.std.proofs.Math.Nat.{pow-le-pow_right}
 use Rattle.std.proofs.lemmas.Fmt.{decimal_by_steps, length-decimal-le, decimal_nonempty}
 use Rattle.ij_bits.specs.BitLists.{bits_of, number_of, has_one}
 use Rattle.ij_bits.specs.Hex.{hex_code, hex_digit}
@@ -16,6 +15,7 @@ use Rattle.svf_reader.specs.Commands.{number_from, number}
 use Rattle.ij_text.specs.Numbers.{hex_value as digit_value}
 use Rattle.svf_reader.specs.Values.{hex_bits, fitted, is_wide}
 use Rattle.svf_reader.proofs.Putting.{no_one}
+use Rattle.ij_bits.proofs.Hex.{number_of-lt}
 
 -- ---- bytes
 
@@ -86,14 +86,8 @@ abbrev pub hex_list : List Bool → ℕ → List ℕ
 hex_list bits zero = []
 hex_list bits (suc d) = hex_digit bits d ∷ hex_list bits d
 
-pub number_below : (bits : List Bool) (n : ℕ) → length bits ≤ n → number_of bits < 2 ^ n
-number_below [] n fits = pow_pos n
-number_below (b ∷ bits) zero fits = absurd (omega arith)
-number_below (true ∷ bits) (suc n) fits = omega (arith, number_below bits n (omega arith), pow-suc 2 n)
-number_below (false ∷ bits) (suc n) fits = omega (arith, number_below bits n (omega arith), pow-suc 2 n)
-
 pub four_below : (bits : List Bool) (d : ℕ) → number_of (take 4 (drop (4 * d) bits)) < 16
-four_below bits d = number_below (take 4 (drop (4 * d) bits)) 4 (omega (arith, length-take 4 (drop (4 * d) bits)))
+four_below bits d = number_of-lt (take 4 (drop (4 * d) bits)) 4 (omega (arith, length-take 4 (drop (4 * d) bits)))
 
 pub a_digit : (bits : List Bool) (d : ℕ) → IsDigit (hex_digit bits d) (number_of (take 4 (drop (4 * d) bits)))
 a_digit bits d = nibble (number_of (take 4 (drop (4 * d) bits))) (four_below bits d)
@@ -230,3 +224,6 @@ number_again n h =
     let at_most : nat_le (length (decimal n)) 10 ≡ true = grind (arith, nat_tests) in
     number_at (decimal n) true true true at_least at_most (all_digits (decimal n) is.bytes)
     ∙ ap (λ k. let o : Option ℕ = Some k in o) is.value
+
+pub hex_up_to : (i n : ℕ) → i ≤ n → 16 ^ i ≤ 16 ^ n
+hex_up_to i n h = pow-le-pow_right (lit< tt) h

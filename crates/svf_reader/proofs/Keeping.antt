@@ -3,14 +3,11 @@ use Rattle.std.proofs.Common.{◌≡◌, ℕ, Bool, true, false, cond, nat_le, L
 use Rattle.std.specs.Prelude.{◌||◌}
 use Rattle.std.specs.List.{list_any}
 use Rattle.std.specs.Str.{str_to_ascii_lowercase}
-use Rattle.std.proofs.lemmas.Slice.Eq.{bytes_eq-Decides}
 use Rattle.svf_reader.specs.declared.so_far.ReadSoFar.{ReadSoFar}
 use Rattle.svf_reader.specs.Texts.{words, runs, behind_word}
 use Rattle.svf_reader.specs.Meaning.{Cause, SvfSyntax, Step, if_parsed, unless_left_out, read_command}
 use Rattle.svf_reader.specs.Commands.{is_word, is_one_of, begins_with_length, begins_with_on, headers, end_states, left_out_names, any_is_one_of, is_left_out, left_out, command_of_words}
-
-bytes_are : (xs ys : List ℕ) → bytes_eq xs ys ≡ true → xs ≡ ys
-bytes_are xs ys e = (bytes_eq-Decides xs ys).0 e
+use Rattle.ij_text.proofs.Names.{bytes_are}
 
 -- whether a command is left out, by its first word in lower case
 abbrev left_lower : List ℕ → List ℕ → Bool

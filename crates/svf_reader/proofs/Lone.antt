@@ -1,6 +1,6 @@
 -- A text of hexadecimal digits alone is one word.
 use Rattle.std.proofs.Common.{◌≡◌, ◌≤◌, ℕ, zero, suc, Bool, true, false, List, [], ◌∷◌, ◌++◌, Option, Some, None, length, take, drop, refl, ap, sym, ◌∙◌, arith, append-nil}
-use Rattle.std.specs.Prelude.{◌&&◌, ◌==◌, cond}
+use Rattle.std.specs.Prelude.{◌==◌, cond}
 use Rattle.std.specs.List.{list_all}
 use Rattle.std.specs.Char.{is_ascii_hexdigit}
 use Rattle.std.proofs.lemmas.Bool.Decides.{nat_tests}
@@ -14,6 +14,7 @@ use Rattle.svf_reader.specs.Seen.{digits_of}
 use Rattle.svf_reader.proofs.Again.{AreInWord, word_cut, no_close}
 use Rattle.svf_reader.proofs.Lexing.{next_word_is}
 use Rattle.svf_reader.proofs.Passing.{no_gap_here}
+use Rattle.std.proofs.lemmas.Bool.{and_parts}
 
 record IsApart (b : ℕ) : Type 0 where
   blank : is_blank b ≡ false
@@ -23,21 +24,17 @@ record IsApart (b : ℕ) : Type 0 where
 apart : (b : ℕ) → is_ascii_hexdigit b ≡ true → IsApart b
 apart b h = record { blank = grind (arith, nat_tests); mark = grind (arith, nat_tests); comment = λ next. grind (arith, nat_tests) }
 
-both_true : (a b : Bool) → (a && b) ≡ true → (a ≡ true) × (b ≡ true)
-both_true true b h = (refl, h)
-both_true false b h = absurd (cc)
-
 digits_in_word : (w : List ℕ) → list_all is_ascii_hexdigit w ≡ true → AreInWord is_mark w
 digits_in_word [] h = tt
 digits_in_word (b ∷ bs) h =
-    let both = both_true (is_ascii_hexdigit b) (list_all is_ascii_hexdigit bs) h in
+    let both = and_parts (is_ascii_hexdigit b) (list_all is_ascii_hexdigit bs) h in
     let is = apart b both.0 in
     (is.blank, is.mark, digits_in_word bs both.1)
 
 digits_plain : (w : List ℕ) → list_all is_ascii_hexdigit w ≡ true → plain w ≡ w
 digits_plain [] h = refl
 digits_plain (b ∷ bs) h =
-    let both = both_true (is_ascii_hexdigit b) (list_all is_ascii_hexdigit bs) h in
+    let both = and_parts (is_ascii_hexdigit b) (list_all is_ascii_hexdigit bs) h in
     let is = apart b both.0 in
     ap (λ k. cond k 32 b ∷ plain_from k bs) (is.comment (first bs)) ∙ ap (λ (l : List ℕ). b ∷ l) (digits_plain bs both.1)
 
@@ -105,7 +102,7 @@ digits_word : (text : List ℕ) (n : ℕ) → n ≡ run_length Word false text �
 digits_word text zero is some all = absurd (omega arith)
 digits_word [] (suc m) is some all = absurd (omega arith)
 digits_word (b ∷ bs) (suc m) is some all =
-    let digit = (both_true (is_ascii_hexdigit b) (list_all is_ascii_hexdigit (take m bs)) all).0 in
+    let digit = (and_parts (is_ascii_hexdigit b) (list_all is_ascii_hexdigit (take m bs)) all).0 in
     let gap = no_gap_here (b ∷ bs) b refl (hex_ends b digit) in
     let long : suc m ≡ word_length (b ∷ bs) = is ∙ sym (ap (λ k. cond k 1 (run_length Word false (b ∷ bs))) (apart b digit).mark) in
     (next_word_is (b ∷ bs) (suc m) (omega arith) (sym gap) long).is

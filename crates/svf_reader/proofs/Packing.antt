@@ -8,6 +8,7 @@ use Rattle.ij_bits.specs.BitLists.{bits_of, number_of, has_one}
 use Rattle.svf_reader.specs.Values.{hex_bits, fitted, is_wide}
 use Rattle.svf_reader.proofs.Putting.{hex_bits-append, hex_length}
 use Rattle.svf_reader.proofs.Digits.{padded, padded_split, bits_again, high_bits}
+use Rattle.ij_bits.proofs.Hex.{number_zero}
 
 -- ---- exactly so many bits
 
@@ -48,15 +49,6 @@ has_one-append : (xs ys : List Bool) → has_one (xs ++ ys) ≡ (has_one xs || h
 has_one-append [] ys = refl
 has_one-append (true ∷ xs) ys = refl
 has_one-append (false ∷ xs) ys = has_one-append xs ys
-
-number_zero : (bs : List Bool) → not (number_of bs == 0) ≡ has_one bs
-number_zero [] = refl
-number_zero (true ∷ bs) = let some : ((1 + 2 * number_of bs) == 0) ≡ false = grind (arith, nat_tests) in ap not some
-number_zero (false ∷ bs) = let same : ((0 + 2 * number_of bs) == 0) ≡ (number_of bs == 0) = twice_zero (number_of bs) in ap not same ∙ number_zero bs
-  where
-    twice_zero : (n : ℕ) → ((0 + 2 * n) == 0) ≡ (n == 0)
-    twice_zero zero = refl
-    twice_zero (suc n) = grind (arith, nat_tests)
 
 -- ---- numbers of digits
 
@@ -158,10 +150,6 @@ wide_is k n all digits front last parts few is =
     ap has_one (sym (drop-drop n k all) ∙ ap (drop n) is)
     ∙ wide_at n digits front last (nat_lt (length last) 16) refl parts few
     ∙ ap (λ b. b || has_one (hex_bits front)) (above n (hex_bits last))
-
-pub length_bits : (n v : ℕ) → length (bits_of n v) ≡ n
-length_bits zero v = refl
-length_bits (suc n) v = ap suc (length_bits n (v / 2))
 
 -- the same of all bits
 pub word_wide : (n : ℕ) (digits front last : List ℕ) → InParts digits front last → n ≤ 64 → is_wide n (hex_bits digits) ≡ (not (number_of (hex_bits last) / 2 ^ n == 0) || has_one (hex_bits front))

@@ -1,5 +1,5 @@
 -- Bytes that a run passes without a second look.
-use Rattle.std.proofs.Common.{◌≡◌, ℕ, zero, suc, ◌+◌, ◌≤◌, Bool, true, false, not, List, [], ◌∷◌, length, take, drop, refl, ap, sym, ◌∙◌, arith}
+use Rattle.std.proofs.Common.{◌≡◌, ℕ, zero, suc, ◌+◌, ◌≤◌, true, false, not, List, [], ◌∷◌, length, take, drop, refl, ap, sym, ◌∙◌, arith}
 use Rattle.std.specs.Prelude.{◌==◌, ◌&&◌, ◌||◌}
 use Rattle.std.specs.List.{list_all}
 use Rattle.std.proofs.lemmas.Bool.Decides.{nat_tests}
@@ -10,6 +10,7 @@ use Rattle.svf_reader.specs.Texts.{first, opens}
 use Rattle.svf_reader.specs.Reading.{in_class, run_length}
 use Rattle.svf_reader.specs.Passed.{is_passed, is_end, ends_gap}
 use Rattle.svf_reader.proofs.Lexing.{run_on, run_stops}
+use Rattle.std.proofs.lemmas.Bool.{and_parts}
 
 -- ---- what opens no comment
 
@@ -33,17 +34,13 @@ passed_class Command b h = grind (arith, nat_tests)
 pub pass_one : (class : Class) (b : ℕ) (bs : List ℕ) → is_passed class b ≡ true → run_length class false (b ∷ bs) ≡ suc (run_length class false bs)
 pass_one class b bs h = run_on class false false (b ∷ bs) bs b refl (passed_opens class b (first bs) h) (passed_class class b h)
 
-pub both_of : (x y : Bool) → (x && y) ≡ true → (x ≡ true) × (y ≡ true)
-both_of true y h = (refl, h)
-both_of false y h = absurd (cc)
-
 pub pass_many : (class : Class) (k : ℕ) (text : List ℕ) → k ≤ length text → list_all (is_passed class) (take k text) ≡ true → run_length class false text ≡ k + run_length class false (drop k text)
 pass_many class zero text within h =
     let same : run_length class false text ≡ 0 + run_length class false text = omega arith in
     same
 pass_many class (suc k) [] within h = absurd (omega arith)
 pass_many class (suc k) (b ∷ bs) within h =
-    let both = both_of (is_passed class b) (list_all (is_passed class) (take k bs)) h in
+    let both = and_parts (is_passed class b) (list_all (is_passed class) (take k bs)) h in
     let here = pass_one class b bs both.0 in
     let more = pass_many class k bs (omega arith) both.1 in
     let all : run_length class false (b ∷ bs) ≡ suc k + run_length class false (drop k bs) = omega (arith, here, more) in

@@ -23,6 +23,7 @@ use Rattle.svf_reader.specs.Scripts.{again}
 use Rattle.svf_reader.proofs.Whole.{texts_some, read_more}
 use Rattle.svf_reader.proofs.Digits.{is_quiet, AreDecimal, decimal_written, number_again, hex_list, stands}
 use Rattle.svf_reader.proofs.Again.{AreQuiet, quiet_both, command_cut, AreInWord, word_cut, text_quiet, PartRead, text_read}
+use Rattle.std.proofs.lemmas.Bool.{and_parts}
 
 -- ---- a blank in front
 
@@ -73,13 +74,9 @@ unfolding read_command
 parsed_read kept body s none is =
     ap (unless_left_out kept true body) none ∙ ap (if_parsed kept) is
 
-both_true : (a b : Bool) → (a && b) ≡ true → (a ≡ true) × (b ≡ true)
-both_true true b h = (refl, h)
-both_true false b h = absurd (cc)
-
 pub quiet_by_test : (xs : List ℕ) → list_all is_quiet xs ≡ true → AreQuiet xs
 quiet_by_test [] h = tt
-quiet_by_test (b ∷ bs) h = let both = both_true (is_quiet b) (list_all is_quiet bs) h in (both.0, quiet_by_test bs both.1)
+quiet_by_test (b ∷ bs) h = let both = and_parts (is_quiet b) (list_all is_quiet bs) h in (both.0, quiet_by_test bs both.1)
 
 pub record Spelled (text : List ℕ) (s : SeenParsed) : Type 0 where
   pub body : List ℕ

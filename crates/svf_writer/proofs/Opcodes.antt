@@ -1,17 +1,15 @@
 -- Hexadecimal digits of a number's bits are those of the number, and short texts have no line feed.
-use Rattle.std.proofs.Common.{◌≡◌, ℕ, zero, suc, ◌+◌, ◌-◌, ◌*◌, ◌/◌, ◌%◌, ◌==◌, ◌^◌, ◌<◌, Bool, true, false, List, [], ◌∷◌, ◌++◌, length, take, drop, arith, refl, ap, sym, ◌∙◌, subst}
-use Rattle.std.proofs.Math.Nat.{pow-suc, div-one, zero-div}
+use Rattle.std.proofs.Common.{◌≡◌, ℕ, zero, suc, ◌+◌, ◌-◌, ◌*◌, ◌/◌, ◌%◌, ◌==◌, ◌^◌, ◌<◌, Bool, true, false, List, [], ◌∷◌, ◌++◌, take, drop, arith, ap, sym, ◌∙◌, subst}
+use Rattle.std.proofs.Math.Nat.{div-one, zero-div}
 use Rattle.std.proofs.lemmas.Nat.{shr-shr, pow_pos}
 use Rattle.std.proofs.lemmas.Bool.Decides.{nat_tests}
 use Rattle.ij_bits.specs.BitLists.{bits_of, number_of}
 use Rattle.ij_bits.specs.Hex.{hex_code, hex_digit}
 use Rattle.svf_writer.specs.Written.{hex_lines}
+use Rattle.ij_bits.proofs.Hex.{number_of-first, half_fits}
 
 half_again : (n d : ℕ) → n / 2 / 2 ^ d ≡ n / 2 ^ suc d
 half_again n d = let one : 1 + d ≡ suc d = omega arith in shr-shr n 1 d ∙ ap (λ k. n / 2 ^ k) one
-
-pub half_fits : (n w : ℕ) → n < 2 ^ suc w → n / 2 < 2 ^ w
-half_fits n w fits = omega (arith, pow-suc 2 w)
 
 -- the bits from d on are those of the number without its lowest d bits
 from_bit : (d w n : ℕ) → drop d (bits_of w n) ≡ bits_of (w - d) (n / 2 ^ d)
@@ -36,29 +34,22 @@ rest_fits (suc d) (suc w) n fits =
     let less : w - d ≡ suc w - suc d = omega arith in
     subst (λ (k : ℕ). n / 2 ^ suc d < 2 ^ k) less (subst (λ (k : ℕ). k < 2 ^ (w - d)) (half_again n d) (rest_fits d w (n / 2) (half_fits n w fits)))
 
-pub bits_of-length : (width n : ℕ) → length (bits_of width n) ≡ width
-bits_of-length zero n = refl
-bits_of-length (suc width) n = ap suc (bits_of-length width (n / 2))
-
-pub low_bit : (n : ℕ) (bits : List Bool) → number_of (((n % 2) == 1) ∷ bits) ≡ n % 2 + 2 * number_of bits
-low_bit n bits = grind (arith, nat_tests)
-
 -- the lowest k bits, of a number that fits its bits
 one_bit : (w n : ℕ) → n < 2 ^ w → number_of (take 1 (bits_of w n)) ≡ n % 2
 one_bit zero n fits = omega arith
-one_bit (suc w) n fits = low_bit n [] ∙ omega arith
+one_bit (suc w) n fits = number_of-first n [] ∙ omega arith
 
 two_bits : (w n : ℕ) → n < 2 ^ w → number_of (take 2 (bits_of w n)) ≡ n % 4
 two_bits zero n fits = omega arith
-two_bits (suc w) n fits = omega (arith, low_bit n (take 1 (bits_of w (n / 2))), one_bit w (n / 2) (half_fits n w fits))
+two_bits (suc w) n fits = omega (arith, number_of-first n (take 1 (bits_of w (n / 2))), one_bit w (n / 2) (half_fits n w fits))
 
 three_bits : (w n : ℕ) → n < 2 ^ w → number_of (take 3 (bits_of w n)) ≡ n % 8
 three_bits zero n fits = omega arith
-three_bits (suc w) n fits = omega (arith, low_bit n (take 2 (bits_of w (n / 2))), two_bits w (n / 2) (half_fits n w fits))
+three_bits (suc w) n fits = omega (arith, number_of-first n (take 2 (bits_of w (n / 2))), two_bits w (n / 2) (half_fits n w fits))
 
 four_bits : (w n : ℕ) → n < 2 ^ w → number_of (take 4 (bits_of w n)) ≡ n % 16
 four_bits zero n fits = omega arith
-four_bits (suc w) n fits = omega (arith, low_bit n (take 3 (bits_of w (n / 2))), three_bits w (n / 2) (half_fits n w fits))
+four_bits (suc w) n fits = omega (arith, number_of-first n (take 3 (bits_of w (n / 2))), three_bits w (n / 2) (half_fits n w fits))
 
 pub opcode_digit : (w n place : ℕ) → n < 2 ^ w → hex_digit (bits_of w n) place ≡ hex_code (n / 2 ^ (4 * place) % 16)
 opcode_digit w n place fits =

@@ -1,10 +1,8 @@
 -- Blocks and files whose lines aren't at fault say well formed models.
-use Rattle.std.proofs.Common.{◌≡◌, ◌≢◌, ℕ, zero, suc, ◌+◌, ◌-◌, ◌^◌, ◌<◌, ◌≤◌, Bool, true, false, not, cond, nat_le, nat_lt, List, [], ◌∷◌, ◌++◌, length, map, Option, Some, None, All, get_or, refl, ap, sym, ◌∙◌, subst, arith, append_assoc}
-use Rattle.std.specs.Prelude.{◌==◌, ◌||◌, IfSome, IfOk, is_some, unwrap_or, bit_and, Result, Ok, Err}
-use Rattle.std.specs.Str.{bytes_eq}
-use Rattle.std.proofs.lemmas.Bool.{eqb-true}
-use Rattle.std.proofs.lemmas.Bool.Decides.{nat_tests}
-use Rattle.std.proofs.lemmas.List.{length-map, length_push}
+use Rattle.std.proofs.Common.{◌≡◌, ℕ, zero, suc, ◌+◌, ◌-◌, ◌^◌, ◌<◌, ◌≤◌, Bool, true, false, not, cond, nat_le, nat_lt, List, [], ◌∷◌, ◌++◌, length, map, Option, Some, None, All, get_or, refl, ap, sym, ◌∙◌, subst, arith, append_assoc}
+use Rattle.std.specs.Prelude.{◌==◌, ◌||◌, IfSome, IfOk, is_some, unwrap_or, Result, Ok, Err}
+use Rattle.std.proofs.lemmas.Bool.{ltb-false, not-false}
+use Rattle.std.proofs.lemmas.List.{length-map, length_push, append-nil, map_push}
 use Rattle.std.proofs.lemmas.List.Elements.{All-nil, All-cons, All-head, All-tail, All-push, All-weaker}
 use Rattle.ij_bits.specs.Different.{AreDifferent}
 use Rattle.ij_bits.specs.Room.{Listed}
@@ -21,7 +19,7 @@ use Rattle.instruments.specs.declared.model.Amount.TheVariants.{Number as ANumbe
 use Rattle.instruments.specs.declared.model.Set.{Set}
 use Rattle.instruments.specs.Seen.{SeenWord, SeenMemory, SeenPort, SeenOut, SeenRow, SeenModel, seen_model}
 use Rattle.instruments.specs.After.{memory_width, width_of}
-use Rattle.instruments.specs.Models.{IsWidth, IsBelow, IsWord, IsMemory, IsOut, IsOperand, IsCond, IsSource, IsIndex, IsAmount, IsSlot, IsSet, IsRow, IsRunRow, IsModel, memory_names, names, word_width, operand_width}
+use Rattle.instruments.specs.Models.{IsWidth, IsBelow, IsWord, IsOut, IsOperand, IsCond, IsSource, IsIndex, IsAmount, IsSlot, IsSet, IsRow, IsRunRow, IsModel, memory_names, names, word_width, operand_width}
 use Rattle.table_lines.specs.Said.{SaidLine, Input, Word, Memory, Output, Change, Run, End, Starts, SaidRow, line, instrument, version}
 use Rattle.table_file.specs.declared.fault.TableFault.{TableFault}
 use Rattle.table_file.specs.declared.table.Table.{Table}
@@ -29,10 +27,11 @@ use Rattle.table_file.specs.declared.fault.TableFault.TheVariants.{TableSyntax, 
 use Rattle.table_file.specs.Tables.{SeenTable, seen_table, Block, Tables, stands_in, word_named, is_above, reset_above, starts_above, bounds_outside, no_width, name_fault, width_fault, limit_fault, with_line, out_said, row_said, rank, empty, after_line, line_said, block_line, table_of, has_table, new_block, no_tables, is_end, put_block, next_line, at_end, and_then, read_lines, behind_head, from_head, tables}
 use Rattle.table_file.specs.Answers.{GivesTable, seen_tables}
 use Rattle.table_file.specs.Formed.{TablesAreModels}
-use Rattle.table_file.proofs.Naming.{first_false, second_false, is_true, one_more_name, map_push, there}
+use Rattle.table_file.proofs.Naming.{one_more_name, there}
 use Rattle.table_file.proofs.SaidRows.{IsSaidLine, said_line}
 use Rattle.table_file.proofs.FormedRows.{formed_row, formed_run}
-use Rattle.table_file.proofs.Within.{less, at_most}
+use Rattle.table_file.proofs.Within.{less}
+use Rattle.ij_bits.proofs.Tests.{or_left_false, or_right_false}
 
 -- ---- rows speak of words, memory and inputs alone
 
@@ -105,8 +104,8 @@ none_of P xs none = subst (All P) (sym none) (All-nil P)
 
 a_width : (width : ℕ) → no_width width ≡ false → IsWidth width
 a_width width h = record {
-  some = positive width (first_false (width == 0) (nat_lt 64 width) h);
-  few = at_most 64 width (second_false (width == 0) (nat_lt 64 width) h);
+  some = positive width (or_left_false (width == 0) (nat_lt 64 width) h);
+  few = ltb-false 64 width (or_right_false (width == 0) (nat_lt 64 width) h);
 }
   where
     positive : (n : ℕ) → (n == 0) ≡ false → 1 ≤ n
@@ -115,7 +114,7 @@ a_width width h = record {
 
 starts_below : (width : ℕ) (s : Starts) → starts_above width s ≡ false → IsBelow width s.init × IfSome s.reset (IsBelow width)
 starts_below width s h =
-    (less (2 ^ width) s.init (first_false (is_above width s.init) (reset_above width s.reset) h), reset s.reset (second_false (is_above width s.init) (reset_above width s.reset) h))
+    (less (2 ^ width) s.init (or_left_false (is_above width s.init) (reset_above width s.reset) h), reset s.reset (or_right_false (is_above width s.init) (reset_above width s.reset) h))
   where
     reset : (o : Option ℕ) → reset_above width o ≡ false → IfSome o (IsBelow width)
     reset None h = tt
@@ -137,26 +136,23 @@ record IsFree (b : Block) (l : SaidLine) : Type 0 where
   width : width_fault b.model l ≡ false
   limit : limit_fault b.model l ≡ false
 
-below_rank : (r n : ℕ) → nat_lt r n ≡ false → n ≤ r
-below_rank r n h = at_most r n h
-
 with_input : (b : Block) (name : List ℕ) (width : ℕ) → IsFormed b → IsFree b (Input name width) → IsModel (with_line b.model (Input name width))
 with_input b name width h f =
     let m = b.model in
     let port : SeenPort = record { name = name; width = width } in
     let new = with_line m (Input name width) in
-    let first : b.rank ≤ 0 = below_rank 0 b.rank f.order in
+    let first : b.rank ≤ 0 = ltb-false 0 b.rank f.order in
     let others = map (λ d. d.name) m.words ++ memory_names m.memory in
     let put = one_more_name (map (λ d. d.name) m.ins) others name h.model.names f.name in
     let same : names new ≡ map (λ d. d.name) m.ins ++ name ∷ others = ap (λ l. l ++ others) (map_push (λ (d : SeenPort). d.name) m.ins port) ∙ append_assoc (map (λ d. d.name) m.ins) (name ∷ []) others in
     record {
       few_words = h.model.few_words;
-      few_ins = omega (arith, length_push m.ins port, less 16 (length m.ins) (second_false (no_width width) (nat_le 16 (length m.ins)) f.limit));
+      few_ins = omega (arith, length_push m.ins port, less 16 (length m.ins) (or_right_false (no_width width) (nat_le 16 (length m.ins)) f.limit));
       few_outs = h.model.few_outs;
       few_rows = h.model.few_rows;
       words = h.model.words;
       memory = h.model.memory;
-      ins = All-push (λ d. IsWidth d.width) m.ins port h.model.ins (a_width width (first_false (no_width width) (nat_le 16 (length m.ins)) f.limit));
+      ins = All-push (λ d. IsWidth d.width) m.ins port h.model.ins (a_width width (or_left_false (no_width width) (nat_le 16 (length m.ins)) f.limit));
       outs = none_of (IsOut new) m.outs (h.outs (omega (arith, first)));
       change = none_of (IsRow new) m.change (h.change (omega (arith, first)));
       run = none_of (IsRow new) m.run (h.run (omega (arith, first)));
@@ -170,7 +166,7 @@ with_word b name width s h f =
     let m = b.model in
     let word : SeenWord = record { name = name; width = width; init = s.init; reset = s.reset } in
     let new = with_line m (Word name width s) in
-    let early : b.rank ≤ 1 = below_rank 1 b.rank f.order in
+    let early : b.rank ≤ 1 = ltb-false 1 b.rank f.order in
     let ins = map (λ d. d.name) m.ins in
     let words = map (λ d. d.name) m.words in
     let memory = memory_names m.memory in
@@ -180,12 +176,12 @@ with_word b name width s h f =
     ap (λ l. ins ++ (l ++ memory)) (map_push (λ (d : SeenWord). d.name) m.words word) ∙ ap (λ l. ins ++ l) (append_assoc words (name ∷ []) memory) ∙ sym (append_assoc ins words (name ∷ memory)) in
     let below = starts_below width s f.width in
     record {
-      few_words = omega (arith, length_push m.words word, less 8 (length m.words) (second_false (no_width width) (nat_le 8 (length m.words)) f.limit));
+      few_words = omega (arith, length_push m.words word, less 8 (length m.words) (or_right_false (no_width width) (nat_le 8 (length m.words)) f.limit));
       few_ins = h.model.few_ins;
       few_outs = h.model.few_outs;
       few_rows = h.model.few_rows;
       words = All-push IsWord m.words word h.model.words
-          (record { width = a_width width (first_false (no_width width) (nat_le 8 (length m.words)) f.limit); init = below.0; reset = below.1 });
+          (record { width = a_width width (or_left_false (no_width width) (nat_le 8 (length m.words)) f.limit); init = below.0; reset = below.1 });
       memory = h.model.memory;
       ins = h.model.ins;
       outs = none_of (IsOut new) m.outs (h.outs (omega (arith, early)));
@@ -204,12 +200,12 @@ with_memory : (b : Block) (name : List ℕ) (depth width : ℕ) (s : Starts) →
 with_memory b name depth width s h f =
     let m = b.model in
     let new = with_line m (Memory name depth width s) in
-    let early : b.rank ≤ 2 = below_rank 2 b.rank f.order in
+    let early : b.rank ≤ 2 = ltb-false 2 b.rank f.order in
     let ins = map (λ d. d.name) m.ins in
     let words = map (λ d. d.name) m.words in
-    let deep = second_false (no_width width) (depth == 0 || (nat_lt 256 depth || is_some m.memory)) f.limit in
-    let bounded = second_false (depth == 0) (nat_lt 256 depth || is_some m.memory) deep in
-    let none = no_memory m.memory (second_false (nat_lt 256 depth) (is_some m.memory) bounded) in
+    let deep = or_right_false (no_width width) (depth == 0 || (nat_lt 256 depth || is_some m.memory)) f.limit in
+    let bounded = or_right_false (depth == 0) (nat_lt 256 depth || is_some m.memory) deep in
+    let none = no_memory m.memory (or_right_false (nat_lt 256 depth) (is_some m.memory) bounded) in
     let old : names m ≡ (ins ++ words) ++ [] = ap (λ l. ins ++ (words ++ l)) none ∙ sym (append_assoc ins words []) in
     let put = one_more_name (ins ++ words) [] name (subst AreDifferent old h.model.names) (ap (stands_in name) (sym old) ∙ f.name) in
     let same : names new ≡ (ins ++ words) ++ name ∷ [] = sym (append_assoc ins words (name ∷ [])) in
@@ -221,9 +217,9 @@ with_memory b name depth width s h f =
       few_rows = h.model.few_rows;
       words = h.model.words;
       memory = record {
-        some = positive depth (first_false (depth == 0) (nat_lt 256 depth || is_some m.memory) deep);
-        few = at_most 256 depth (first_false (nat_lt 256 depth) (is_some m.memory) bounded);
-        width = a_width width (first_false (no_width width) (depth == 0 || (nat_lt 256 depth || is_some m.memory)) f.limit);
+        some = positive depth (or_left_false (depth == 0) (nat_lt 256 depth || is_some m.memory) deep);
+        few = ltb-false 256 depth (or_left_false (nat_lt 256 depth) (is_some m.memory) bounded);
+        width = a_width width (or_left_false (no_width width) (depth == 0 || (nat_lt 256 depth || is_some m.memory)) f.limit);
         init = below.0;
         reset = below.1;
       };
@@ -260,27 +256,23 @@ new_out m n name word None same some h =
 new_out m n name word (Some b) same some h =
     let k = unwrap_or (word_named m word) 0 in
     let width : word_width m k ≡ word_width n k = ap (λ (l : List SeenWord). get_or (map (λ d. d.width) l) k 0) same in
-    let left = less (word_width m k) b.0 (first_false (nat_le (word_width m k) b.0) (nat_lt b.0 b.1) h) in
-    record { within = omega (arith, left, width); order = at_most b.0 b.1 (second_false (nat_le (word_width m k) b.0) (nat_lt b.0 b.1) h) }
+    let left = less (word_width m k) b.0 (or_left_false (nat_le (word_width m k) b.0) (nat_lt b.0 b.1) h) in
+    record { within = omega (arith, left, width); order = ltb-false b.0 b.1 (or_right_false (nat_le (word_width m k) b.0) (nat_lt b.0 b.1) h) }
 
 out_name : (m : SeenModel) (name word : List ℕ) (bounds : Option (ℕ × ℕ)) → (out_said m name word bounds).name ≡ name
 out_name m name word None = refl
 out_name m name word (Some b) = refl
-
-append_nothing : {A : Type 0} (xs : List A) → xs ++ [] ≡ xs
-append_nothing [] = refl
-append_nothing (x ∷ xs) = ap (λ l. x ∷ l) (append_nothing xs)
 
 with_output : (b : Block) (name : List ℕ) (s : Slice) → IsFormed b → IsFree b (Output name s) → IsModel (with_line b.model (Output name s))
 with_output b name s h f =
     let m = b.model in
     let out = out_said m name s.word s.bounds in
     let new = with_line m (Output name s) in
-    let early : b.rank ≤ 3 = below_rank 3 b.rank f.order in
+    let early : b.rank ≤ 3 = ltb-false 3 b.rank f.order in
     let taken = map (λ d. d.name) m.outs in
-    let known = is_true (is_some (word_named m s.word)) (second_false (stands_in name taken) (not (is_some (word_named m s.word))) f.name) in
-    let fresh = first_false (stands_in name taken) (not (is_some (word_named m s.word))) f.name in
-    let nothing = append_nothing taken in
+    let known = not-false (is_some (word_named m s.word)) (or_right_false (stands_in name taken) (not (is_some (word_named m s.word))) f.name) in
+    let fresh = or_left_false (stands_in name taken) (not (is_some (word_named m s.word))) f.name in
+    let nothing = append-nil taken in
     let put = one_more_name taken [] name (subst AreDifferent (sym nothing) h.model.out_names) (ap (stands_in name) nothing ∙ fresh) in
     let same : map (λ d. d.name) new.outs ≡ taken ++ name ∷ [] = map_push (λ (d : SeenOut). d.name) m.outs out ∙ ap (λ (l : List ℕ). taken ++ l ∷ []) (out_name m name s.word s.bounds) in
     record {
@@ -344,7 +336,7 @@ with_run b r said h f =
 
 formed_after : (b : Block) (l : SaidLine) → IsSaidLine l → IsFormed b → IsFree b l → IsFormed (record b { rank = rank l; model = with_line b.model l })
 formed_after b (Input name width) said h f =
-    let first : b.rank ≤ 0 = below_rank 0 b.rank f.order in
+    let first : b.rank ≤ 0 = ltb-false 0 b.rank f.order in
     record {
       model = with_input b name width h f;
       outs = λ k. h.outs (omega (arith, first));
@@ -352,7 +344,7 @@ formed_after b (Input name width) said h f =
       run = λ k. h.run (omega (arith, first));
     }
 formed_after b (Word name width s) said h f =
-    let early : b.rank ≤ 1 = below_rank 1 b.rank f.order in
+    let early : b.rank ≤ 1 = ltb-false 1 b.rank f.order in
     record {
       model = with_word b name width s h f;
       outs = λ k. h.outs (omega (arith, early));
@@ -360,7 +352,7 @@ formed_after b (Word name width s) said h f =
       run = λ k. h.run (omega (arith, early));
     }
 formed_after b (Memory name depth width s) said h f =
-    let early : b.rank ≤ 2 = below_rank 2 b.rank f.order in
+    let early : b.rank ≤ 2 = ltb-false 2 b.rank f.order in
     record {
       model = with_memory b name depth width s h f;
       outs = λ k. h.outs early;
@@ -368,7 +360,7 @@ formed_after b (Memory name depth width s) said h f =
       run = λ k. h.run (omega (arith, early));
     }
 formed_after b (Output name s) said h f =
-    let early : b.rank ≤ 3 = below_rank 3 b.rank f.order in
+    let early : b.rank ≤ 3 = ltb-false 3 b.rank f.order in
     record {
       model = with_output b name s h f;
       outs = λ k. absurd (omega (arith, k));
@@ -376,7 +368,7 @@ formed_after b (Output name s) said h f =
       run = λ k. h.run (omega (arith, early));
     }
 formed_after b (Change r) said h f =
-    let early : b.rank ≤ 4 = below_rank 4 b.rank f.order in
+    let early : b.rank ≤ 4 = ltb-false 4 b.rank f.order in
     record {
       model = with_change b r said h f;
       outs = λ k. absurd (omega (arith, k));

@@ -1,11 +1,10 @@
 -- Rows that aren't at fault are well formed.
-use Rattle.std.proofs.Common.{◌≡◌, ◌≢◌, ℕ, zero, suc, ◌+◌, ◌-◌, ◌*◌, ◌/◌, ◌%◌, ◌^◌, ◌<◌, ◌≤◌, Bool, true, false, not, cond, nat_le, nat_lt, List, [], ◌∷◌, ◌++◌, length, map, Option, Some, None, All, get_or, refl, ap, sym, ◌∙◌, subst, arith}
+use Rattle.std.proofs.Common.{◌≡◌, ◌≢◌, ℕ, zero, suc, ◌+◌, ◌-◌, ◌*◌, ◌/◌, ◌^◌, ◌<◌, ◌≤◌, Bool, true, false, not, cond, List, [], ◌∷◌, length, map, Option, Some, None, All, get_or, refl, ap, sym, ◌∙◌, subst, arith}
 use Rattle.std.specs.Prelude.{◌==◌, ◌||◌, Contains, IfSome, is_some, option_map, unwrap_or, bit_and, min, if◌then◌else◌}
 use Rattle.std.specs.Int.{bit_at}
 use Rattle.std.specs.List.{list_any}
 use Rattle.std.specs.Str.{bytes_eq}
-use Rattle.std.proofs.lemmas.Bool.{eqb-true}
-use Rattle.std.proofs.lemmas.Bool.Decides.{nat_tests}
+use Rattle.std.proofs.lemmas.Bool.{eqb-true, not-false}
 use Rattle.std.proofs.lemmas.List.{length-map}
 use Rattle.std.proofs.lemmas.List.Elements.{All-nil, All-cons, All-head, All-tail}
 use Rattle.std.proofs.lemmas.List.FromFn.{length-map-range_with_len}
@@ -15,17 +14,17 @@ use Rattle.ij_bits.specs.Different.{AreDifferent}
 use Rattle.ij_bits.proofs.Hex.{number_of-lt}
 use Rattle.ij_text.specs.Numbers.{Written, InDecimal, InBits, bits_in}
 use Rattle.bench_lines.specs.Words.{is_one, value_in, care_in}
-use Rattle.instruments.specs.declared.model.Operand.{Operand}
-use Rattle.instruments.specs.declared.model.Operand.TheVariants.{Word as AWord, Input as AnInput, Old}
-use Rattle.instruments.specs.declared.model.Set.{Set}
+use Rattle.instruments.specs.declared.model.Operand.TheVariants.{Old}
 use Rattle.instruments.specs.Seen.{SeenMemory, SeenModel}
 use Rattle.instruments.specs.After.{memory_width, width_of}
-use Rattle.instruments.specs.Models.{memory_names, operand_width, IsOperand, IsPresent, IsCond, IsSource, IsIndex, IsAmount, IsSlot, IsNoCopy, IsSet, IsRow, IsRunRow, target}
+use Rattle.instruments.specs.Models.{memory_names, IsOperand, IsPresent, IsCond, IsSource, IsIndex, IsAmount, IsSlot, IsNoCopy, IsSet, IsRow, IsRunRow, target}
 use Rattle.table_lines.specs.Said.{SaidCond, SaidEntry, SaidSlot, ToWord, ToEntry, SaidAmount, Number, Copy, Plus, Minus, FromEntry, SaidSet, SaidRow}
 use Rattle.table_file.specs.Tables.{stands_in, has_twice, word_named, input_named, is_memory, word_or_input, operand_named, cond_operand, known, operand_of, name_width, cond_width, cond_said, slot_said, amount_said, set_said, row_said, no_operand, no_entry, no_slot, no_amount, target as said_target, row_names, is_above, slot_width, amount_width, row_widths}
-use Rattle.table_file.proofs.Naming.{same_name, equal_names, first_false, second_false, is_true, IsNumber, number_of_name, there}
+use Rattle.table_file.proofs.Naming.{IsNumber, number_of_name, there}
 use Rattle.table_file.proofs.SaidRows.{IsSaidSet, IsSaidRow}
 use Rattle.table_file.proofs.Within.{less}
+use Rattle.ij_text.proofs.Names.{bytes_are, bytes_same}
+use Rattle.ij_bits.proofs.Tests.{or_left_false, or_right_false}
 
 -- ---- the number of a condition
 
@@ -131,7 +130,7 @@ module _ (m : SeenModel) where
 
   one_cond : (c : SaidCond) → not (is_some (cond_operand m c)) ≡ false → IsCond m (cond_said m c)
   one_cond c h = record {
-    of = cond_there c.old c.name (is_true (is_some (cond_operand m c)) h);
+    of = cond_there c.old c.name (not-false (is_some (cond_operand m c)) h);
     care = care_fits (cond_width m c) c.number;
     value = value_counts (cond_width m c) c.number;
   }
@@ -139,8 +138,8 @@ module _ (m : SeenModel) where
   all_conds : (cs : List SaidCond) → list_any (λ c. not (is_some (cond_operand m c))) cs ≡ false → All (IsCond m) (map (cond_said m) cs)
   all_conds [] h = All-nil (IsCond m)
   all_conds (c ∷ cs) h =
-      let here = first_false (not (is_some (cond_operand m c))) (list_any (λ c. not (is_some (cond_operand m c))) cs) h in
-      let rest = second_false (not (is_some (cond_operand m c))) (list_any (λ c. not (is_some (cond_operand m c))) cs) h in
+      let here = or_left_false (not (is_some (cond_operand m c))) (list_any (λ c. not (is_some (cond_operand m c))) cs) h in
+      let rest = or_right_false (not (is_some (cond_operand m c))) (list_any (λ c. not (is_some (cond_operand m c))) cs) h in
       All-cons (IsCond m) (cond_said m c) (map (cond_said m) cs) (one_cond c here) (all_conds cs rest)
 
   cond_present : (old : Bool) (name : List ℕ) → old ≡ false → IsPresent (known (cond old (option_map Old (input_named m name)) (operand_named m name)))
@@ -161,13 +160,13 @@ module _ (m : SeenModel) where
 
   index : (e : SaidEntry) → no_entry m e ≡ false → IsIndex m (operand_of m e.index)
   index e h = record {
-    there = operand_there e.index (is_true (is_some (operand_named m e.index)) (second_false (not (is_memory m e.memory)) (no_operand m e.index) h));
+    there = operand_there e.index (not-false (is_some (operand_named m e.index)) (or_right_false (not (is_memory m e.memory)) (no_operand m e.index) h));
     present = operand_present e.index;
-    memory = memory_there m.memory e.memory (is_true (is_memory m e.memory) (first_false (not (is_memory m e.memory)) (no_operand m e.index) h));
+    memory = memory_there m.memory e.memory (not-false (is_memory m e.memory) (or_left_false (not (is_memory m e.memory)) (no_operand m e.index) h));
   }
 
   one_slot : (s : SaidSlot) → no_slot m s ≡ false → IsSlot m (slot_said m s)
-  one_slot (ToWord name) h = word_there name (is_true (is_some (word_named m name)) h)
+  one_slot (ToWord name) h = word_there name (not-false (is_some (word_named m name)) h)
   one_slot (ToEntry e) h = index e h
 
   same_width : (s : SaidSlot) → slot_width m s ≡ width_of m (slot_said m s)
@@ -176,19 +175,19 @@ module _ (m : SeenModel) where
 
   source : (width : ℕ) (name : List ℕ) → no_operand m name ≡ false → not (name_width m name == width) ≡ false → IsSource m width (operand_of m name)
   source width name h w = record {
-    there = operand_there name (is_true (is_some (operand_named m name)) h);
+    there = operand_there name (not-false (is_some (operand_named m name)) h);
     present = operand_present name;
-    as_wide = eqb-true (name_width m name) width (is_true (name_width m name == width) w);
+    as_wide = eqb-true (name_width m name) width (not-false (name_width m name == width) w);
   }
 
   one_amount : (width : ℕ) (a : SaidAmount) → no_amount m a ≡ false → amount_width m width a ≡ false → IsAmount m width (amount_said m a)
   one_amount width (Number n) h w = less (2 ^ width) n w
   one_amount width (Copy name) h w = source width name h w
   one_amount width (Plus name n) h w =
-      (source width name h (first_false (not (name_width m name == width)) (is_above width n) w), less (2 ^ width) n (second_false (not (name_width m name == width)) (is_above width n) w))
+      (source width name h (or_left_false (not (name_width m name == width)) (is_above width n) w), less (2 ^ width) n (or_right_false (not (name_width m name == width)) (is_above width n) w))
   one_amount width (Minus name n) h w =
-      (source width name h (first_false (not (name_width m name == width)) (is_above width n) w), less (2 ^ width) n (second_false (not (name_width m name == width)) (is_above width n) w))
-  one_amount width (FromEntry e) h w = (index e h, eqb-true (memory_width m.memory) width (is_true (memory_width m.memory == width) w))
+      (source width name h (or_left_false (not (name_width m name == width)) (is_above width n) w), less (2 ^ width) n (or_right_false (not (name_width m name == width)) (is_above width n) w))
+  one_amount width (FromEntry e) h w = (index e h, eqb-true (memory_width m.memory) width (not-false (memory_width m.memory == width) w))
 
   no_copy : (s : SaidSlot) (a : SaidAmount) → IsSaidSet (record { slot = s; amount = a }) → IsNoCopy (slot_said m s) (amount_said m a)
   no_copy (ToWord name) (Number n) h = tt
@@ -204,9 +203,9 @@ module _ (m : SeenModel) where
 
   one_set : (x : SaidSet) → (no_slot m x.slot || no_amount m x.amount) ≡ false → amount_width m (slot_width m x.slot) x.amount ≡ false → IsSaidSet x → IsSet m (set_said m x)
   one_set x h w said = record {
-    slot = one_slot x.slot (first_false (no_slot m x.slot) (no_amount m x.amount) h);
+    slot = one_slot x.slot (or_left_false (no_slot m x.slot) (no_amount m x.amount) h);
     amount = subst (λ width. IsAmount m width (amount_said m x.amount)) (same_width x.slot)
-        (one_amount (slot_width m x.slot) x.amount (second_false (no_slot m x.slot) (no_amount m x.amount) h) w);
+        (one_amount (slot_width m x.slot) x.amount (or_right_false (no_slot m x.slot) (no_amount m x.amount) h) w);
     no_copy = no_copy x.slot x.amount said;
   }
 
@@ -220,14 +219,14 @@ module _ (m : SeenModel) where
   all_sets [] h w said = All-nil (IsSet m)
   all_sets (x ∷ xs) h w said =
       All-cons (IsSet m) (set_said m x) (map (set_said m) xs)
-      (one_set x (first_false (Unnamed x) (list_any Unnamed xs) h) (first_false (Unwide x) (list_any Unwide xs) w) (All-head IsSaidSet x xs said))
-      (all_sets xs (second_false (Unnamed x) (list_any Unnamed xs) h) (second_false (Unwide x) (list_any Unwide xs) w) (All-tail IsSaidSet x xs said))
+      (one_set x (or_left_false (Unnamed x) (list_any Unnamed xs) h) (or_left_false (Unwide x) (list_any Unwide xs) w) (All-head IsSaidSet x xs said))
+      (all_sets xs (or_right_false (Unnamed x) (list_any Unnamed xs) h) (or_right_false (Unwide x) (list_any Unwide xs) w) (All-tail IsSaidSet x xs said))
 
   -- ---- nothing is set twice
 
   only_name : (d : Option SeenMemory) (a b : List ℕ) → stands_in a (memory_names d) ≡ true → stands_in b (memory_names d) ≡ true → a ≡ b
   only_name None a b ha hb = absurd cc
-  only_name (Some d) a b ha hb = same_name a d.name (or_not (bytes_eq a d.name) ha) ∙ sym (same_name b d.name (or_not (bytes_eq b d.name) hb))
+  only_name (Some d) a b ha hb = bytes_are a d.name (or_not (bytes_eq a d.name) ha) ∙ sym (bytes_are b d.name (or_not (bytes_eq b d.name) hb))
     where
       or_not : (x : Bool) → (x || false) ≡ true → x ≡ true
       or_not true h = refl
@@ -241,12 +240,12 @@ module _ (m : SeenModel) where
       let names = map (λ d. d.name) m.words in
       let k = unwrap_or (word_named m x) 0 in
       let j = unwrap_or (word_named m y) 0 in
-      sym (there x names (is_true (is_some (word_named m x)) hs)).at ∙ ap (λ i. get_or names i []) (some_same k j e) ∙ (there y names (is_true (is_some (word_named m y)) ht)).at
+      sym (there x names (not-false (is_some (word_named m x)) hs)).at ∙ ap (λ i. get_or names i []) (some_same k j e) ∙ (there y names (not-false (is_some (word_named m y)) ht)).at
   same_target (ToWord x) (ToEntry y) a b hs ht e = absurd cc
   same_target (ToEntry x) (ToWord y) a b hs ht e = absurd cc
   same_target (ToEntry x) (ToEntry y) a b hs ht e =
-      only_name m.memory x.memory y.memory (is_true (is_memory m x.memory) (first_false (not (is_memory m x.memory)) (no_operand m x.index) hs))
-      (is_true (is_memory m y.memory) (first_false (not (is_memory m y.memory)) (no_operand m y.index) ht))
+      only_name m.memory x.memory y.memory (not-false (is_memory m x.memory) (or_left_false (not (is_memory m x.memory)) (no_operand m x.index) hs))
+      (not-false (is_memory m y.memory) (or_left_false (not (is_memory m y.memory)) (no_operand m y.index) ht))
 
   impossible : (b : Bool) → b ≡ true → b ≡ false → ⊥
   impossible true h k = absurd cc
@@ -256,21 +255,21 @@ module _ (m : SeenModel) where
       → Contains (map target (map (set_said m) ys)) (target (set_said m x)) → ⊥
   apart x [] hx hys out (k, lt, e) = absurd (omega (arith, lt))
   apart x (y ∷ ys) hx hys out (zero, lt, e) =
-      let hy = first_false (no_slot m y.slot) (no_amount m y.amount) (first_false (Unnamed y) (list_any Unnamed ys) hys) in
-      impossible (bytes_eq (said_target x.slot) (said_target y.slot)) (equal_names (said_target x.slot) (said_target y.slot) (same_target x.slot y.slot x.amount y.amount hx hy (sym e)))
-      (first_false (bytes_eq (said_target x.slot) (said_target y.slot)) (stands_in (said_target x.slot) (map (λ y. said_target y.slot) ys)) out)
+      let hy = or_left_false (no_slot m y.slot) (no_amount m y.amount) (or_left_false (Unnamed y) (list_any Unnamed ys) hys) in
+      impossible (bytes_eq (said_target x.slot) (said_target y.slot)) (bytes_same (said_target x.slot) (said_target y.slot) (same_target x.slot y.slot x.amount y.amount hx hy (sym e)))
+      (or_left_false (bytes_eq (said_target x.slot) (said_target y.slot)) (stands_in (said_target x.slot) (map (λ y. said_target y.slot) ys)) out)
   apart x (y ∷ ys) hx hys out (suc k, lt, e) =
-      apart x ys hx (second_false (Unnamed y) (list_any Unnamed ys) hys)
-      (second_false (bytes_eq (said_target x.slot) (said_target y.slot)) (stands_in (said_target x.slot) (map (λ y. said_target y.slot) ys)) out) (k, omega (arith, lt), e)
+      apart x ys hx (or_right_false (Unnamed y) (list_any Unnamed ys) hys)
+      (or_right_false (bytes_eq (said_target x.slot) (said_target y.slot)) (stands_in (said_target x.slot) (map (λ y. said_target y.slot) ys)) out) (k, omega (arith, lt), e)
 
   once : (xs : List SaidSet) → list_any Unnamed xs ≡ false → has_twice (map (λ x. said_target x.slot) xs) ≡ false → AreDifferent (map target (map (set_said m) xs))
   once [] h twice = tt
   once (x ∷ xs) h twice =
       let names = map (λ y. said_target y.slot) xs in
-      let hx = first_false (no_slot m x.slot) (no_amount m x.amount) (first_false (Unnamed x) (list_any Unnamed xs) h) in
-      let rest = second_false (Unnamed x) (list_any Unnamed xs) h in (
-        apart x xs hx rest (first_false (stands_in (said_target x.slot) names) (has_twice names) twice),
-        once xs rest (second_false (stands_in (said_target x.slot) names) (has_twice names) twice),
+      let hx = or_left_false (no_slot m x.slot) (no_amount m x.amount) (or_left_false (Unnamed x) (list_any Unnamed xs) h) in
+      let rest = or_right_false (Unnamed x) (list_any Unnamed xs) h in (
+        apart x xs hx rest (or_left_false (stands_in (said_target x.slot) names) (has_twice names) twice),
+        once xs rest (or_right_false (stands_in (said_target x.slot) names) (has_twice names) twice),
       )
 
   -- ---- rows
@@ -284,13 +283,13 @@ module _ (m : SeenModel) where
       let no_conds = list_any (λ c. not (is_some (cond_operand m c))) r.conds in
       let unnamed = list_any Unnamed r.sets in
       let twice = has_twice (map (λ x. said_target x.slot) r.sets) in
-      let more = second_false no_conds (unnamed || twice) h in
-      let named = first_false unnamed twice more in
+      let more = or_right_false no_conds (unnamed || twice) h in
+      let named = or_left_false unnamed twice more in
       record {
-        conds = all_conds r.conds (first_false no_conds (unnamed || twice) h);
-        sets = all_sets r.sets named (second_false _ (list_any Unwide r.sets) w) said.sets;
+        conds = all_conds r.conds (or_left_false no_conds (unnamed || twice) h);
+        sets = all_sets r.sets named (or_right_false _ (list_any Unwide r.sets) w) said.sets;
         does = some_set r.sets said.does;
-        once = once r.sets named (second_false unnamed twice more);
+        once = once r.sets named (or_right_false unnamed twice more);
       }
 
   pub formed_run : (r : SaidRow) → IsSaidRow false r → IsRunRow (row_said m r)

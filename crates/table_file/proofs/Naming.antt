@@ -1,59 +1,33 @@
 -- Names that stand in a list, and lists in which none stands twice.
-use Rattle.std.proofs.Common.{◌≡◌, ◌⊎◌, inl, inr, ℕ, zero, suc, ◌+◌, ◌-◌, ◌<◌, ◌≤◌, Bool, true, false, not, cond, List, [], ◌∷◌, ◌++◌, length, map, Option, Some, None, get_or, refl, ap, sym, ◌∙◌, subst, arith, append_assoc}
-use Rattle.std.specs.Prelude.{◌||◌, Contains, IfSome, is_some, unwrap_or}
-use Rattle.std.specs.List.{list_any}
+use Rattle.std.proofs.Common.{◌≡◌, ◌⊎◌, inl, inr, ℕ, zero, suc, ◌+◌, ◌-◌, ◌<◌, ◌≤◌, Bool, true, false, cond, List, [], ◌∷◌, ◌++◌, length, Option, Some, None, get_or, refl, ap, sym, ◌∙◌, arith}
+use Rattle.std.specs.Prelude.{Contains, IfSome, is_some, unwrap_or}
 use Rattle.std.specs.Str.{bytes_eq}
-use Rattle.std.proofs.lemmas.Slice.Eq.{bytes_eq-Decides}
 use Rattle.std.proofs.lemmas.List.Elements.{Contains-append_left, Contains-append_right, Contains-append_cases}
 use Rattle.ij_bits.specs.Different.{AreDifferent}
-use Rattle.table_file.specs.Tables.{named_from, named, stands_in, has_twice}
-
-pub same_name : (a b : List ℕ) → bytes_eq a b ≡ true → a ≡ b
-same_name a b h = (bytes_eq-Decides a b).0 h
-
-pub equal_names : (a b : List ℕ) → a ≡ b → bytes_eq a b ≡ true
-equal_names a b h = (bytes_eq-Decides a b).1 h
-
-true_not_false : (b : Bool) → b ≡ true → b ≡ false → ⊥
-true_not_false true h k = absurd cc
-true_not_false false h k = absurd cc
-
-pub first_false : (a b : Bool) → (a || b) ≡ false → a ≡ false
-first_false true b h = h
-first_false false b h = refl
-
-pub second_false : (a b : Bool) → (a || b) ≡ false → b ≡ false
-second_false true b h = absurd cc
-second_false false b h = h
-
-pub is_true : (b : Bool) → not b ≡ false → b ≡ true
-is_true true h = refl
-is_true false h = absurd cc
+use Rattle.table_file.specs.Tables.{named_from, named, stands_in}
+use Rattle.ij_bits.proofs.Tests.{not_both, or_left_false, or_right_false}
+use Rattle.ij_text.proofs.Names.{bytes_are, bytes_same}
 
 -- ---- a name that doesn't stand there
 
 pub not_there : (n : List ℕ) (xs : List (List ℕ)) → stands_in n xs ≡ false → Contains xs n → ⊥
 not_there n [] h (k, lt, e) = absurd (omega (arith, lt))
-not_there n (x ∷ xs) h (zero, lt, e) = true_not_false (bytes_eq n x) (equal_names n x (sym e)) (first_false (bytes_eq n x) (stands_in n xs) h)
-not_there n (x ∷ xs) h (suc k, lt, e) = not_there n xs (second_false (bytes_eq n x) (stands_in n xs) h) (k, omega (arith, lt), e)
+not_there n (x ∷ xs) h (zero, lt, e) = not_both (bytes_eq n x) (bytes_same n x (sym e)) (or_left_false (bytes_eq n x) (stands_in n xs) h)
+not_there n (x ∷ xs) h (suc k, lt, e) = not_there n xs (or_right_false (bytes_eq n x) (stands_in n xs) h) (k, omega (arith, lt), e)
 
 -- one more name, at any place
 pub one_more_name : (xs ys : List (List ℕ)) (n : List ℕ) → AreDifferent (xs ++ ys) → stands_in n (xs ++ ys) ≡ false → AreDifferent (xs ++ n ∷ ys)
 one_more_name [] ys n h out = (not_there n ys out, h)
 one_more_name (x ∷ xs) ys n h out =
-    ((λ c. elsewhere (Contains-append_cases xs (n ∷ ys) x c)), one_more_name xs ys n h.1 (second_false (bytes_eq n x) (stands_in n (xs ++ ys)) out))
+    ((λ c. elsewhere (Contains-append_cases xs (n ∷ ys) x c)), one_more_name xs ys n h.1 (or_right_false (bytes_eq n x) (stands_in n (xs ++ ys)) out))
   where
     behind : Contains (n ∷ ys) x → ⊥
-    behind (zero, lt, e) = true_not_false (bytes_eq n x) (equal_names n x e) (first_false (bytes_eq n x) (stands_in n (xs ++ ys)) out)
+    behind (zero, lt, e) = not_both (bytes_eq n x) (bytes_same n x e) (or_left_false (bytes_eq n x) (stands_in n (xs ++ ys)) out)
     behind (suc k, lt, e) = h.0 (Contains-append_right xs ys x (k, omega (arith, lt), e))
 
     elsewhere : (Contains xs x ⊎ Contains (n ∷ ys) x) → ⊥
     elsewhere (inl c) = h.0 (Contains-append_left xs ys x c)
     elsewhere (inr c) = behind c
-
-pub map_push : {A B : Type 0} (f : A → B) (xs : List A) (x : A) → map f (xs ++ x ∷ []) ≡ map f xs ++ f x ∷ []
-map_push f [] x = refl
-map_push f (y ∷ ys) x = ap (λ l. f y ∷ l) (map_push f ys x)
 
 -- ---- the number of a name
 
@@ -69,7 +43,7 @@ record IsNumberFrom (j : ℕ) (name : List ℕ) (list : List (List ℕ)) (k : �
 
 number_from : (j : ℕ) (name : List ℕ) (list : List (List ℕ)) → IfSome (named_from j name list) (IsNumberFrom j name list)
 number_from j name [] = tt
-number_from j name (x ∷ xs) = one (bytes_eq name x) (named_from (j + 1) name xs) (same_name name x) (number_from (j + 1) name xs)
+number_from j name (x ∷ xs) = one (bytes_eq name x) (named_from (j + 1) name xs) (bytes_are name x) (number_from (j + 1) name xs)
   where
     later : (k : ℕ) → IsNumberFrom (j + 1) name xs k → IsNumberFrom j name (x ∷ xs) k
     later k h =

@@ -1,6 +1,6 @@
 -- Paths by their texts.
 use Rattle.std.proofs.Common.{◌≡◌, ℕ, suc, ◌+◌, Bool, true, false, not, cond, List, [], ◌∷◌, length, map, Option, Some, None, nat_lt, refl, ap, sym, ◌∙◌, arith, position}
-use Rattle.std.specs.Prelude.{◌==◌, ◌&&◌, ◌||◌, is_some, Result, Ok, Err}
+use Rattle.std.specs.Prelude.{◌==◌, ◌&&◌, ◌||◌, is_some, Ok, Err}
 use Rattle.std.specs.List.{list_any, position_or_len}
 use Rattle.std.specs.Str.{bytes_eq}
 use Rattle.std.proofs.lemmas.Bool.Decides.{nat_tests}
@@ -9,7 +9,8 @@ use Rattle.ij_text.specs.declared.Place.{Place}
 use Rattle.ij_text.specs.Parts.{in_front, split}
 use Rattle.instruments.specs.Seen.{SeenModel}
 use Rattle.table_file.specs.declared.fault.TableFault.TheVariants.{TableTwice}
-use Rattle.table_file.specs.Tables.{SeenTable, Block, same_path, has_table, new_block, empty}
+use Rattle.table_file.specs.Tables.{SeenTable, same_path, has_table, new_block, empty}
+use Rattle.std.proofs.Math.Bool.{and_assoc}
 
 -- ---- the pieces of a text tell it
 
@@ -52,10 +53,6 @@ some_piece (b ∷ bs) = one (b == 46) (split 46 bs)
     one true ts = tt
     one false [] = tt
     one false (t ∷ ts) = tt
-
-and_assoc : (a b d : Bool) → ((a && b) && d) ≡ (a && (b && d))
-and_assoc true b d = refl
-and_assoc false b d = refl
 
 both_in_front : (x y : ℕ) (ss ts : List (List ℕ)) → IsSome ss → IsSome ts → same_path (in_front x ss) (in_front y ts) ≡ ((x == y) && same_path ss ts)
 both_in_front x y [] ts no_ss some = absurd no_ss

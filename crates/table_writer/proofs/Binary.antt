@@ -1,10 +1,10 @@
 -- Numbers with x, read again.
-use Rattle.std.proofs.Common.{◌≡◌, ◌≢◌, ℕ, zero, suc, ◌-◌, ◌/◌, ◌%◌, ◌^◌, ◌<◌, ◌≤◌, Bool, true, false, cond, List, [], ◌∷◌, ◌++◌, codes, Option, Some, None, length, map, get_or, nat_le, nat_lt, refl, ap, sym, ◌∙◌, arith, rules}
+use Rattle.std.proofs.Common.{◌≡◌, ◌≢◌, ℕ, zero, suc, ◌-◌, ◌/◌, ◌%◌, ◌^◌, ◌<◌, ◌≤◌, Bool, true, false, cond, List, [], ◌∷◌, ◌++◌, codes, Option, Some, None, length, map, get_or, nat_le, refl, ap, sym, ◌∙◌, arith, rules}
 use Rattle.std.specs.Prelude.{◌==◌, ◌&&◌, ◌||◌, bit_and, is_some, decimal}
 use Rattle.std.specs.List.{list_all, list_any}
 use Rattle.std.proofs.Math.ListN.{drop_of_length-le}
 use Rattle.std.proofs.Math.Nat.{mod-eq_of_lt}
-use Rattle.std.proofs.lemmas.Bool.{eqb-true}
+use Rattle.std.proofs.lemmas.Bool.{eqb-true, le-ltb, and_from}
 use Rattle.std.proofs.lemmas.Bool.Decides.{nat_tests}
 use Rattle.std.proofs.lemmas.Nat.{and_le_r, and_shr, and_mod}
 use Rattle.std.proofs.lemmas.List.FromFn.{fill_by_all}
@@ -13,8 +13,10 @@ use Rattle.ij_text.specs.Numbers.{Written, InDecimal, InBits, is_digit, digit_bi
 use Rattle.bench_lines.specs.Words.{is_too_wide, unless_too_wide, is_open, is_one, number as number_read, is_wide, value_in, care_in}
 use Rattle.bench_lines.proofs.Lows.{decimal_bits, known_bits}
 use Rattle.bench_file.specs.Written.{digit, digits, compared_text}
-use Rattle.table_writer.proofs.Lexed.{first_true, second_true, both_true, all_both, all_weaker, is_letter}
+use Rattle.table_writer.proofs.Lexed.{first_true, all_both, all_weaker, is_letter}
 use Rattle.table_writer.proofs.Named.{not_byte, said_digits, number_decimal, decimal_some, decimal_letters}
+use Rattle.ij_bits.proofs.Hex.{number_of-bits_of}
+use Rattle.ij_bits.proofs.Tests.{and_second}
 
 -- ---- digits and their bits
 
@@ -53,14 +55,14 @@ two_digit false false = refl
 all_two : (vs cs : List Bool) → list_all is_binary (digits vs cs) ≡ true
 all_two [] cs = refl
 all_two (v ∷ vs) [] = refl
-all_two (v ∷ vs) (c ∷ cs) = all_both is_binary (digits vs cs) (digit v c ∷ []) (all_two vs cs) (both_true (is_binary (digit v c)) true (two_digit v c) refl)
+all_two (v ∷ vs) (c ∷ cs) = all_both is_binary (digits vs cs) (digit v c ∷ []) (all_two vs cs) (and_from (is_binary (digit v c)) true (two_digit v c) refl)
 
 -- digits give their bits
 same_bits : (radix : _) (bs : List ℕ) → ((b : ℕ) → digit_bits radix b ≡ bit_said b ∷ []) → list_all is_binary bs ≡ true → text_bits radix bs ≡ bits_said bs
 same_bits radix [] own h = refl
 same_bits radix (b ∷ bs) own h =
     ap (λ k. text_bits radix bs ++ cond k [] (digit_bits radix b)) (not_byte is_binary 95 refl b (first_true (is_binary b) (list_all is_binary bs) h))
-    ∙ ap (λ l. text_bits radix bs ++ l) (own b) ∙ ap (λ l. l ++ bit_said b ∷ []) (same_bits radix bs own (second_true (is_binary b) (list_all is_binary bs) h))
+    ∙ ap (λ l. text_bits radix bs ++ l) (own b) ∙ ap (λ l. l ++ bit_said b ∷ []) (same_bits radix bs own (and_second (is_binary b) (list_all is_binary bs) h))
 
 said_bits : (radix : _) (ds : List ℕ) → ((b : ℕ) → is_digit radix b ≡ is_binary b) → ((b : ℕ) → digit_bits radix b ≡ bit_said b ∷ []) → ((t : List ℕ) → value_of radix t ≡ InBits (text_bits radix t))
     → ds ≢ [] → list_all is_binary ds ≡ true → said radix ds ≡ Some (InBits (bits_said ds))
@@ -86,7 +88,7 @@ digit_letter false false = refl
 all_letters : (vs cs : List Bool) → list_all is_letter (digits vs cs) ≡ true
 all_letters [] cs = refl
 all_letters (v ∷ vs) [] = refl
-all_letters (v ∷ vs) (c ∷ cs) = all_both is_letter (digits vs cs) (digit v c ∷ []) (all_letters vs cs) (both_true (is_letter (digit v c)) true (digit_letter v c) refl)
+all_letters (v ∷ vs) (c ∷ cs) = all_both is_letter (digits vs cs) (digit v c ∷ []) (all_letters vs cs) (and_from (is_letter (digit v c)) true (digit_letter v c) refl)
 
 last_some : (xs : List ℕ) (d : ℕ) → xs ++ d ∷ [] ≢ []
 last_some [] d = λ e. absurd cc
@@ -108,9 +110,6 @@ some_digits : (w v c : ℕ) → 1 ≤ w → digits (bits_of w v) (bits_of w c) �
 some_digits zero v c some = absurd (omega (arith, some))
 some_digits (suc w) v c some = last_some (digits (bits_of w (v / 2)) (bits_of w (c / 2))) (digit ((v % 2) == 1) ((c % 2) == 1))
 
-not_more : (m n : ℕ) → n ≤ m → nat_lt m n ≡ false
-not_more m n h = grind (arith, nat_tests)
-
 narrow_number : (o : Option Written) (w : Written) → o ≡ Some w → is_too_wide w ≡ false → unless_too_wide o ≡ Some w
 narrow_number o w is narrow = ap unless_too_wide is ∙ ap (λ k. cond k None (Some w)) narrow
 
@@ -120,7 +119,7 @@ number_open w v c some few =
     let short : length (open_bits (bits_of w v) (bits_of w c)) ≤ 4096 = omega (arith, few, open_long w v c) in
     narrow_number (number_of_text (open_text w v c)) (open_number w v c)
     (said_binary (digits (bits_of w v) (bits_of w c)) (some_digits w v c some) (all_two (bits_of w v) (bits_of w c)) ∙ ap (λ bits. Some (InBits bits)) (bits_back (bits_of w v) (bits_of w c)))
-    (not_more 4096 (length (open_bits (bits_of w v) (bits_of w c))) short)
+    (le-ltb 4096 (length (open_bits (bits_of w v) (bits_of w c))) short)
 
 open_letters : (w v c : ℕ) → list_all is_letter (open_text w v c) ≡ true
 open_letters w v c = all_both is_letter (codes "0b") (digits (bits_of w v) (bits_of w c)) refl (all_letters (bits_of w v) (bits_of w c))
@@ -167,20 +166,13 @@ value_bits (suc w) v c h =
     own true false within = absurd (let e = within refl in cc)
     own false false within = refl
 
-some_one : (bits : List Bool) → map is_one (map (λ bit. Some bit) bits) ≡ bits
-some_one [] = refl
-some_one (b ∷ bs) = ap (λ xs. b ∷ xs) (some_one bs)
-
-number_bits : (w n : ℕ) → n < 2 ^ w → number_of (bits_of w n) ≡ n
-number_bits w n small = ap number_of (sym (some_one (bits_of w n))) ∙ decimal_bits w n ∙ mod-eq_of_lt small
-
 pub open_value : (w v c : ℕ) → v < 2 ^ w → bit_and v c ≡ v → value_in w (open_number w v c) ≡ v
 unfolding value_in
-open_value w v c small h = ap (λ bits. number_of (map is_one bits)) (own_bits w v c) ∙ ap number_of (value_bits w v c h) ∙ number_bits w v small
+open_value w v c small h = ap (λ bits. number_of (map is_one bits)) (own_bits w v c) ∙ ap number_of (value_bits w v c h) ∙ number_of-bits_of w v small
 
 pub open_care : (w v c : ℕ) → c < 2 ^ w → care_in w (open_number w v c) ≡ c
 unfolding care_in
-open_care w v c small = ap (λ bits. number_of (map is_some bits)) (own_bits w v c) ∙ ap number_of (care_bits w v c) ∙ number_bits w c small
+open_care w v c small = ap (λ bits. number_of (map is_some bits)) (own_bits w v c) ∙ ap number_of (care_bits w v c) ∙ number_of-bits_of w c small
 
 -- ---- a number all bits of which count
 

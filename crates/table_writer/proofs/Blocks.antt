@@ -3,8 +3,7 @@ use Rattle.std.proofs.Common.{◌≡◌, ℕ, zero, suc, ◌+◌, ◌<◌, ◌�
 use Rattle.std.specs.Prelude.{IfSome, Result, Ok, Err, Contains}
 use Rattle.std.specs.List.{list_all, flat_map}
 use Rattle.std.specs.Str.{bytes_eq}
-use Rattle.std.proofs.lemmas.Bool.Decides.{nat_tests}
-use Rattle.std.proofs.lemmas.List.Elements.{All-nil, All-cons, All-head, All-tail, All-weaker, Contains-append_right}
+use Rattle.std.proofs.lemmas.List.Elements.{All-head, All-tail, All-weaker, Contains-append_right}
 use Rattle.ij_bits.specs.Different.{AreDifferent}
 use Rattle.ij_text.specs.declared.Place.{Place}
 use Rattle.ij_text.specs.Words.{is_name}
@@ -15,15 +14,18 @@ use Rattle.table_lines.specs.Said.{SaidLine, Input, Word, Memory, Change, Run, E
 use Rattle.table_file.specs.declared.fault.TableFault.{TableFault}
 use Rattle.table_file.specs.declared.fault.TableFault.TheVariants.{TableSyntax, TableName, TableWidth, TableLimit, TableTwice}
 use Rattle.table_file.specs.Tables.{SeenTable, Block, Tables, stands_in, name_fault, width_fault, limit_fault, with_line, rank, line_said, empty, same_path, has_table, new_block, is_end, put_block, and_then, read_lines, behind_head, from_head, tables}
-use Rattle.table_file.proofs.Naming.{same_name}
 use Rattle.bench_file.specs.Written.{input_text, word_text, memory_text, out_text, row_text, path_text, model_text, table_text, tables_text}
 use Rattle.table_writer.specs.Again.{IsName, HasNames, IsTable, without_place, AreReadAgain}
-use Rattle.table_writer.proofs.Lexed.{first_true, second_true, both_true, Reads, Always, IsLine, one_word, line_last, always_line, line_read}
+use Rattle.table_writer.proofs.Lexed.{first_true, Reads, Always, IsLine, one_word, line_last, always_line, line_read}
 use Rattle.table_writer.proofs.Joined.{IsPath, path_again, path_word}
-use Rattle.table_writer.proofs.Found.{neither, of_front, next_absent}
+use Rattle.table_writer.proofs.Found.{of_front, next_absent}
 use Rattle.table_writer.proofs.Conds.{IsNamed, named_model, at_index}
 use Rattle.table_writer.proofs.Rowed.{row_back, IsRowRead, row_read}
 use Rattle.table_writer.proofs.Taken.{IsTaken, input_taken, word_taken, memory_taken, out_back, out_taken, with_rows, row_said_as, change_taken, run_taken}
+use Rattle.std.proofs.lemmas.Bool.{le-ltb, and_from, or_from}
+use Rattle.ij_bits.proofs.Everywhere.{front_holds, middle_holds}
+use Rattle.ij_text.proofs.Names.{bytes_are}
+use Rattle.ij_bits.proofs.Tests.{and_second}
 
 -- ---- where reading stands
 
@@ -68,9 +70,6 @@ sooner a i j k m n less lead = λ p at end ts number kind rest h. lead p at end 
 
 -- ---- one line
 
-not_below : (m n : ℕ) → n ≤ m → nat_lt m n ≡ false
-not_below m n h = grind (arith, nat_tests)
-
 not_at_fault : {A : Type 0} (a b c d : Bool) (p q r s x : A) → a ≡ false → b ≡ false → c ≡ false → d ≡ false → cond a p (cond b q (cond c r (cond d s x))) ≡ x
 not_at_fault a b c d p q r s x ha hb hc hd = rw (ha, hb, hc, hd)
 
@@ -87,7 +86,7 @@ line_step m text l t goes_on = λ p at end ts number kind rest h.
           ∙ ap (λ o. and_then (put_block ts (line_said here b o)) (λ u. read_lines true end u (lines_from (suc number) (lines rest)))) t.says
           ∙ ap (λ o. and_then (put_block ts o) (λ u. read_lines true end u (lines_from (suc number) (lines rest))))
           (not_at_fault (nat_lt (rank l) kind) (name_fault m l) (width_fault m l) (limit_fault m l) (Err (TableSyntax here)) (Err (TableName here)) (Err (TableWidth here)) (Err (TableLimit here)) (Ok c)
-          (not_below (rank l) kind h) t.names t.widths t.limits)
+          (le-ltb (rank l) kind h) t.names t.widths t.limits)
           ∙ ap (λ k. and_then (cond k (Ok (between (ts ++ record { path = p; at = at; model = with_line m l } ∷ []))) (Ok (in_block ts c))) (λ u. read_lines true end u (lines_from (suc number) (lines rest)))) goes_on;
     }
 
@@ -101,14 +100,6 @@ list_leads text k model all step front (x ∷ xs) is =
     subst (λ l. Leads (text x ++ flat_map text xs) k k (model front) (model l)) (append_assoc front (x ∷ []) xs)
     (then (text x) (flat_map text xs) k k k (model front) (model (front ++ x ∷ [])) (model ((front ++ x ∷ []) ++ xs)) (step front x xs is)
     (list_leads text k model all step (front ++ x ∷ []) xs (append_assoc front (x ∷ []) xs ∙ is)))
-
-middle : {A : Type 0} (P : A → Type 0) (front : List A) (x : A) (back : List A) → All P (front ++ x ∷ back) → P x
-middle P [] x back all = All-head P x back all
-middle P (y ∷ ys) x back all = middle P ys x back (All-tail P y (ys ++ x ∷ back) all)
-
-front_all : {A : Type 0} (P : A → Type 0) (front back : List A) → All P (front ++ back) → All P front
-front_all P [] back all = All-nil P
-front_all P (y ∷ ys) back all = All-cons P y ys (All-head P y (ys ++ back) all) (front_all P ys back (All-tail P y (ys ++ back) all))
 
 shorter : {A : Type 0} (front : List A) (x : A) (back all : List A) (most : ℕ) → front ++ x ∷ back ≡ all → length all ≤ most → length front < most
 shorter front x back all most is few = omega (arith, ap length is, length-append front (x ∷ back), few)
@@ -152,8 +143,8 @@ module _ (m : SeenModel) (good : HasNames m) (h : IsModel m) where
   inputs_lead =
       list_leads input_text 0 (λ l. the_model l [] None [] [] []) m.ins
       (λ front x back is. line_step (the_model front [] None [] [] []) (input_text x) (Input x.name x.width)
-      (input_taken (the_model front [] None [] [] []) x (middle (λ d. IsName d.name) front x back (subst (All (λ d. IsName d.name)) (sym is) good.ins))
-      (middle (λ d. IsWidth d.width) front x back (subst (All (λ d. IsWidth d.width)) (sym is) h.ins))
+      (input_taken (the_model front [] None [] [] []) x (middle_holds (λ d. IsName d.name) front x back (subst (All (λ d. IsName d.name)) (sym is) good.ins))
+      (middle_holds (λ d. IsWidth d.width) front x back (subst (All (λ d. IsWidth d.width)) (sym is) h.ins))
       (fresh_input front x back (map (λ (d : SeenWord). d.name) m.words ++ memory_names m.memory) (subst (λ (l : List SeenPort). AreDifferent (map (λ d. d.name) l ++ (map (λ (d : SeenWord). d.name) m.words ++ memory_names m.memory))) (sym is) h.names))
       (shorter front x back m.ins 16 is h.few_ins)) refl) [] m.ins refl
 
@@ -161,8 +152,8 @@ module _ (m : SeenModel) (good : HasNames m) (h : IsModel m) where
   words_lead =
       list_leads word_text 1 (λ l. the_model m.ins l None [] [] []) m.words
       (λ front x back is. line_step (the_model m.ins front None [] [] []) (word_text x) (Word x.name x.width (record { init = x.init; reset = x.reset }))
-      (word_taken (the_model m.ins front None [] [] []) x (middle (λ d. IsName d.name) front x back (subst (All (λ d. IsName d.name)) (sym is) good.words))
-      (middle IsWord front x back (subst (All IsWord) (sym is) h.words))
+      (word_taken (the_model m.ins front None [] [] []) x (middle_holds (λ d. IsName d.name) front x back (subst (All (λ d. IsName d.name)) (sym is) good.words))
+      (middle_holds IsWord front x back (subst (All IsWord) (sym is) h.words))
       (fresh_word (map (λ (d : SeenPort). d.name) m.ins) front x back (memory_names m.memory) (subst (λ (l : List SeenWord). AreDifferent (map (λ (d : SeenPort). d.name) m.ins ++ (map (λ d. d.name) l ++ memory_names m.memory))) (sym is) h.names))
       (shorter front x back m.words 8 is h.few_words)) refl) [] m.words refl
 
@@ -179,9 +170,9 @@ module _ (m : SeenModel) (good : HasNames m) (h : IsModel m) where
       (λ front x back is.
       let n = the_model m.ins m.words m.memory front [] [] in
       let whole : All (λ d. IsName d.name) (front ++ x ∷ back) = subst (All (λ d. IsName d.name)) (sym is) good.outs in
-      let out : IsOut m x = middle (IsOut m) front x back (subst (All (IsOut m)) (sym is) h.outs) in
+      let out : IsOut m x = middle_holds (IsOut m) front x back (subst (All (IsOut m)) (sym is) h.outs) in
       let named : IsNamed n = record {
-        good = record { ins = good.ins; words = good.words; memory = good.memory; outs = front_all (λ d. IsName d.name) front (x ∷ back) whole };
+        good = record { ins = good.ins; words = good.words; memory = good.memory; outs = front_holds (λ d. IsName d.name) front (x ∷ back) whole };
         differ = h.names;
         words = h.words;
         ins = h.ins;
@@ -190,7 +181,7 @@ module _ (m : SeenModel) (good : HasNames m) (h : IsModel m) where
       let there = in_words x.word m.words out.within in
       subst (λ d. Leads (out_text m x) 3 3 n (the_model m.ins m.words m.memory (front ++ d ∷ []) [] [])) (out_back n named x there)
       (line_step n (out_text m x) _
-      (out_taken n named x (middle (λ d. IsName d.name) front x back whole) (record { within = out.within; order = out.order }) there (bits_within_limit x.word m.words h.words there)
+      (out_taken n named x (middle_holds (λ d. IsName d.name) front x back whole) (record { within = out.within; order = out.order }) there (bits_within_limit x.word m.words h.words there)
       (next_absent (map (λ (d : SeenOut). d.name) front) x.name (map (λ (d : SeenOut). d.name) back)
       (subst AreDifferent (map_parts (λ (d : SeenOut). d.name) front x back) (subst (λ (l : List SeenOut). AreDifferent (map (λ d. d.name) l)) (sym is) h.out_names)))
       (shorter front x back m.outs 16 is h.few_outs)) refl)) [] m.outs refl
@@ -209,7 +200,7 @@ module _ (m : SeenModel) (good : HasNames m) (h : IsModel m) where
   changes_lead =
       list_leads (row_text m (codes "change")) 4 (λ l. with_rows m l []) m.change
       (λ front x back is.
-      let read : IsRowRead m true (codes "change") x = row_read m (named_model m good h) true (codes "change") change_kind x (middle (IsRow m) front x back (subst (All (IsRow m)) (sym is) h.change)) (λ k d within. tt) in
+      let read : IsRowRead m true (codes "change") x = row_read m (named_model m good h) true (codes "change") change_kind x (middle_holds (IsRow m) front x back (subst (All (IsRow m)) (sym is) h.change)) (λ k d within. tt) in
       let less : length front < length m.change = shorter front x back m.change (length m.change) is (omega arith) in
       let few : length front + 0 < 64 = omega (arith, less, h.few_rows) in
       subst (λ (y : SeenRow). Leads (row_text m (codes "change") x) 4 4 (with_rows m front []) (with_rows m (front ++ y ∷ []) [])) (row_said_as m front [] (row_back m x) ∙ read.back)
@@ -219,8 +210,8 @@ module _ (m : SeenModel) (good : HasNames m) (h : IsModel m) where
   runs_lead =
       list_leads (row_text m (codes "run")) 5 (λ l. with_rows m m.change l) m.run
       (λ front x back is.
-      let present : IsRunRow x = middle IsRunRow front x back (subst (All IsRunRow) (sym is) h.runs) in
-      let read : IsRowRead m false (codes "run") x = row_read m (named_model m good h) false (codes "run") run_kind x (middle (IsRow m) front x back (subst (All (IsRow m)) (sym is) h.run)) present in
+      let present : IsRunRow x = middle_holds IsRunRow front x back (subst (All IsRunRow) (sym is) h.runs) in
+      let read : IsRowRead m false (codes "run") x = row_read m (named_model m good h) false (codes "run") run_kind x (middle_holds (IsRow m) front x back (subst (All (IsRow m)) (sym is) h.run)) present in
       let less : length front < length m.run = shorter front x back m.run (length m.run) is (omega arith) in
       let few : length m.change + length front < 64 = omega (arith, less, h.few_rows) in
       subst (λ (y : SeenRow). Leads (row_text m (codes "run") x) 5 5 (with_rows m m.change front) (with_rows m m.change (front ++ y ∷ []))) (row_said_as m m.change front (row_back m x) ∙ read.back)
@@ -250,7 +241,7 @@ module _ (m : SeenModel) (good : HasNames m) (h : IsModel m) where
 
 all_names : (ns : List (List ℕ)) → All IsName ns → list_all is_name ns ≡ true
 all_names [] all = refl
-all_names (n ∷ ns) all = both_true (is_name n) (list_all is_name ns) (All-head IsName n ns all) (all_names ns (All-tail IsName n ns all))
+all_names (n ∷ ns) all = and_from (is_name n) (list_all is_name ns) (All-head IsName n ns all) (all_names ns (All-tail IsName n ns all))
 
 instrument_word : Always (codes "instrument ") (codes "instrument" ∷ [])
 instrument_word = record { plain = refl; reads = λ rest. refl }
@@ -288,7 +279,7 @@ end_step p at kind m ts low end number rest =
     let more = lines_from (suc number) (lines rest) in
     ap (read_lines true end (in_block ts b)) (line_read (codes "end\n") (codes "end") [] end_line number rest)
     ∙ ap (λ (o : Option SaidLine). and_then (put_block ts (line_said here b o)) (λ u. read_lines true end u more)) end_said
-    ∙ ap (λ (k : Bool). and_then (put_block ts (cond k (Err (TableSyntax here)) (Ok (the_block p at 6 m)))) (λ u. read_lines true end u more)) (not_below 6 kind low)
+    ∙ ap (λ (k : Bool). and_then (put_block ts (cond k (Err (TableSyntax here)) (Ok (the_block p at 6 m)))) (λ u. read_lines true end u more)) (le-ltb 6 kind low)
 
 abbrev read_at : SeenTable → Place → SeenTable
 read_at t at = record { path = t.path; at = at; model = t.model }
@@ -325,7 +316,7 @@ equal_paths [] [] h = refl
 equal_paths [] (y ∷ ys) h = absurd cc
 equal_paths (x ∷ xs) [] h = absurd cc
 equal_paths (x ∷ xs) (y ∷ ys) h =
-    ap (λ z. z ∷ xs) (same_name x y (first_true (bytes_eq x y) (same_path xs ys) h)) ∙ ap (λ l. y ∷ l) (equal_paths xs ys (second_true (bytes_eq x y) (same_path xs ys) h))
+    ap (λ z. z ∷ xs) (bytes_are x y (first_true (bytes_eq x y) (same_path xs ys) h)) ∙ ap (λ l. y ∷ l) (equal_paths xs ys (and_second (bytes_eq x y) (same_path xs ys) h))
 
 other_path : (a b : List (List ℕ)) → (a ≡ b → ⊥) → same_path a b ≡ false
 other_path a b differ = one (same_path a b) refl
@@ -336,7 +327,7 @@ other_path a b differ = one (same_path a b) refl
 
 no_table : (p : List (List ℕ)) (ts : List SeenTable) → (Contains (map (λ t. t.path) ts) p → ⊥) → has_table p ts ≡ false
 no_table p [] none = refl
-no_table p (t ∷ ts) none = neither (same_path p t.path) (has_table p ts) (other_path p t.path (λ e. none (zero, omega arith, sym e))) (no_table p ts (λ c. none (one_further c)))
+no_table p (t ∷ ts) none = or_from (same_path p t.path) (has_table p ts) (other_path p t.path (λ e. none (zero, omega arith, sym e))) (no_table p ts (λ c. none (one_further c)))
   where
     one_further : Contains (map (λ t. t.path) ts) p → Contains (map (λ t. t.path) (t ∷ ts)) p
     one_further (k, lt, e) = (suc k, omega (arith, lt), e)

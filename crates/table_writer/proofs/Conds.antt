@@ -21,10 +21,11 @@ use Rattle.table_file.specs.Tables.{word_named, input_named, word_or_input, oper
 use Rattle.bench_file.specs.Written.{word_name, input_name, memory_name, operand_text, compared_text, cond_text}
 use Rattle.table_writer.specs.Pieces.{operand_name}
 use Rattle.table_writer.specs.Again.{IsName, HasNames}
-use Rattle.table_writer.proofs.Lexed.{both_true, is_letter, Reads, Always, Parts, join, behind, part, one_word}
+use Rattle.table_writer.proofs.Lexed.{is_letter, Reads, Always, Parts, join, behind, part, one_word}
 use Rattle.table_writer.proofs.Named.{name_word, name_letters}
 use Rattle.table_writer.proofs.Binary.{IsSaid, compared, compared_again}
 use Rattle.table_writer.proofs.Found.{other_text, of_front, of_back, in_one_part, no_number, number_found}
+use Rattle.std.proofs.lemmas.Bool.{and_from}
 
 -- what rows can name
 pub record IsNamed (m : SeenModel) : Type 0 where
@@ -145,12 +146,12 @@ cond_clean_of : (o : Operand) (name text : List ℕ) → is_name name ≡ true �
 cond_clean_of o name text good letters = one o (letters_no_comma name (name_letters name good)) (letters_no_comma text letters)
   where
     last : no_comma text ≡ true → list_all no_comma (text ∷ []) ≡ true
-    last t = both_true (no_comma text) true t refl
+    last t = and_from (no_comma text) true t refl
 
     one : (o : Operand) → no_comma name ≡ true → no_comma text ≡ true → list_all no_comma (cond_words_of o name text) ≡ true
-    one (Word k) n t = both_true (no_comma name) (list_all no_comma (text ∷ [])) n (last t)
-    one (Input k) n t = both_true (no_comma name) (list_all no_comma (text ∷ [])) n (last t)
-    one (Old k) n t = both_true (no_comma name) (list_all no_comma (text ∷ [])) n (last t)
+    one (Word k) n t = and_from (no_comma name) (list_all no_comma (text ∷ [])) n (last t)
+    one (Input k) n t = and_from (no_comma name) (list_all no_comma (text ∷ [])) n (last t)
+    one (Old k) n t = and_from (no_comma name) (list_all no_comma (text ∷ [])) n (last t)
 
 -- an input before the change is looked at in change rows alone
 abbrev pub MayLook : Bool → Operand → Type 0

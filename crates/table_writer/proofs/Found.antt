@@ -5,30 +5,24 @@ use Rattle.std.specs.Str.{bytes_eq}
 use Rattle.std.proofs.lemmas.List.Elements.{Contains-get_or, Contains-append_left, Contains-append_right}
 use Rattle.ij_bits.specs.Different.{AreDifferent}
 use Rattle.table_file.specs.Tables.{named_from, named, stands_in, has_twice}
-use Rattle.table_file.proofs.Naming.{same_name, equal_names}
-
-true_not_false : (b : Bool) → b ≡ true → b ≡ false → ⊥
-true_not_false true h k = absurd cc
-true_not_false false h k = absurd cc
+use Rattle.std.proofs.lemmas.Bool.{or_from}
+use Rattle.ij_bits.proofs.Tests.{not_both}
+use Rattle.ij_text.proofs.Names.{bytes_are, bytes_same}
 
 -- two texts, one with a property that the other lacks
 pub other_text : (p : List ℕ → Bool) (a b : List ℕ) → p a ≡ false → p b ≡ true → bytes_eq a b ≡ false
 other_text p a b off on = one (bytes_eq a b) refl
   where
     one : (same : Bool) → bytes_eq a b ≡ same → same ≡ false
-    one true is = absurd (true_not_false (p b) on (sym (ap p (same_name a b is)) ∙ off))
+    one true is = absurd (not_both (p b) on (sym (ap p (bytes_are a b is)) ∙ off))
     one false is = refl
 
 pub not_equal : (a b : List ℕ) → (a ≡ b → ⊥) → bytes_eq a b ≡ false
 not_equal a b differ = one (bytes_eq a b) refl
   where
     one : (same : Bool) → bytes_eq a b ≡ same → same ≡ false
-    one true is = absurd (differ (same_name a b is))
+    one true is = absurd (differ (bytes_are a b is))
     one false is = refl
-
-pub neither : (a b : Bool) → a ≡ false → b ≡ false → (a || b) ≡ false
-neither true b h k = absurd cc
-neither false b h k = k
 
 -- ---- parts of different ones
 
@@ -50,7 +44,7 @@ in_one_part (x ∷ xs) ys n h (suc k, lt, e) there = in_one_part xs ys n h.1 (k,
 pub absent : (n : List ℕ) (xs : List (List ℕ)) → (Contains xs n → ⊥) → stands_in n xs ≡ false
 absent n [] none = refl
 absent n (x ∷ xs) none =
-    neither (bytes_eq n x) (stands_in n xs) (not_equal n x (λ e. none (zero, omega arith, sym e))) (absent n xs (λ c. none (one_further c)))
+    or_from (bytes_eq n x) (stands_in n xs) (not_equal n x (λ e. none (zero, omega arith, sym e))) (absent n xs (λ c. none (one_further c)))
   where
     one_further : Contains xs n → Contains (x ∷ xs) n
     one_further (k, lt, e) = (suc k, omega (arith, lt), e)
@@ -81,7 +75,7 @@ found_from : (j k : ℕ) (xs : List (List ℕ)) → AreDifferent xs → k < leng
 found_from j k [] h within = absurd (omega (arith, within))
 found_from j zero (x ∷ xs) h within =
     let same : j ≡ j + 0 = omega arith in
-    ap (λ b. cond b (Some j) (named_from (j + 1) x xs)) (equal_names x x refl) ∙ ap (λ (n : ℕ). Some n) same
+    ap (λ b. cond b (Some j) (named_from (j + 1) x xs)) (bytes_same x x refl) ∙ ap (λ (n : ℕ). Some n) same
 found_from j (suc k) (x ∷ xs) h within =
     let inner : k < length xs = omega (arith, within) in
     let next : j + 1 + k ≡ j + suc k = omega arith in
@@ -95,4 +89,4 @@ number_found k xs h within = let none : 0 + k ≡ k = omega arith in found_from 
 
 pub none_twice : (xs : List (List ℕ)) → AreDifferent xs → has_twice xs ≡ false
 none_twice [] h = refl
-none_twice (x ∷ xs) h = neither (stands_in x xs) (has_twice xs) (absent x xs h.0) (none_twice xs h.1)
+none_twice (x ∷ xs) h = or_from (stands_in x xs) (has_twice xs) (absent x xs h.0) (none_twice xs h.1)

@@ -1,9 +1,9 @@
 -- What a text says has good names, and one table for a path.
-use Rattle.std.proofs.Common.{◌≡◌, ◌≢◌, ◌⊎◌, inl, inr, ℕ, zero, suc, Bool, true, false, cond, nat_lt, List, [], ◌∷◌, ◌++◌, map, codes, Option, Some, None, refl, ap, sym, ◌∙◌, subst, arith, All}
+use Rattle.std.proofs.Common.{◌≡◌, ◌≢◌, ℕ, zero, suc, Bool, true, false, cond, nat_lt, List, [], ◌∷◌, ◌++◌, map, codes, Option, Some, None, refl, ap, sym, ◌∙◌, subst, arith, All}
 use Rattle.std.specs.Prelude.{◌==◌, ◌&&◌, IfSome, IfOk, Result, Ok, Err, Contains}
 use Rattle.std.specs.List.{list_all}
 use Rattle.std.specs.Str.{bytes_eq}
-use Rattle.std.proofs.lemmas.List.Elements.{All-nil, All-cons, All-push, Contains-append_cases}
+use Rattle.std.proofs.lemmas.List.Elements.{All-nil, All-cons, All-push}
 use Rattle.ij_bits.specs.Different.{AreDifferent}
 use Rattle.ij_text.specs.declared.Place.{Place}
 use Rattle.ij_text.specs.Words.{is_name}
@@ -17,12 +17,15 @@ use Rattle.table_file.specs.declared.fault.TableFault.{TableFault}
 use Rattle.table_file.specs.declared.fault.TableFault.TheVariants.{TableSyntax, TableName, TableWidth, TableLimit, TableTwice}
 use Rattle.table_file.specs.Tables.{SeenTable, Block, Tables, with_line, out_said, name_fault, width_fault, limit_fault, rank, empty, line_said, block_line, table_of, same_path, has_table, new_block, no_tables, is_end, put_block, next_line, at_end, read_lines, behind_head, from_head, tables}
 use Rattle.table_file.proofs.FormedLines.{tables_formed, in_both, then}
-use Rattle.table_file.proofs.Naming.{equal_names, first_false, second_false, map_push}
 use Rattle.table_file.proofs.SaidRows.{of_cond as either, of_there as there}
 use Rattle.table_writer.specs.Again.{IsName, HasNames, AreWrittenBack}
-use Rattle.table_writer.proofs.Lexed.{first_true, second_true, both_true}
-use Rattle.table_writer.proofs.Named.{true_not_false}
+use Rattle.table_writer.proofs.Lexed.{first_true}
 use Rattle.table_writer.proofs.Blocks.{file_read}
+use Rattle.ij_bits.proofs.Different.{different_one}
+use Rattle.ij_text.proofs.Names.{bytes_same}
+use Rattle.ij_bits.proofs.Tests.{or_left_false, or_right_false, and_second, not_both}
+use Rattle.std.proofs.lemmas.List.{map_push}
+use Rattle.std.proofs.lemmas.Bool.{and_from}
 
 -- ---- names of lines
 
@@ -166,7 +169,7 @@ some_piece at (b ∷ bs) = one (b == at) (split at bs)
 
 all_names : (ns : List (List ℕ)) → list_all is_name ns ≡ true → All IsName ns
 all_names [] h = All-nil IsName
-all_names (n ∷ ns) h = All-cons IsName n ns (first_true (is_name n) (list_all is_name ns) h) (all_names ns (second_true (is_name n) (list_all is_name ns) h))
+all_names (n ∷ ns) h = All-cons IsName n ns (first_true (is_name n) (list_all is_name ns) h) (all_names ns (and_second (is_name n) (list_all is_name ns) h))
 
 path_named : (text : List ℕ) → IfSome (path_read text) IsNamedPath
 unfolding path_read
@@ -180,27 +183,12 @@ instrument_named ws = there IsNamedPath (instrument_text ws) path_read (λ text.
 
 own_path : (p : List (List ℕ)) → same_path p p ≡ true
 own_path [] = refl
-own_path (n ∷ ns) = both_true (bytes_eq n n) (same_path ns ns) (equal_names n n refl) (own_path ns)
+own_path (n ∷ ns) = and_from (bytes_eq n n) (same_path ns ns) (bytes_same n n refl) (own_path ns)
 
 not_there : (p : List (List ℕ)) (ts : List SeenTable) → has_table p ts ≡ false → Contains (map (λ t. t.path) ts) p → ⊥
 not_there p [] h (k, lt, e) = omega (arith, lt)
-not_there p (t ∷ ts) h (zero, lt, e) = true_not_false (same_path p t.path) (ap (same_path p) e ∙ own_path p) (first_false (same_path p t.path) (has_table p ts) h)
-not_there p (t ∷ ts) h (suc k, lt, e) = not_there p ts (second_false (same_path p t.path) (has_table p ts) h) (k, omega (arith, lt), e)
-
-nothing_in : {A : Type 0} (n : A) → Contains [] n → ⊥
-nothing_in n (k, lt, e) = omega (arith, lt)
-
-one_more_path : {A : Type 0} (xs : List A) (n : A) → AreDifferent xs → (Contains xs n → ⊥) → AreDifferent (xs ++ n ∷ [])
-one_more_path [] n h none = ((λ c. nothing_in n c), tt)
-one_more_path (x ∷ xs) n h none = ((λ c. elsewhere (Contains-append_cases xs (n ∷ []) x c)), one_more_path xs n h.1 (λ c. none (one_further c)))
-  where
-    one_further : Contains xs n → Contains (x ∷ xs) n
-    one_further (k, lt, e) = (suc k, omega (arith, lt), e)
-
-    elsewhere : (Contains xs x ⊎ Contains (n ∷ []) x) → ⊥
-    elsewhere (inl c) = h.0 c
-    elsewhere (inr (zero, lt, e)) = none (zero, omega arith, sym e)
-    elsewhere (inr (suc k, lt, e)) = omega (arith, lt)
+not_there p (t ∷ ts) h (zero, lt, e) = not_both (same_path p t.path) (ap (same_path p) e ∙ own_path p) (or_left_false (same_path p t.path) (has_table p ts) h)
+not_there p (t ∷ ts) h (suc k, lt, e) = not_there p ts (or_right_false (same_path p t.path) (has_table p ts) h) (k, omega (arith, lt), e)
 
 -- ---- files
 
@@ -234,7 +222,7 @@ block_put ts (Ok b) all h =
     (record {
       tables = record {
         all = All-push (λ t. IsNamedBlock t.path t.model) ts (table_of b) all.all h.own;
-        differ = subst AreDifferent (sym (map_push (λ (t : SeenTable). t.path) ts (table_of b))) (one_more_path (map (λ (t : SeenTable). t.path) ts) b.path all.differ h.fresh);
+        differ = subst AreDifferent (sym (map_push (λ (t : SeenTable). t.path) ts (table_of b))) (different_one (map (λ (t : SeenTable). t.path) ts) b.path all.differ h.fresh);
       };
       block = tt;
     }) (record { tables = all; block = h })

@@ -8,8 +8,10 @@ use Rattle.ij_text.specs.Parts.{in_front, split}
 use Rattle.ij_text.specs.Options.{both}
 use Rattle.bench_lines.specs.Words.{path, closed, named, opened, bracketed, two_names, entry, two_decimals, part_of, bounded, slice, decimal as decimal_read}
 use Rattle.bench_file.specs.Written.{path_text}
-use Rattle.table_writer.proofs.Lexed.{first_true, second_true, both_true, all_both, all_weaker, is_letter, Reads, one_word}
+use Rattle.table_writer.proofs.Lexed.{first_true, all_both, all_weaker, is_letter, Reads, one_word}
 use Rattle.table_writer.proofs.Named.{not_byte, name_bytes, name_some, name_letters, decimal_digits, decimal_letters, decimal_decimal}
+use Rattle.ij_bits.proofs.Tests.{and_second}
+use Rattle.std.proofs.lemmas.Bool.{and_from}
 
 -- ---- texts in pieces
 
@@ -19,7 +21,7 @@ is_other at b = not (b == at)
 
 pub no_cut : (at : ℕ) (a : List ℕ) → list_all (is_other at) a ≡ true → split at a ≡ a ∷ []
 no_cut at [] h = refl
-no_cut at (b ∷ bs) h = one (b == at) (first_true (is_other at b) (list_all (is_other at) bs) h) (no_cut at bs (second_true (is_other at b) (list_all (is_other at) bs) h))
+no_cut at (b ∷ bs) h = one (b == at) (first_true (is_other at b) (list_all (is_other at) bs) h) (no_cut at bs (and_second (is_other at b) (list_all (is_other at) bs) h))
   where
     one : (same : Bool) → not same ≡ true → split at bs ≡ bs ∷ [] → cond same ([] ∷ split at bs) (in_front b (split at bs)) ≡ (b ∷ bs) ∷ []
     one true k more = absurd cc
@@ -28,7 +30,7 @@ no_cut at (b ∷ bs) h = one (b == at) (first_true (is_other at b) (list_all (is
 pub first_cut : (at : ℕ) (a rest : List ℕ) → (at == at) ≡ true → list_all (is_other at) a ≡ true → split at (a ++ at ∷ rest) ≡ a ∷ split at rest
 first_cut at [] rest own h = ap (λ k. cond k ([] ∷ split at rest) (in_front at (split at rest))) own
 first_cut at (b ∷ bs) rest own h =
-    one (b == at) (first_true (is_other at b) (list_all (is_other at) bs) h) (first_cut at bs rest own (second_true (is_other at b) (list_all (is_other at) bs) h))
+    one (b == at) (first_true (is_other at b) (list_all (is_other at) bs) h) (first_cut at bs rest own (and_second (is_other at b) (list_all (is_other at) bs) h))
   where
     one : (same : Bool) → not same ≡ true → split at (bs ++ at ∷ rest) ≡ bs ∷ split at rest
         → cond same ([] ∷ split at (bs ++ at ∷ rest)) (in_front b (split at (bs ++ at ∷ rest))) ≡ (b ∷ bs) ∷ split at rest
@@ -52,7 +54,7 @@ path_pieces : (n : List ℕ) (ns : List (List ℕ)) → list_all is_name (n ∷ 
 path_pieces n [] h = no_cut 46 n (name_others 46 refl n (first_true (is_name n) true h))
 path_pieces n (u ∷ us) h =
     first_cut 46 n (path_text (u ∷ us)) refl (name_others 46 refl n (first_true (is_name n) (list_all is_name (u ∷ us)) h))
-    ∙ ap (λ l. n ∷ l) (path_pieces u us (second_true (is_name n) (list_all is_name (u ∷ us)) h))
+    ∙ ap (λ l. n ∷ l) (path_pieces u us (and_second (is_name n) (list_all is_name (u ∷ us)) h))
 
 pub path_again : (names : List (List ℕ)) → IsPath names → path (path_text names) ≡ Some names
 unfolding path
@@ -64,7 +66,7 @@ path_letters : (n : List ℕ) (ns : List (List ℕ)) → list_all is_name (n ∷
 path_letters n [] h = name_letters n (first_true (is_name n) true h)
 path_letters n (u ∷ us) h =
     all_both is_letter n (46 ∷ path_text (u ∷ us)) (name_letters n (first_true (is_name n) (list_all is_name (u ∷ us)) h))
-    (path_letters u us (second_true (is_name n) (list_all is_name (u ∷ us)) h))
+    (path_letters u us (and_second (is_name n) (list_all is_name (u ∷ us)) h))
 
 some_left : (a b : List ℕ) → a ≢ [] → a ++ b ≢ []
 some_left [] b some = absurd (some refl)
@@ -134,7 +136,7 @@ bounds_letters left right l r = all_both is_letter (decimal left) (58 ∷ decima
 bounds_others : (at : ℕ) → is_ascii_digit at ≡ false → is_other at 58 ≡ true → (left right : ℕ) → left < 2 ^ 64 → right < 2 ^ 64 → list_all (is_other at) (bounds left right) ≡ true
 bounds_others at off no_colon left right l r =
     all_both (is_other at) (decimal left) (58 ∷ decimal right) (digit_others at off left l)
-    (both_true (is_other at 58) (list_all (is_other at) (decimal right)) no_colon (digit_others at off right r))
+    (and_from (is_other at 58) (list_all (is_other at) (decimal right)) no_colon (digit_others at off right r))
 
 pub bounds_again : (left right : ℕ) → left < 2 ^ 64 → right < 2 ^ 64 → two_decimals (split 58 (bounds left right)) ≡ Some (left, right)
 bounds_again left right l r =

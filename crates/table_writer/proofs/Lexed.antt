@@ -5,6 +5,9 @@ use Rattle.std.specs.List.{list_all}
 use Rattle.ij_text.specs.Bytes.{is_line_blank}
 use Rattle.ij_text.specs.Parts.{in_front, longer, split}
 use Rattle.bench_lines.specs.Lines.{Line, lines, shown, is_mark, in_word, goes_on, words, line_place, unless_empty, lines_from}
+use Rattle.std.proofs.lemmas.Bool.{and_from}
+use Rattle.ij_bits.proofs.Tests.{and_second}
+use Rattle.bench_lines.proofs.Runs.{of_word}
 
 -- ---- tests of all bytes
 
@@ -12,23 +15,15 @@ pub first_true : (a b : Bool) → (a && b) ≡ true → a ≡ true
 first_true true b h = refl
 first_true false b h = absurd cc
 
-pub second_true : (a b : Bool) → (a && b) ≡ true → b ≡ true
-second_true true b h = h
-second_true false b h = absurd cc
-
-pub both_true : (a b : Bool) → a ≡ true → b ≡ true → (a && b) ≡ true
-both_true true b h k = k
-both_true false b h k = absurd cc
-
 pub all_both : {A : Type 0} (p : A → Bool) (a b : List A) → list_all p a ≡ true → list_all p b ≡ true → list_all p (a ++ b) ≡ true
 all_both p [] b h k = k
 all_both p (x ∷ xs) b h k =
-    both_true (p x) (list_all p (xs ++ b)) (first_true (p x) (list_all p xs) h) (all_both p xs b (second_true (p x) (list_all p xs) h) k)
+    and_from (p x) (list_all p (xs ++ b)) (first_true (p x) (list_all p xs) h) (all_both p xs b (and_second (p x) (list_all p xs) h) k)
 
 pub all_weaker : {A : Type 0} (p q : A → Bool) → ((x : A) → p x ≡ true → q x ≡ true) → (xs : List A) → list_all p xs ≡ true → list_all q xs ≡ true
 all_weaker p q weaker [] h = refl
 all_weaker p q weaker (x ∷ xs) h =
-    both_true (q x) (list_all q xs) (weaker x (first_true (p x) (list_all p xs) h)) (all_weaker p q weaker xs (second_true (p x) (list_all p xs) h))
+    and_from (q x) (list_all q xs) (weaker x (first_true (p x) (list_all p xs) h)) (all_weaker p q weaker xs (and_second (p x) (list_all p xs) h))
 
 -- ---- bytes
 
@@ -91,11 +86,6 @@ part a b us bs x y = record {
 
 -- ---- one word
 
-of_word : {A : Type 0} (x y : Bool) (p q r : A) → not (x || y) ≡ true → cond x p (cond y q r) ≡ r
-of_word true y p q r h = absurd cc
-of_word false true p q r h = absurd cc
-of_word false false p q r h = refl
-
 byte_more : (b : ℕ) (rest : List ℕ) (go : Bool) → in_word b ≡ true → goes_on rest ≡ go → words (b ∷ rest) ≡ longer go b (words rest)
 byte_more b rest go is on =
     of_word (is_line_blank b) (is_mark b) (words rest) ((b ∷ []) ∷ words rest) (longer (goes_on rest) b (words rest)) is ∙ ap (λ g. longer g b (words rest)) on
@@ -104,7 +94,7 @@ word_more : (b : ℕ) (bs rest : List ℕ) → list_all is_letter (b ∷ bs) ≡
 word_more b [] rest h apart = byte_more b rest false (first_true (in_word b) (is_shown b) (first_true (is_letter b) true h)) apart
 word_more b (c ∷ cs) rest h apart =
     let own = first_true (is_letter b) (list_all is_letter (c ∷ cs)) h in
-    let more = second_true (is_letter b) (list_all is_letter (c ∷ cs)) h in
+    let more = and_second (is_letter b) (list_all is_letter (c ∷ cs)) h in
     let next = first_true (is_letter c) (list_all is_letter cs) more in
     byte_more b ((c ∷ cs) ++ rest) true (first_true (in_word b) (is_shown b) own) (first_true (in_word c) (is_shown c) next)
     ∙ ap (longer true b) (word_more c cs rest more apart)
@@ -112,7 +102,7 @@ word_more b (c ∷ cs) rest h apart =
 pub one_word : (w : List ℕ) → w ≢ [] → list_all is_letter w ≡ true → Reads w (w ∷ [])
 one_word [] some h = absurd (some refl)
 one_word (b ∷ bs) some h = record {
-  plain = all_weaker is_letter is_shown (λ x k. second_true (in_word x) (is_shown x) k) (b ∷ bs) h;
+  plain = all_weaker is_letter is_shown (λ x k. and_second (in_word x) (is_shown x) k) (b ∷ bs) h;
   reads = λ rest apart. word_more b bs rest h apart;
 }
 
@@ -120,7 +110,7 @@ one_word (b ∷ bs) some h = record {
 
 all_shown : (text : List ℕ) → list_all is_shown text ≡ true → shown text ≡ text
 all_shown [] h = refl
-all_shown (b ∷ bs) h = one (b == 10) (b == 35) (first_true (is_shown b) (list_all is_shown bs) h) (all_shown bs (second_true (is_shown b) (list_all is_shown bs) h))
+all_shown (b ∷ bs) h = one (b == 10) (b == 35) (first_true (is_shown b) (list_all is_shown bs) h) (all_shown bs (and_second (is_shown b) (list_all is_shown bs) h))
   where
     one : (x y : Bool) → not (x || y) ≡ true → shown bs ≡ bs → cond y [] (b ∷ shown bs) ≡ b ∷ bs
     one true y k more = absurd cc
@@ -129,7 +119,7 @@ all_shown (b ∷ bs) h = one (b == 10) (b == 35) (first_true (is_shown b) (list_
 
 first_line : (text rest : List ℕ) → list_all is_shown text ≡ true → split 10 (text ++ 10 ∷ rest) ≡ text ∷ split 10 rest
 first_line [] rest h = refl
-first_line (b ∷ bs) rest h = one (b == 10) (b == 35) (first_true (is_shown b) (list_all is_shown bs) h) (first_line bs rest (second_true (is_shown b) (list_all is_shown bs) h))
+first_line (b ∷ bs) rest h = one (b == 10) (b == 35) (first_true (is_shown b) (list_all is_shown bs) h) (first_line bs rest (and_second (is_shown b) (list_all is_shown bs) h))
   where
     one : (x y : Bool) → not (x || y) ≡ true → split 10 (bs ++ 10 ∷ rest) ≡ bs ∷ split 10 rest
         → cond x ([] ∷ split 10 (bs ++ 10 ∷ rest)) (in_front b (split 10 (bs ++ 10 ∷ rest))) ≡ (b ∷ bs) ∷ split 10 rest

@@ -5,26 +5,23 @@ use Rattle.std.specs.List.{list_all}
 use Rattle.std.specs.Char.{is_ascii_digit}
 use Rattle.std.specs.Str.Parse.{AllDigits}
 use Rattle.std.specs.Int.{IsInRange}
-use Rattle.std.proofs.lemmas.Bool.{eqb-true}
+use Rattle.std.proofs.lemmas.Bool.{eqb-true, or_left, and_right, and_from}
 use Rattle.std.proofs.lemmas.Bool.Decides.{nat_tests}
 use Rattle.std.proofs.lemmas.Fmt.{decimal_is_IsNumeral}
 use Rattle.std.proofs.lemmas.Str.Parse.{digit_from_value, IsNumeralModel, FoldsDigits, numerals_by_fold, tells_digits}
 use Rattle.ij_text.specs.Numbers.{InDecimal, next_decimal, decimal_from, is_digit, go_on, value_of, said, number_of_text}
 use Rattle.ij_text.specs.Words.{begins_name, in_name, is_name}
 use Rattle.bench_lines.specs.Words.{is_too_wide, unless_too_wide, in_decimal, without_x, number as number_read, decimal as decimal_read, plain as plain_read}
-use Rattle.table_writer.proofs.Lexed.{first_true, second_true, both_true, all_weaker, is_letter, Reads, one_word}
+use Rattle.table_writer.proofs.Lexed.{first_true, all_weaker, is_letter, Reads, one_word}
+use Rattle.ij_bits.proofs.Tests.{not_both, and_second}
 
 -- ---- bytes that aren't in a class
-
-pub true_not_false : (b : Bool) → b ≡ true → b ≡ false → ⊥
-true_not_false true h k = absurd cc
-true_not_false false h k = absurd cc
 
 pub not_byte : (p : ℕ → Bool) (k : ℕ) → p k ≡ false → (b : ℕ) → p b ≡ true → (b == k) ≡ false
 not_byte p k off b on = one (b == k) refl
   where
     one : (same : Bool) → (b == k) ≡ same → same ≡ false
-    one true is = absurd (true_not_false (p b) on (ap p (eqb-true b k is) ∙ off))
+    one true is = absurd (not_both (p b) on (ap p (eqb-true b k is) ∙ off))
     one false is = refl
 
 all_off : (p q r s t u v w x : Bool) → p ≡ false → q ≡ false → r ≡ false → s ≡ false → t ≡ false → u ≡ false → v ≡ false → w ≡ false → x ≡ false
@@ -57,15 +54,11 @@ digit_plain = record { space = refl; tab = refl; feed = refl; equals = refl; plu
 
 -- ---- names
 
-or_first : (a b : Bool) → a ≡ true → (a || b) ≡ true
-or_first true b h = refl
-or_first false b h = absurd cc
-
 pub name_bytes : (w : List ℕ) → is_name w ≡ true → list_all in_name w ≡ true
 name_bytes [] h = refl
 name_bytes (b ∷ bs) h =
-    both_true (in_name b) (list_all in_name bs) (or_first (begins_name b) (is_ascii_digit b) (first_true (begins_name b) (list_all in_name bs) h))
-    (second_true (begins_name b) (list_all in_name bs) h)
+    and_from (in_name b) (list_all in_name bs) (or_left (begins_name b) (is_ascii_digit b) (first_true (begins_name b) (list_all in_name bs) h))
+    (and_second (begins_name b) (list_all in_name bs) h)
 
 pub name_some : (w : List ℕ) → is_name w ≡ true → w ≢ []
 name_some [] h = absurd cc
@@ -84,7 +77,7 @@ in_range c (low, high) = grind (arith, nat_tests)
 
 all_digits : (ds : List ℕ) → AllDigits 10 ds → list_all is_ascii_digit ds ≡ true
 all_digits [] h = refl
-all_digits (c ∷ cs) (d, more) = both_true (is_ascii_digit c) (list_all is_ascii_digit cs) (in_range c (digit_from_value c d)) (all_digits cs more)
+all_digits (c ∷ cs) (d, more) = and_from (is_ascii_digit c) (list_all is_ascii_digit cs) (in_range c (digit_from_value c d)) (all_digits cs more)
 
 pub decimal_digits : (n : ℕ) → n < 2 ^ 64 → list_all is_ascii_digit (decimal n) ≡ true
 decimal_digits n h = all_digits (decimal n) (decimal_is_IsNumeral n h).0.1
@@ -123,21 +116,17 @@ pub goes_on : (radix : _) (bs : List ℕ) → list_all (is_digit radix) bs ≡ t
 goes_on radix [] h = refl
 goes_on radix (b ∷ bs) h =
     ap (λ k. cond k (go_on radix true bs) ((b == 95) && go_on radix false bs)) (first_true (is_digit radix b) (list_all (is_digit radix) bs) h)
-    ∙ goes_on radix bs (second_true (is_digit radix b) (list_all (is_digit radix) bs) h)
+    ∙ goes_on radix bs (and_second (is_digit radix b) (list_all (is_digit radix) bs) h)
 
 pub said_digits : (radix : _) (text : List ℕ) → text ≢ [] → list_all (is_digit radix) text ≡ true → said radix text ≡ Some (value_of radix text)
 said_digits radix [] some h = absurd (some refl)
 said_digits radix (b ∷ bs) some h =
     ap (λ k. cond k (Some (value_of radix (b ∷ bs))) None)
-    (both_true (is_digit radix b) (go_on radix true bs) (first_true (is_digit radix b) (list_all (is_digit radix) bs) h) (goes_on radix bs (second_true (is_digit radix b) (list_all (is_digit radix) bs) h)))
+    (and_from (is_digit radix b) (go_on radix true bs) (first_true (is_digit radix b) (list_all (is_digit radix) bs) h) (goes_on radix bs (and_second (is_digit radix b) (list_all (is_digit radix) bs) h)))
 
 said_decimal : (radix : _) (text : List ℕ) → ((b : ℕ) → is_digit radix b ≡ is_ascii_digit b) → ((t : List ℕ) → value_of radix t ≡ InDecimal (decimal_from 0 t)) → text ≢ [] → list_all is_ascii_digit text ≡ true
     → said radix text ≡ Some (InDecimal (decimal_from 0 text))
 said_decimal radix text same own some h = said_digits radix text some (all_weaker is_ascii_digit (is_digit radix) (λ b k. same b ∙ k) text h) ∙ ap Some (own text)
-
-and_false : (a b : Bool) → b ≡ false → (a && b) ≡ false
-and_false true b h = h
-and_false false b h = refl
 
 pub last_of : {A : Type 0} (x y : Bool) (p q r s : A) → x ≡ false → y ≡ false → r ≡ s → cond x p (cond y q r) ≡ s
 last_of true y p q r s h k e = absurd cc
@@ -148,10 +137,10 @@ number_said : (text : List ℕ) → text ≢ [] → list_all is_ascii_digit text
 number_said [] some h = absurd (some refl)
 number_said (a ∷ []) some h = ap (λ k. cond k (Some (InDecimal (decimal_from 0 (a ∷ [])))) None) h
 number_said (a ∷ b ∷ bs) some h =
-    let rest : list_all is_ascii_digit (b ∷ bs) ≡ true = second_true (is_ascii_digit a) (list_all is_ascii_digit (b ∷ bs)) h in
+    let rest : list_all is_ascii_digit (b ∷ bs) ≡ true = and_second (is_ascii_digit a) (list_all is_ascii_digit (b ∷ bs)) h in
     let digit : is_ascii_digit b ≡ true = first_true (is_ascii_digit b) (list_all is_ascii_digit bs) rest in
     last_of ((a == 48) && (b == 98)) ((a == 48) && (b == 120)) _ _ _ (Some (InDecimal (decimal_from 0 (a ∷ b ∷ bs))))
-    (and_false (a == 48) (b == 98) (not_byte is_ascii_digit 98 refl b digit)) (and_false (a == 48) (b == 120) (not_byte is_ascii_digit 120 refl b digit))
+    (and_right (a == 48) (b == 98) (not_byte is_ascii_digit 98 refl b digit)) (and_right (a == 48) (b == 120) (not_byte is_ascii_digit 120 refl b digit))
     (search (said_decimal, rules))
 
 narrow : (n : ℕ) → n < 2 ^ 64 → is_too_wide (InDecimal n) ≡ false

@@ -1,11 +1,10 @@
 -- Texts in pieces.
-use Rattle.std.proofs.Common.{◌≡◌, ℕ, zero, suc, ◌-◌, ◌/◌, ◌%◌, ◌<◌, ◌≤◌, Bool, List, [], ◌∷◌, ◌++◌, map, length, get_or, take, drop, Some, Option, codes, subst, refl, ap, sym, ◌∙◌, arith, append_assoc, append-nil}
+use Rattle.std.proofs.Common.{◌≡◌, ℕ, zero, suc, ◌-◌, ◌/◌, ◌%◌, ◌≤◌, Bool, List, [], ◌∷◌, ◌++◌, map, length, get_or, take, drop, Some, codes, refl, ap, sym, ◌∙◌, arith, append_assoc, append-nil}
 use Rattle.std.specs.Prelude.{◌==◌, decimal}
 use Rattle.std.specs.Int.{bit_at}
 use Rattle.std.specs.List.{flat_map}
 use Rattle.std.proofs.lemmas.Nat.Bits.{bit_at_lowest, bit_at-suc}
 use Rattle.std.proofs.lemmas.List.{take_all}
-use Rattle.ij_io.specs.Bytes.{Adds, AddsPart}
 use Rattle.ij_bits.specs.BitLists.{bits_of}
 use Rattle.instruments.specs.declared.model.Cond.{Cond}
 use Rattle.instruments.specs.declared.model.Set.{Set}
@@ -19,20 +18,8 @@ use Rattle.table_writer.specs.Pieces.{old_mark, operand_name, sum_text, word_fro
 
 -- ---- one text for another that is the same
 
-pub as_part : {old new : Option (List ℕ)} {x y : List ℕ} → x ≡ y → AddsPart old new x → AddsPart old new y
-as_part {old} {new} same part = subst (λ (text : List ℕ). AddsPart old new text) same part
-
-pub as_whole : {old new : Option (List ℕ)} {x y : List ℕ} → x ≡ y → Adds old new x → Adds old new y
-as_whole {old} {new} same whole = subst (λ (text : List ℕ). Adds old new text) same whole
-
 pub front_as : {a b : List ℕ} (rest : List ℕ) → a ≡ b → a ++ rest ≡ b ++ rest
 front_as rest same = ap (λ (l : List ℕ). l ++ rest) same
-
--- an element doesn't depend on what stands for none
-pub any_default : {A : Type 0} (xs : List A) (i : ℕ) (d e : A) → i < length xs → get_or xs i d ≡ get_or xs i e
-any_default [] i d e within = absurd (omega (arith, within))
-any_default (x ∷ xs) zero d e within = refl
-any_default (x ∷ xs) (suc i) d e within = any_default xs i d e (omega (arith, within))
 
 -- ---- operands
 

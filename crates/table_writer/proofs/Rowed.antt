@@ -14,10 +14,13 @@ use Rattle.instruments.specs.Models.{IsCond, IsSet, IsSlot, IsRow, target as tar
 use Rattle.table_lines.specs.Said.{Words, is, parts, in_first, SaidCond, SaidSet, SaidRow, sets, more_sets, row_of, more_conds, behind_cond, conds_sets, if_there, row}
 use Rattle.table_file.specs.Tables.{word_named, has_twice, cond_operand, cond_width, cond_said, set_said, row_said, no_slot, no_amount, target, amount_width, slot_width, row_names, row_widths}
 use Rattle.bench_file.specs.Written.{parted, cond_text, set_text, when_text, row_text, memory_name}
-use Rattle.table_writer.proofs.Lexed.{first_true, second_true, Reads, Parts, Follows, IsLine, nothing, join, part, line_last, part_end, then_end, line_end}
-use Rattle.table_writer.proofs.Found.{of_back, in_one_part, no_number, none_twice, neither}
+use Rattle.table_writer.proofs.Lexed.{first_true, Reads, Parts, Follows, IsLine, nothing, join, part, line_last, part_end, then_end, line_end}
+use Rattle.table_writer.proofs.Found.{of_back, in_one_part, no_number, none_twice}
 use Rattle.table_writer.proofs.Conds.{IsNamed, MayLook, no_comma, cond_words, cond_back, IsCondRead, cond_read, word_found}
 use Rattle.table_writer.proofs.Sets.{slot_back, amount_back, set_words_of, set_back, IsSetRead, set_read}
+use Rattle.ij_bits.proofs.Lists.{map_twice}
+use Rattle.ij_bits.proofs.Tests.{and_second}
+use Rattle.std.proofs.lemmas.Bool.{or_from}
 
 -- ---- parts between commas
 
@@ -29,7 +32,7 @@ parts_front : (ws tail q : Words) (qs : List Words) → list_all no_comma ws ≡
 parts_front [] tail q qs clean same = same
 parts_front (w ∷ ws) tail q qs clean same =
     not_comma w (parts (ws ++ tail)) (is (codes ",") w) (first_true (no_comma w) (list_all no_comma ws) clean)
-    ∙ ap (in_first w) (parts_front ws tail q qs (second_true (no_comma w) (list_all no_comma ws) clean) same)
+    ∙ ap (in_first w) (parts_front ws tail q qs (and_second (no_comma w) (list_all no_comma ws) clean) same)
 
 parts_end : (ws : Words) → list_all no_comma ws ≡ true → parts ws ≡ ws ∷ []
 parts_end ws clean = sym (ap parts (append-nil ws)) ∙ parts_front ws [] [] [] clean refl ∙ ap (λ l. l ∷ []) (append-nil ws)
@@ -128,16 +131,12 @@ row_line m change kind cs x xs own conds all =
 none_any : {A B : Type 0} (p : B → Bool) (f : A → B) (xs : List A) → All (λ x. p (f x) ≡ false) xs → list_any p (map f xs) ≡ false
 none_any p f [] all = refl
 none_any p f (x ∷ xs) all =
-    neither (p (f x)) (list_any p (map f xs)) (All-head (λ x. p (f x) ≡ false) x xs all) (none_any p f xs (All-tail (λ x. p (f x) ≡ false) x xs all))
+    or_from (p (f x)) (list_any p (map f xs)) (All-head (λ x. p (f x) ≡ false) x xs all) (none_any p f xs (All-tail (λ x. p (f x) ≡ false) x xs all))
 
 all_back : {A B : Type 0} (f : B → A) (g : A → B) (xs : List A) → All (λ x. f (g x) ≡ x) xs → map f (map g xs) ≡ xs
 all_back f g [] all = refl
 all_back f g (x ∷ xs) all =
     ap (λ y. y ∷ map f (map g xs)) (All-head (λ x. f (g x) ≡ x) x xs all) ∙ ap (λ l. x ∷ l) (all_back f g xs (All-tail (λ x. f (g x) ≡ x) x xs all))
-
-map_twice : {A B C : Type 0} (f : B → C) (g : A → B) (xs : List A) → map f (map g xs) ≡ map (λ x. f (g x)) xs
-map_twice f g [] = refl
-map_twice f g (x ∷ xs) = ap (λ l. f (g x) ∷ l) (map_twice f g xs)
 
 -- what tells apart as much as another
 module _ {A B C : Type 0} (P : A → Type 0) (f : A → B) (g : A → C) (tells : (x y : A) → P x → P y → g x ≡ g y → f x ≡ f y) where
@@ -209,13 +208,13 @@ row_read m h change kind own r is may = of_sets r.conds r.sets is.does is.conds 
           ws = when_words m cs ++ do_words m (x ∷ xs);
           line = row_line m change kind cs x xs own cs_read xs_read;
           said = row_again m change cs x xs cs_read xs_read;
-          names = neither (list_any (λ (c : SaidCond). not (is_some (cond_operand m c))) (map (cond_back m) cs))
+          names = or_from (list_any (λ (c : SaidCond). not (is_some (cond_operand m c))) (map (cond_back m) cs))
               (list_any (λ (x : SaidSet). no_slot m x.slot || no_amount m x.amount) (map (set_back m) (x ∷ xs)) || has_twice (map (λ (x : SaidSet). target x.slot) (map (set_back m) (x ∷ xs))))
               (none_any (λ (c : SaidCond). not (is_some (cond_operand m c))) (cond_back m) cs (All-weaker (IsCondRead m change) (λ c. not (is_some (cond_operand m (cond_back m c))) ≡ false) (λ c h. ap not h.there) cs cs_read))
-              (neither (list_any (λ (x : SaidSet). no_slot m x.slot || no_amount m x.amount) (map (set_back m) (x ∷ xs))) (has_twice (map (λ (x : SaidSet). target x.slot) (map (set_back m) (x ∷ xs))))
+              (or_from (list_any (λ (x : SaidSet). no_slot m x.slot || no_amount m x.amount) (map (set_back m) (x ∷ xs))) (has_twice (map (λ (x : SaidSet). target x.slot) (map (set_back m) (x ∷ xs))))
               (none_any (λ (x : SaidSet). no_slot m x.slot || no_amount m x.amount) (set_back m) (x ∷ xs) (All-weaker (IsSetRead m) (λ y. (no_slot m (slot_back m y.slot) || no_amount m (amount_back m y.amount)) ≡ false) (λ y h. h.names) (x ∷ xs) xs_read))
               (targets_differ m h (x ∷ xs) sets once));
-          widths = neither (list_any (λ (c : SaidCond). is_wide (cond_width m c) c.number) (map (cond_back m) cs))
+          widths = or_from (list_any (λ (c : SaidCond). is_wide (cond_width m c) c.number) (map (cond_back m) cs))
               (list_any (λ (x : SaidSet). amount_width m (slot_width m x.slot) x.amount) (map (set_back m) (x ∷ xs)))
               (none_any (λ (c : SaidCond). is_wide (cond_width m c) c.number) (cond_back m) cs (All-weaker (IsCondRead m change) (λ c. is_wide (cond_width m (cond_back m c)) (cond_back m c).number ≡ false) (λ c h. h.fits) cs cs_read))
               (none_any (λ (x : SaidSet). amount_width m (slot_width m x.slot) x.amount) (set_back m) (x ∷ xs) (All-weaker (IsSetRead m) (λ y. amount_width m (slot_width m (slot_back m y.slot)) (amount_back m y.amount) ≡ false) (λ y h. h.widths) (x ∷ xs) xs_read));

@@ -1,5 +1,5 @@
 -- Assignments, read again.
-use Rattle.std.proofs.Common.{◌≡◌, ◌≢◌, ℕ, ◌^◌, ◌<◌, ◌≤◌, Bool, true, false, not, cond, nat_le, List, [], ◌∷◌, ◌++◌, Option, Some, None, codes, refl, ap, sym, ◌∙◌, subst, arith, rules}
+use Rattle.std.proofs.Common.{◌≡◌, ◌≢◌, ℕ, ◌^◌, ◌<◌, ◌≤◌, Bool, true, false, not, cond, List, [], ◌∷◌, ◌++◌, Option, Some, None, codes, refl, ap, sym, ◌∙◌, subst, arith, rules}
 use Rattle.std.specs.Prelude.{◌==◌, ◌&&◌, ◌||◌, IfSome, is_some, unwrap_or, decimal}
 use Rattle.std.specs.List.{list_all}
 use Rattle.std.specs.Char.{is_ascii_digit}
@@ -21,14 +21,15 @@ use Rattle.instruments.specs.After.{width_of, memory_width}
 use Rattle.instruments.specs.Models.{IsWidth, IsWord, IsMemory, IsOperand, IsPresent, IsSource, IsIndex, IsAmount, IsSlot, IsNoCopy, IsSet, word_width, operand_width, memory_names}
 use Rattle.table_lines.specs.Said.{Words, is, if_there, SaidEntry, SaidSlot, ToWord, ToEntry, SaidAmount, Number, Copy, Plus, Minus, FromEntry, SaidSet, entry_of, entry_in, entry_slot, slot, number_amount, entry_amount, amount, plus_minus, set_of, set_words}
 use Rattle.table_file.specs.Tables.{stands_in, is_memory, known, name_width, slot_said, amount_said, set_said, no_operand, no_entry, no_slot, no_amount, is_above, slot_width, amount_width}
-use Rattle.table_file.proofs.Naming.{equal_names}
 use Rattle.bench_file.specs.Written.{word_name, memory_name, operand_text, entry_text, slot_text, amount_text, set_text}
 use Rattle.table_writer.specs.Pieces.{operand_name}
-use Rattle.table_writer.proofs.Lexed.{first_true, both_true, is_letter, Reads, Parts, join, part, one_word}
-use Rattle.table_writer.proofs.Named.{true_not_false, not_byte, last_of, digit_no_start, name_letters, name_some, decimal_letters, decimal_some, decimal_no_name, plain_decimal, decimal_decimal}
+use Rattle.table_writer.proofs.Lexed.{first_true, is_letter, Reads, Parts, join, part, one_word}
+use Rattle.table_writer.proofs.Named.{not_byte, last_of, digit_no_start, name_letters, name_some, decimal_letters, decimal_some, decimal_no_name, plain_decimal, decimal_decimal}
 use Rattle.table_writer.proofs.Joined.{in_brackets, entry_again, brackets_no_name, brackets_some, brackets_letters}
-use Rattle.table_writer.proofs.Found.{neither}
 use Rattle.table_writer.proofs.Conds.{IsNamed, at_index, word_good, memory_good, operand_good, word_found, operand_found, small_number, equals, no_comma, letters_no_comma}
+use Rattle.std.proofs.lemmas.Bool.{lt-leb, and_from, or_from}
+use Rattle.ij_text.proofs.Names.{bytes_same}
+use Rattle.ij_bits.proofs.Tests.{not_both}
 
 -- ---- a text that begins as a name isn't a number
 
@@ -39,7 +40,7 @@ begins_no_digit : (b : ℕ) → begins_name b ≡ true → is_ascii_digit b ≡ 
 begins_no_digit b h = one (is_ascii_digit b) refl
   where
     one : (k : Bool) → is_ascii_digit b ≡ k → k ≡ false
-    one true is = absurd (true_not_false (begins_name b) h (digit_no_start b is))
+    one true is = absurd (not_both (begins_name b) h (digit_no_start b is))
     one false is = refl
 
 begins_no_number : (b : ℕ) (bs : List ℕ) → begins_name b ≡ true → number_of_text (b ∷ bs) ≡ None
@@ -76,7 +77,7 @@ clean_one : (w : List ℕ) → IsOne w → no_comma w ≡ true
 clean_one w h = letters_no_comma w h.letters
 
 clean_last : (w : List ℕ) → IsOne w → list_all no_comma (w ∷ []) ≡ true
-clean_last w h = both_true (no_comma w) true (clean_one w h) refl
+clean_last w h = and_from (no_comma w) true (clean_one w h) refl
 
 -- ---- operands and entries
 
@@ -177,9 +178,9 @@ amount_clean : (m : SeenModel) → IsNamed m → (w : ℕ) → w ≤ 64 → (a :
 amount_clean m h w few (ANumber n) small = clean_last (decimal n) (one_decimal n (small_number w n few small))
 amount_clean m h w few (ACopy o) s = clean_last (operand_text m o) (source_one m h o s.there s.present)
 amount_clean m h w few (APlus o n) (s, small) =
-    both_true (no_comma (operand_text m o)) (list_all no_comma (decimal n ∷ [])) (clean_one (operand_text m o) (source_one m h o s.there s.present)) (clean_last (decimal n) (one_decimal n (small_number w n few small)))
+    and_from (no_comma (operand_text m o)) (list_all no_comma (decimal n ∷ [])) (clean_one (operand_text m o) (source_one m h o s.there s.present)) (clean_last (decimal n) (one_decimal n (small_number w n few small)))
 amount_clean m h w few (AMinus o n) (s, small) =
-    both_true (no_comma (operand_text m o)) (list_all no_comma (decimal n ∷ [])) (clean_one (operand_text m o) (source_one m h o s.there s.present)) (clean_last (decimal n) (one_decimal n (small_number w n few small)))
+    and_from (no_comma (operand_text m o)) (list_all no_comma (decimal n ∷ [])) (clean_one (operand_text m o) (source_one m h o s.there s.present)) (clean_last (decimal n) (one_decimal n (small_number w n few small)))
 amount_clean m h w few (AnEntry o) (i, wide) = clean_last (entry_text m o) (entry_one m h o i)
 
 -- ---- one assignment
@@ -230,14 +231,14 @@ set_again m h w few (TheEntry x) (AnEntry o) to (i, wide) no_copy = absurd no_co
 
 memory_there : (o : Option SeenMemory) → o ≢ None → stands_in (memory_name o) (memory_names o) ≡ true
 memory_there None some = absurd (some refl)
-memory_there (Some d) some = ap (λ k. k || false) (equal_names d.name d.name refl)
+memory_there (Some d) some = ap (λ k. k || false) (bytes_same d.name d.name refl)
 
 source_known : (m : SeenModel) → IsNamed m → (o : Operand) → IsOperand m o → IsPresent o → no_operand m (operand_name m o) ≡ false
 source_known m h o there present = ap (λ x. not (is_some x)) (operand_found m h.differ o there present)
 
 entry_known : (m : SeenModel) → IsNamed m → (o : Operand) → IsIndex m o → no_entry m (entry_back m o) ≡ false
 entry_known m h o i =
-    neither (not (is_memory m (memory_name m.memory))) (no_operand m (operand_name m o)) (ap not (memory_there m.memory i.memory)) (source_known m h o i.there i.present)
+    or_from (not (is_memory m (memory_name m.memory))) (no_operand m (operand_name m o)) (ap not (memory_there m.memory i.memory)) (source_known m h o i.there i.present)
 
 slot_known : (m : SeenModel) → IsNamed m → (s : Slot) → IsSlot m s → no_slot m (slot_back m s) ≡ false
 slot_known m h (TheWord k) there = ap (λ x. not (is_some x)) (word_found m h.differ k there)
@@ -265,9 +266,6 @@ slot_wide : (m : SeenModel) → IsNamed m → (s : Slot) → IsSlot m s → slot
 slot_wide m h (TheWord k) there = ap (λ x. word_width m (unwrap_or x 0)) (word_found m h.differ k there)
 slot_wide m h (TheEntry o) i = refl
 
-below : (m n : ℕ) → n < m → nat_le m n ≡ false
-below m n h = grind (arith, nat_tests)
-
 equal_test : (a b : ℕ) → a ≡ b → not (a == b) ≡ false
 equal_test a b h = ap not (one a b h)
   where
@@ -278,10 +276,10 @@ source_wide : (m : SeenModel) → IsNamed m → (w : ℕ) (o : Operand) → IsSo
 source_wide m h w o s = ap (λ x. not (operand_width m (known x) == w)) (operand_found m h.differ o s.there s.present) ∙ equal_test (operand_width m o) w s.as_wide
 
 amount_fits : (m : SeenModel) → IsNamed m → (w : ℕ) (a : Amount) → IsAmount m w a → amount_width m w (amount_back m a) ≡ false
-amount_fits m h w (ANumber n) small = below (2 ^ w) n small
+amount_fits m h w (ANumber n) small = lt-leb (2 ^ w) n small
 amount_fits m h w (ACopy o) s = source_wide m h w o s
-amount_fits m h w (APlus o n) (s, small) = neither (not (name_width m (operand_name m o) == w)) (is_above w n) (source_wide m h w o s) (below (2 ^ w) n small)
-amount_fits m h w (AMinus o n) (s, small) = neither (not (name_width m (operand_name m o) == w)) (is_above w n) (source_wide m h w o s) (below (2 ^ w) n small)
+amount_fits m h w (APlus o n) (s, small) = or_from (not (name_width m (operand_name m o) == w)) (is_above w n) (source_wide m h w o s) (lt-leb (2 ^ w) n small)
+amount_fits m h w (AMinus o n) (s, small) = or_from (not (name_width m (operand_name m o) == w)) (is_above w n) (source_wide m h w o s) (lt-leb (2 ^ w) n small)
 amount_fits m h w (AnEntry o) (i, wide) = equal_test (memory_width m.memory) w wide
 
 -- an assignment, its words and what they say
@@ -303,9 +301,9 @@ set_read m h x is =
     record {
       own = join (slot_text m x.slot) (codes " = " ++ amount_text m x.amount) (slot_text m x.slot ∷ []) (codes "=" ∷ amount_words m x.amount) (reads_one (slot_text m x.slot) one)
           (part (codes " = ") (amount_text m x.amount) (codes "=" ∷ []) (amount_words m x.amount) equals (amount_reads m h (width_of m x.slot) few x.amount is.amount));
-      clean = both_true (no_comma (slot_text m x.slot)) (list_all no_comma (amount_words m x.amount)) (clean_one (slot_text m x.slot) one) (amount_clean m h (width_of m x.slot) few x.amount is.amount);
+      clean = and_from (no_comma (slot_text m x.slot)) (list_all no_comma (amount_words m x.amount)) (clean_one (slot_text m x.slot) one) (amount_clean m h (width_of m x.slot) few x.amount is.amount);
       said = set_again m h (width_of m x.slot) few x.slot x.amount is.slot is.amount is.no_copy;
-      names = neither (no_slot m (slot_back m x.slot)) (no_amount m (amount_back m x.amount)) (slot_known m h x.slot is.slot) (amount_known m h (width_of m x.slot) x.amount is.amount);
+      names = or_from (no_slot m (slot_back m x.slot)) (no_amount m (amount_back m x.amount)) (slot_known m h x.slot is.slot) (amount_known m h (width_of m x.slot) x.amount is.amount);
       widths = ap (λ w. amount_width m w (amount_back m x.amount)) (slot_wide m h x.slot is.slot) ∙ amount_fits m h (width_of m x.slot) x.amount is.amount;
       back = ap (λ s. the_plain_set s (amount_said m (amount_back m x.amount))) (slot_is m h x.slot is.slot) ∙ ap (the_plain_set x.slot) (amount_is m h (width_of m x.slot) x.amount is.amount);
     }

@@ -2,7 +2,7 @@
 use Rattle.std.proofs.Common.{◌≡◌, ℕ, suc, ◌+◌, ◌-◌, ◌^◌, ◌<◌, ◌≤◌, Bool, true, false, not, cond, nat_le, nat_lt, List, [], ◌∷◌, ◌++◌, length, map, Option, Some, None, codes, refl, ap, sym, ◌∙◌, subst, arith, append_assoc, append-nil}
 use Rattle.std.specs.Prelude.{◌==◌, ◌&&◌, ◌||◌, is_some, unwrap_or, IfSome, decimal}
 use Rattle.std.specs.List.{list_any}
-use Rattle.std.proofs.lemmas.Bool.{eqb-true}
+use Rattle.std.proofs.lemmas.Bool.{eqb-true, le-ltb, lt-leb, or_from}
 use Rattle.std.proofs.lemmas.Bool.Decides.{nat_tests}
 use Rattle.ij_text.specs.Words.{is_name}
 use Rattle.bench_lines.specs.Words.{Slice, slice, decimal as decimal_read, plain as plain_read, is_wide, value_in, care_in}
@@ -16,10 +16,10 @@ use Rattle.bench_file.specs.Written.{word_name, reset_text, input_text, word_tex
 use Rattle.table_writer.proofs.Lexed.{Always, Parts, IsEnd, IsLine, at_end, line_last, part_end, line_end, always_line}
 use Rattle.table_writer.proofs.Named.{name_word, decimal_word, decimal_decimal, plain_decimal}
 use Rattle.table_writer.proofs.Joined.{in_brackets, bounds, bounds_letters, brackets_some, brackets_letters, slice_again, whole_again}
-use Rattle.table_writer.proofs.Found.{neither}
 use Rattle.table_writer.proofs.Conds.{the_cond, IsNamed, small_number, equals, word_good, word_found}
 use Rattle.table_writer.proofs.Sets.{the_plain_set, IsOne, one_name, reads_one}
 use Rattle.table_writer.proofs.Rowed.{row_back, IsRowRead, the_seen_row}
+use Rattle.ij_bits.proofs.Lists.{map_same, any_same}
 
 -- a line, what it says, and that it isn't at fault
 pub record IsTaken (m : SeenModel) (text : List ℕ) (l : SaidLine) : Type 0 where
@@ -33,27 +33,21 @@ pub record IsTaken (m : SeenModel) (text : List ℕ) (l : SaidLine) : Type 0 whe
 
 -- ---- numbers
 
-below : (m n : ℕ) → n < m → nat_le m n ≡ false
-below m n h = grind (arith, nat_tests)
-
-not_above : (m n : ℕ) → n ≤ m → nat_lt m n ≡ false
-not_above m n h = grind (arith, nat_tests)
-
 not_zero : (n : ℕ) → 1 ≤ n → (n == 0) ≡ false
 not_zero n h = grind (arith, nat_tests)
 
 width_ok : (w : ℕ) → IsWidth w → no_width w ≡ false
-width_ok w h = neither (w == 0) (nat_lt 64 w) (not_zero w h.some) (not_above 64 w h.few)
+width_ok w h = or_from (w == 0) (nat_lt 64 w) (not_zero w h.some) (le-ltb 64 w h.few)
 
 short : (w : ℕ) → w ≤ 64 → w < 2 ^ 64
 short w h = omega (arith, h)
 
 starts_ok : (w init : ℕ) (reset : Option ℕ) → IsBelow w init → IfSome reset (IsBelow w) → starts_above w (record { init = init; reset = reset }) ≡ false
-starts_ok w init reset small h = neither (is_above w init) (reset_above w reset) (below (2 ^ w) init small) (one reset h)
+starts_ok w init reset small h = or_from (is_above w init) (reset_above w reset) (lt-leb (2 ^ w) init small) (one reset h)
   where
     one : (o : Option ℕ) → IfSome o (IsBelow w) → reset_above w o ≡ false
     one None h = refl
-    one (Some n) h = below (2 ^ w) n h
+    one (Some n) h = lt-leb (2 ^ w) n h
 
 few_reset : (w : ℕ) → w ≤ 64 → (o : Option ℕ) → IfSome o (IsBelow w) → IfSome o (λ n. n < 2 ^ 64)
 few_reset w few None h = tt
@@ -98,7 +92,7 @@ input_taken m d good width fresh few =
       says = ap (λ k. cond k (if_there (decimal_read (decimal d.width)) (λ w. Some (Input d.name w))) None) good ∙ ap (λ o. if_there o (λ w. Some (Input d.name w))) (decimal_decimal d.width fits);
       names = fresh;
       widths = refl;
-      limits = neither (no_width d.width) (nat_le 16 (length m.ins)) (width_ok d.width width) (below 16 (length m.ins) few);
+      limits = or_from (no_width d.width) (nat_le 16 (length m.ins)) (width_ok d.width width) (lt-leb 16 (length m.ins) few);
     }
 
 -- ---- words and the memory
@@ -144,7 +138,7 @@ word_taken m d good is fresh few =
           ∙ ap (λ o. if_there o (λ s. Some (Word d.name d.width s))) (starts_again d.init d.reset small reset);
       names = fresh;
       widths = starts_ok d.width d.init d.reset is.init is.reset;
-      limits = neither (no_width d.width) (nat_le 8 (length m.words)) (width_ok d.width is.width) (below 8 (length m.words) few);
+      limits = or_from (no_width d.width) (nat_le 8 (length m.words)) (width_ok d.width is.width) (lt-leb 8 (length m.words) few);
     }
 
 pub memory_taken : (m : SeenModel) (d : SeenMemory) → is_name d.name ≡ true → IsMemory d → stands_in d.name (names m) ≡ false → m.memory ≡ None
@@ -172,8 +166,8 @@ memory_taken m d good is fresh none =
           ∙ ap (λ o. if_there o (λ s. Some (Memory d.name d.depth d.width s))) (starts_again d.init d.reset small reset);
       names = fresh;
       widths = starts_ok d.width d.init d.reset is.init is.reset;
-      limits = neither (no_width d.width) (d.depth == 0 || (nat_lt 256 d.depth || is_some m.memory)) (width_ok d.width is.width)
-          (neither (d.depth == 0) (nat_lt 256 d.depth || is_some m.memory) (not_zero d.depth is.some) (neither (nat_lt 256 d.depth) (is_some m.memory) (not_above 256 d.depth is.few) (ap is_some none)));
+      limits = or_from (no_width d.width) (d.depth == 0 || (nat_lt 256 d.depth || is_some m.memory)) (width_ok d.width is.width)
+          (or_from (d.depth == 0) (nat_lt 256 d.depth || is_some m.memory) (not_zero d.depth is.some) (or_from (nat_lt 256 d.depth) (is_some m.memory) (le-ltb 256 d.depth is.few) (ap is_some none)));
     }
   where
     deep_fits : (n : ℕ) → n ≤ 256 → n < 2 ^ 64
@@ -220,7 +214,7 @@ bounds_within width left right within order = one ((suc left == width) && (right
   where
     one : (k : Bool) → bounds_outside width (cond k None (Some (left, right))) ≡ false
     one true = refl
-    one false = neither (nat_le width left) (nat_lt left right) (below width left within) (not_above left right order)
+    one false = or_from (nat_le width left) (nat_lt left right) (lt-leb width left within) (le-ltb left right order)
 
 -- the word's number and the bounds come back
 abbrev the_out : List ℕ → ℕ → ℕ → ℕ → SeenOut
@@ -268,23 +262,15 @@ out_taken m h d good is there width fresh few =
           (line_end d.name (codes " = " ++ (word ++ (text ++ codes "\n"))) (d.name ∷ []) (codes "=" ∷ (word ++ text) ∷ []) (name_word d.name good)
           (part_end (codes " = ") (word ++ (text ++ codes "\n")) (codes "=" ∷ []) ((word ++ text) ∷ []) equals (slice_line word text read.one)));
       says = ap (λ k. cond (k && true) (if_there (slice (word ++ text)) (λ s. Some (Output d.name s))) None) good ∙ ap (λ o. if_there o (λ s. Some (Output d.name s))) read.said;
-      names = neither (stands_in d.name (map (λ (out : SeenOut). out.name) m.outs)) (not (is_some (word_named m word))) fresh (ap (λ o. not (is_some o)) found);
+      names = or_from (stands_in d.name (map (λ (out : SeenOut). out.name) m.outs)) (not (is_some (word_named m word))) fresh (ap (λ o. not (is_some o)) found);
       widths = ap (λ o. bounds_outside (word_width m (unwrap_or o 0)) (bounds_of (word_width m d.word) d.left d.right)) found ∙ bounds_within (word_width m d.word) d.left d.right is.within is.order;
-      limits = below 16 (length m.outs) few;
+      limits = lt-leb 16 (length m.outs) few;
     }
   where
     of_width : (n w : ℕ) → n < w → w ≤ 64 → n < 2 ^ 64
     of_width n w within few = let fits = short w few in omega (arith, within, fits)
 
 -- ---- rows, whatever rows stand in front
-
-any_same : {A : Type 0} (p q : A → Bool) → ((x : A) → p x ≡ q x) → (xs : List A) → list_any p xs ≡ list_any q xs
-any_same p q same [] = refl
-any_same p q same (x ∷ xs) = ap (λ k. k || list_any p xs) (same x) ∙ ap (λ k. q x || k) (any_same p q same xs)
-
-map_same : {A B : Type 0} (f g : A → B) → ((x : A) → f x ≡ g x) → (xs : List A) → map f xs ≡ map g xs
-map_same f g same [] = refl
-map_same f g same (x ∷ xs) = ap (λ y. y ∷ map f xs) (same x) ∙ ap (λ l. g x ∷ l) (map_same f g same xs)
 
 abbrev pub with_rows : SeenModel → List SeenRow → List SeenRow → SeenModel
 with_rows m c r = record m { change = c; run = r }
@@ -369,7 +355,7 @@ module _ (m : SeenModel) (c r : List SeenRow) where
     says = ap change_line h.said;
     names = row_names_as (row_back m x) ∙ h.names;
     widths = row_widths_as (row_back m x) ∙ h.widths;
-    limits = below 64 (length c + length r) few;
+    limits = lt-leb 64 (length c + length r) few;
   }
 
   pub run_taken : (x : SeenRow) → IsRowRead m false (codes "run") x → length c + length r < 64 → IsTaken (with_rows m c r) (row_text m (codes "run") x) (Run (row_back m x))
@@ -381,5 +367,5 @@ module _ (m : SeenModel) (c r : List SeenRow) where
     says = ap run_line h.said;
     names = row_names_as (row_back m x) ∙ h.names;
     widths = row_widths_as (row_back m x) ∙ h.widths;
-    limits = below 64 (length c + length r) few;
+    limits = lt-leb 64 (length c + length r) few;
   }

@@ -1,4 +1,4 @@
-use Rattle.std.proofs.Common.{inr, sym, subst, ℕ, List, Option}
+use Rattle.std.proofs.Common.{inr, sym, subst, Option}
 use Rattle.std.specs.Prelude.{All}
 use Rattle.ij_io.specs.Files.{Files}
 use Rattle.bit_steps.specs.BitSteps.{BitStepsOf}
@@ -9,9 +9,9 @@ use Rattle.ijtag_work.specs.Seen.{IsCompilable, seen_compilable}
 use Rattle.ijtag_work.specs.declared.accepted.Compilable.{Compilable}
 use Rattle.retargeter.specs.Scripts.{HasScript, ScriptIsRight}
 use Rattle.svf_file.specs.Files.{HoldsScript, HoldsScriptPart}
-use Rattle.retargeter.proofs.Same.{at_ok, at_err}
 use Rattle.ijtag_work.proofs.Filed.{is_filed, part_filed, has_text}
 use Rattle.ijtag_work.proofs.Made.{plannable}
+use Rattle.std.proofs.lemmas.Result.{on_ok_weaker, on_err_weaker}
 use Rattle.compile_command.proofs.svf.write_svf.Goals as goal
 
 pub put_svf_file-told-requires-clause-plannable : goal.put_svf_file-told-requires-clause-plannable
@@ -29,7 +29,7 @@ returns-clause-whole g c =
     let new : Option Files = g.S.Shelf.files c.put_svf_file-told.new.shelf in
     let text : HasScript it.network.net it.network.form it.device it.steps = subst (λ (b : BitStepsOf). HasScript it.network.net it.network.form it.device b.steps) c.in_ok-steps.ensures c.put_svf_file-told.ensures.text in
     let right : ScriptIsRight it.network.net it.network.form it.device it.steps = subst (λ (b : BitStepsOf). ScriptIsRight it.network.net it.network.form it.device b.steps) c.in_ok-steps.ensures c.put_svf_file-told.ensures.right in
-    at_ok c.put_svf_file-told.result
+    on_ok_weaker c.put_svf_file-told.result
     (λ h. is_filed it text right old new c.args.name.now (subst (λ (b : BitStepsOf). HoldsScript it.network.net it.network.form it.device b.steps old new c.args.name.now) c.in_ok-steps.ensures h))
     c.put_svf_file-told.ensures.whole
 
@@ -40,7 +40,7 @@ returns-clause-part g c =
     let new : Option Files = g.S.Shelf.files c.put_svf_file-told.new.shelf in
     let text : HasScript it.network.net it.network.form it.device it.steps = subst (λ (b : BitStepsOf). HasScript it.network.net it.network.form it.device b.steps) c.in_ok-steps.ensures c.put_svf_file-told.ensures.text in
     let right : ScriptIsRight it.network.net it.network.form it.device it.steps = subst (λ (b : BitStepsOf). ScriptIsRight it.network.net it.network.form it.device b.steps) c.in_ok-steps.ensures c.put_svf_file-told.ensures.right in
-    at_err c.put_svf_file-told.result
+    on_err_weaker c.put_svf_file-told.result
     (λ h. inr (part_filed it text right old new c.args.name.now (subst (λ (b : BitStepsOf). HoldsScriptPart it.network.net it.network.form it.device b.steps old new c.args.name.now) c.in_ok-steps.ensures h)))
     c.put_svf_file-told.ensures.part
 

@@ -2,7 +2,8 @@ use Rattle.std.proofs.Common.{[], ◌∷◌, codes, map, ap, ◌∙◌}
 use Rattle.icl_syntax.specs.Values.{ADecimal}
 use Rattle.icl_syntax.specs.Views.{seen_bind}
 use Rattle.design_maker.specs.Parts.{bound, bound_width, instance}
-use Rattle.design_maker.proofs.Adding.{added_as, at_last, both, pushed}
+use Rattle.design_maker.proofs.Adding.{added_as, both, pushed}
+use Rattle.std.proofs.lemmas.Result.{on_ok_weaker}
 use Rattle.design_maker.proofs.network.add_wrap.Goals as goal
 
 pub returns : goal.returns
@@ -14,6 +15,6 @@ returns c =
     let sourced = pushed seen_bind c.new-binds.result.items none c.in_ok-push.ensures.ok source in
     let selected = pushed seen_bind c.push.new.self.items sourced c.in_ok-push-2.ensures.ok select in
     let binds = pushed seen_bind c.push-2.new.self.items selected c.in_ok-push-3.ensures.ok width in
-    at_last c.instance.result
+    on_ok_weaker c.instance.result
     (λ added. added_as _ _ added (both (λ n bs. instance n (codes "Wrap") bs) (c.bytes-3.ensures ∙ c.in_ok-name.ensures) binds))
     c.instance.ensures

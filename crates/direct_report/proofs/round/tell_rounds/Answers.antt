@@ -1,7 +1,8 @@
 use Rattle.std.proofs.Common.{◌∙◌, arith}
 use Rattle.ij_io.proofs.Adding.{at_refusal}
 use Rattle.net_graph.specs.Steps.{IsGroup}
-use Rattle.direct_report.proofs.Going.{go_on, refused, seen_next, whole, state, counts}
+use Rattle.direct_report.proofs.Going.{go_on, refused, whole, state, counts}
+use Rattle.net_graph.proofs.Groups.{seen_next}
 use Rattle.direct_report.proofs.round.tell_rounds.Goals as goal
 
 pub tell_round-requires-clause-group : goal.tell_round-requires-clause-group

@@ -5,13 +5,14 @@ use Rattle.ij_bits.specs.BitLists.{flip_if}
 use Rattle.ij_text.specs.Numbers.{tern_bits}
 use Rattle.icl_references.specs.declared.hier.Ref.{Ref}
 use Rattle.icl_references.specs.declared.hier.Ref.TheVariants.{Fixed}
-use Rattle.icl_references.proofs.Digits.{long, mapped_more}
+use Rattle.icl_references.proofs.Digits.{mapped_more}
+use Rattle.ij_text.proofs.Numbers.{tern_length}
 use Rattle.icl_references.proofs.bits.constants.Goals as goal
 
 pub loop-k-preserved : goal.loop-k-preserved
 loop-k-preserved c =
     let t = c.args.bits.now in
-    let e = long t in
+    let e = tern_length t in
     let f = λ (b : Option Bool). Fixed (flip_if c.args.inverted (unwrap_or b false)) in
     record {
       items = c.push_reserved.ensures.items ∙ ap (λ (l : List Ref). l ++ Fixed c.flip_if.result ∷ []) c.loop-k.invariant.items
@@ -23,5 +24,5 @@ loop-k-preserved c =
 pub returns : goal.returns
 returns c =
     let t = c.args.bits.now in
-    let e = long t in
+    let e = tern_length t in
     c.loop-k.invariant.items ∙ ap (map (λ b. Fixed (flip_if c.args.inverted (unwrap_or b false)))) (take_all c.loop-k.k (tern_bits t) (omega (arith, e, c.len-k-end.ensures.value, c.loop-k-test.false)))

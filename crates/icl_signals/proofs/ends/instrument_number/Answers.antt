@@ -5,7 +5,8 @@ use Rattle.icl_references.specs.Roles.{part_at}
 use Rattle.icl_signals.specs.Moves.{is_instrument_cell}
 use Rattle.icl_signals.specs.Wirings.{cells_of}
 use Rattle.icl_signals.proofs.Standing.{IsAtSome, stands_at, in_cell}
-use Rattle.icl_signals.proofs.CountedParts.{instrument_number_is, get_mapped}
+use Rattle.icl_signals.proofs.CountedParts.{instrument_number_is}
+use Rattle.ij_bits.proofs.Lists.{get_mapped}
 use Rattle.icl_signals.proofs.ends.instrument_number.Goals as goal
 
 pub returns : goal.returns

@@ -2,12 +2,12 @@ use Rattle.std.proofs.Common.{◌+◌, ◌++◌, ℕ, List, map, drop, sym, ap, 
 use Rattle.std.specs.Prelude.{filter, flat_map}
 use Rattle.std.specs.List.{enumerate_from}
 use Rattle.std.proofs.lemmas.List.Elements.{filter-append}
-use Rattle.icl_signals.proofs.Rounds.{split_at}
 use Rattle.icl_references.specs.declared.hier.Cell.{Cell}
 use Rattle.icl_references.specs.Roles.{seen_cell}
 use Rattle.icl_signals.specs.Moves.{Entry, entries_in}
 use Rattle.icl_signals.specs.Kinds.{test_of}
 use Rattle.icl_signals.specs.Told.{seen_entry}
+use Rattle.ij_bits.proofs.Lists.{split_at}
 use Rattle.icl_signals.proofs.entries.entries_of.Goals as goal
 
 pub loop-cell-preserved : goal.loop-cell-preserved

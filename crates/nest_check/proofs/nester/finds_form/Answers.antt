@@ -1,14 +1,11 @@
-use Rattle.std.proofs.Common.{◌≡◌, ◌+◌, ◌-◌, ◌<◌, ℕ, suc, length, sym, ap, ◌∙◌, subst, arith}
+use Rattle.std.proofs.Common.{◌≡◌, ◌+◌, ◌-◌, ◌<◌, length, sym, ap, ◌∙◌, subst, arith}
 use Rattle.std.specs.Prelude.{Some}
 use Rattle.nest_check.specs.Fanout.{sources}
 use Rattle.nest_check.specs.Nesting.{More, Whole, Stuck, run, step}
 use Rattle.nest_check.specs.Seen.{seen, IsTurn}
 use Rattle.nest_check.proofs.Going.{goes_on_within, run_more, run_whole, run_stuck}
+use Rattle.ij_bits.proofs.Tests.{one_less}
 use Rattle.nest_check.proofs.nester.finds_form.Goals as goal
-
--- where the loop stands, before its last turn
-turns_left : (all i : ℕ) → i < all → all - i ≡ suc (all - (i + 1))
-turns_left all i h = omega (arith, h)
 
 pub returns-in-Whole-clause-found : goal.returns-in-Whole-clause-found
 returns-in-Whole-clause-found c _ =
@@ -18,7 +15,7 @@ returns-in-Whole-clause-found c _ =
     let turn : i < all = omega (arith, c.loop-turn-test.true, c.requires.turns) in
     let whole : step net (seen c.loop-turn.nester) ≡ Whole (seen c.step.new.self).marks = subst (λ t. IsTurn (step net (seen c.loop-turn.nester)) t (seen c.step.new.self)) c.in-Whole.is c.in_ok-step.ensures in
     sym c.loop-turn.invariant.1
-    ∙ ap (λ k. run net k (seen c.loop-turn.nester)) (turns_left all i turn)
+    ∙ ap (λ k. run net k (seen c.loop-turn.nester)) (one_less all i turn)
     ∙ run_whole net (all - (i + 1)) (seen c.loop-turn.nester) (seen c.step.new.self).marks whole
     ∙ ap Some (sym c.reverse.ensures.items)
 
@@ -30,7 +27,7 @@ returns-in-Stuck-clause-none c _ =
     let turn : i < all = omega (arith, c.loop-turn-test.true, c.requires.turns) in
     let stuck : step net (seen c.loop-turn.nester) ≡ Stuck = subst (λ t. IsTurn (step net (seen c.loop-turn.nester)) t (seen c.step.new.self)) c.in-Stuck.is c.in_ok-step.ensures in
     sym c.loop-turn.invariant.1
-    ∙ ap (λ k. run net k (seen c.loop-turn.nester)) (turns_left all i turn)
+    ∙ ap (λ k. run net k (seen c.loop-turn.nester)) (one_less all i turn)
     ∙ run_stuck net (all - (i + 1)) (seen c.loop-turn.nester) stuck
 
 pub loop-turn-preserved : goal.loop-turn-preserved
@@ -40,4 +37,4 @@ loop-turn-preserved c =
     let i = c.loop-turn._turn in
     let turn : i < all = omega (arith, c.loop-turn-test.true, c.requires.turns) in
     let more : step net (seen c.loop-turn.nester) ≡ More (seen c.step.new.self) = subst (λ t. IsTurn (step net (seen c.loop-turn.nester)) t (seen c.step.new.self)) c.in-More.is c.in_ok-step.ensures in
-    (goes_on_within net c.requires.well_formed (i + 1) (seen c.loop-turn.nester) (seen c.step.new.self) c.loop-turn.invariant.0 more, sym (run_more net (all - (i + 1)) (seen c.loop-turn.nester) (seen c.step.new.self) more) ∙ ap (λ k. run net k (seen c.loop-turn.nester)) (sym (turns_left all i turn)) ∙ c.loop-turn.invariant.1)
+    (goes_on_within net c.requires.well_formed (i + 1) (seen c.loop-turn.nester) (seen c.step.new.self) c.loop-turn.invariant.0 more, sym (run_more net (all - (i + 1)) (seen c.loop-turn.nester) (seen c.step.new.self) more) ∙ ap (λ k. run net k (seen c.loop-turn.nester)) (sym (one_less all i turn)) ∙ c.loop-turn.invariant.1)

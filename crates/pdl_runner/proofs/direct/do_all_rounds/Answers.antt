@@ -7,7 +7,8 @@ use Rattle.net_graph.specs.declared.net.Net.{Net}
 use Rattle.pdl_meaning.specs.Direct.{do_group}
 use Rattle.pdl_runner.specs.States.{with_reads}
 use Rattle.runners.specs.Runners.{machines_of}
-use Rattle.pdl_runner.proofs.Rounds.{reads_next, rounds_next, seen_next}
+use Rattle.pdl_runner.proofs.Rounds.{reads_next, rounds_next}
+use Rattle.net_graph.proofs.Groups.{seen_next}
 use Rattle.pdl_runner.proofs.direct.do_all_rounds.Goals as goal
 
 pub do_round-requires-clause-group : goal.do_round-requires-clause-group

@@ -3,7 +3,7 @@ use Rattle.ij_text.specs.Numbering.{number_in}
 use Rattle.pdl_parser.specs.Views.{bytes_of}
 use Rattle.pdl_expand.specs.Values.{cells_of}
 use Rattle.pdl_expand.specs.Expansion.{but_last, cell, dotted, dotted_paths}
-use Rattle.pdl_targets.proofs.Formed.{dotted_both}
+use Rattle.pdl_expand.proofs.Walking.{dotted-append}
 use Rattle.pdl_targets.proofs.things.cell_of.Goals as goal
 
 pub returns : goal.returns
@@ -16,5 +16,5 @@ returns c =
     c.in_ok-key-2.ensures
     ∙ ap (λ l. l ++ dotted (map bytes_of c.in_front.result.now)) here
     ∙ ap (λ l. dotted own ++ dotted l) c.in_front.ensures
-    ∙ sym (dotted_both own front) in
+    ∙ sym (dotted-append own front) in
     c.find.ensures.number ∙ ap (λ l. number_in l c.in_ok-key-2.key.items) c.requires.cells ∙ ap (number_in (dotted_paths cells)) key

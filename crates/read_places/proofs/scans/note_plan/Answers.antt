@@ -7,9 +7,9 @@ use Rattle.net_graph.specs.declared.step.ReadBit.{ReadBit}
 use Rattle.scan_packer.proofs.Rooms.{all_there, chain_short, zero_shape}
 use Rattle.scan_packer.proofs.Routes.{is_route}
 use Rattle.read_places.specs.Noting.{place_on}
-use Rattle.retargeter.proofs.Same.{at_ok}
 use Rattle.read_places.specs.declared.place.ReadPlace.{ReadPlace}
 use Rattle.read_places.proofs.Noting.{places_are, same_widths}
+use Rattle.std.proofs.lemmas.Result.{on_ok_weaker}
 use Rattle.read_places.proofs.scans.note_plan.Goals as goal
 
 pub note_reads-requires-clause-there : goal.note_reads-requires-clause-there
@@ -34,4 +34,4 @@ returns-clause-places c =
     let are = ap (λ (p : List ℕ). map (place_on net (reverse p) c.args.scan) c.as_slice-reads.result.now) same
     ∙ ap (λ (rs : List ReadBit). map (place_on net (reverse c.walk.new.route.items) c.args.scan) rs) c.as_slice-reads.ensures
     ∙ places_are net c.args.holds.now c.walk.new.route.items c.walk.ensures.path (same_widths net c.args.holds.now c.requires.scannable.widths) c.args.scan c.args.plan.now.reads.items in
-    at_ok c.note_reads.result (λ e. e ∙ ap (λ (xs : List ReadPlace). c.args.places.now.items ++ xs) are) c.note_reads.ensures
+    on_ok_weaker c.note_reads.result (λ e. e ∙ ap (λ (xs : List ReadPlace). c.args.places.now.items ++ xs) are) c.note_reads.ensures

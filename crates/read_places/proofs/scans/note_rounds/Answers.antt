@@ -1,7 +1,7 @@
 use Rattle.std.proofs.Common.{◌≡◌, ◌+◌, suc, refl, arith}
 use Rattle.group_scans.specs.Rounds.{IsPlannable}
-use Rattle.retargeter.proofs.Going.{seen_next}
 use Rattle.read_places.proofs.Going.{go_on}
+use Rattle.net_graph.proofs.Groups.{seen_next}
 use Rattle.read_places.proofs.scans.note_rounds.Goals as goal
 
 pub note_group-requires-clause-group : goal.note_group-requires-clause-group

@@ -1,6 +1,5 @@
-use Rattle.ij_io.proofs.Adding.{adds_front, adds_then_part, at_refusal}
+use Rattle.ij_io.proofs.Adding.{adds_front, adds_then_part, at_refusal, adds_part_as}
 use Rattle.ij_io.specs.Words.{words_text}
-use Rattle.svf_writer.proofs.Texts.{adds_part_as}
 use Rattle.retargeter.proofs.Texts.{comparing_is}
 use Rattle.retargeter.proofs.scan.put_comparing.Goals as goal
 

@@ -8,8 +8,9 @@ use Rattle.path_planner.specs.Plans.{ArePlans}
 use Rattle.retargeter.specs.Scanning.{CanScanAll}
 use Rattle.retargeter.specs.Writing.{WritesGroupPart}
 use Rattle.retargeter.proofs.Found.{can_open}
-use Rattle.retargeter.proofs.Same.{at_ok, at_err, writes_group, writes_part, is_after}
+use Rattle.retargeter.proofs.Same.{writes_group, writes_part, is_after}
 use Rattle.retargeter.proofs.Scanning.{can_scan_all}
+use Rattle.std.proofs.lemmas.Result.{on_ok_weaker, on_err_weaker}
 use Rattle.retargeter.proofs.scans.put_group.Goals as goal
 
 pub returns-in_err-plans-clause-part : goal.returns-in_err-plans-clause-part
@@ -25,14 +26,14 @@ put_plans-requires-clause-plans g c =
 pub returns-clause-whole : goal.returns-clause-whole
 returns-clause-whole g c =
     let mine = subst (λ (ps : List ScanPlan). ArePlans c.args.net.now c.args.tree.now (seen_group c.args.group.now) c.args.holds.now (map seen_plan ps)) (sym c.as_slice.ensures) c.in_ok-plans.ensures.plans in
-    at_ok c.put_plans.result (writes_group c.args.net.now c.args.tree.now (seen_group c.args.group.now) c.args.holds.now c.requires.group.named (map seen_plan c.as_slice.result.now) mine) c.put_plans.ensures.whole
+    on_ok_weaker c.put_plans.result (writes_group c.args.net.now c.args.tree.now (seen_group c.args.group.now) c.args.holds.now c.requires.group.named (map seen_plan c.as_slice.result.now) mine) c.put_plans.ensures.whole
 
 pub returns-clause-part : goal.returns-clause-part
 returns-clause-part g c =
     let mine = subst (λ (ps : List ScanPlan). ArePlans c.args.net.now c.args.tree.now (seen_group c.args.group.now) c.args.holds.now (map seen_plan ps)) (sym c.as_slice.ensures) c.in_ok-plans.ensures.plans in
-    at_err c.put_plans.result (writes_part c.args.net.now c.args.tree.now (seen_group c.args.group.now) c.args.holds.now c.requires.group.named (map seen_plan c.as_slice.result.now) mine) c.put_plans.ensures.part
+    on_err_weaker c.put_plans.result (writes_part c.args.net.now c.args.tree.now (seen_group c.args.group.now) c.args.holds.now c.requires.group.named (map seen_plan c.as_slice.result.now) mine) c.put_plans.ensures.part
 
 pub returns-clause-holds : goal.returns-clause-holds
 returns-clause-holds g c =
     let mine = subst (λ (ps : List ScanPlan). ArePlans c.args.net.now c.args.tree.now (seen_group c.args.group.now) c.args.holds.now (map seen_plan ps)) (sym c.as_slice.ensures) c.in_ok-plans.ensures.plans in
-    at_ok c.put_plans.result (is_after c.args.net.now c.args.tree.now (seen_group c.args.group.now) c.args.holds.now c.requires.group.named (map seen_plan c.as_slice.result.now) mine) c.put_plans.ensures.holds
+    on_ok_weaker c.put_plans.result (is_after c.args.net.now c.args.tree.now (seen_group c.args.group.now) c.args.holds.now c.requires.group.named (map seen_plan c.as_slice.result.now) mine) c.put_plans.ensures.holds

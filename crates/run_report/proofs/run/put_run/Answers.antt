@@ -2,20 +2,20 @@ use Rattle.std.proofs.Common.{map}
 use Rattle.bit_steps.specs.BitSteps.{bit_steps}
 use Rattle.instruments.specs.Seen.{seen_model}
 use Rattle.pdl_parser.specs.Views.{seen_proc}
-use Rattle.retargeter.proofs.Same.{at_ok, at_err}
 use Rattle.run_report.proofs.Naming.{writes, writes_part}
+use Rattle.std.proofs.lemmas.Result.{on_ok_weaker, on_err_weaker}
 use Rattle.run_report.proofs.run.put_run.Goals as goal
 
 pub returns-clause-whole : goal.returns-clause-whole
 returns-clause-whole g c =
     let steps = (bit_steps (map seen_proc c.args.procs.now) c.args.net.now c.args.tree.now c.args.name.now).steps in
-    at_ok c.put_named_play.result
+    on_ok_weaker c.put_named_play.result
     (writes c.args.net.now c.args.tree.now c.args.device.now (map seen_model c.args.models.now.items) steps c.args.commands.now (g.K.Sink.taken c.args.k.now) (g.K.Sink.taken c.put_named_play.new.k) c.new-reads.result c.new-reads.ensures)
     c.put_named_play.ensures.whole
 
 pub returns-clause-part : goal.returns-clause-part
 returns-clause-part g c =
     let steps = (bit_steps (map seen_proc c.args.procs.now) c.args.net.now c.args.tree.now c.args.name.now).steps in
-    at_err c.put_named_play.result
+    on_err_weaker c.put_named_play.result
     (writes_part c.args.net.now c.args.tree.now c.args.device.now (map seen_model c.args.models.now.items) steps c.args.commands.now (g.K.Sink.taken c.args.k.now) (g.K.Sink.taken c.put_named_play.new.k) c.new-reads.result c.new-reads.ensures)
     c.put_named_play.ensures.part

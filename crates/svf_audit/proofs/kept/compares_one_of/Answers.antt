@@ -2,7 +2,8 @@ use Rattle.std.proofs.Common.{◌≡◌, ◌+◌, ◌-◌, ◌==◌, ap, sym, �
 use Rattle.std.specs.Prelude.{not, replicate, slice_range, unwrap_or}
 use Rattle.ij_bits.specs.BitLists.{has_one}
 use Rattle.svf_writer.specs.Lent.{lent}
-use Rattle.svf_audit.proofs.Looking.{has_number, ones_some}
+use Rattle.svf_audit.proofs.Looking.{ones_some}
+use Rattle.ij_bits.proofs.Hex.{number_zero}
 use Rattle.svf_audit.proofs.kept.compares_one_of.Goals as goal
 
 pub returns-in-Some : goal.returns-in-Some
@@ -10,7 +11,7 @@ returns-in-Some c =
     let k = c.args.kept.now in
     let to = c.args.from + c.args.n in
     ap (λ x. not (x == 0)) c.number.ensures
-    ∙ has_number (slice_range (unwrap_or c.in-Some.mask.now []) c.args.from to)
+    ∙ number_zero (slice_range (unwrap_or c.in-Some.mask.now []) c.args.from to)
     ∙ ap (λ o. has_one (slice_range (unwrap_or (lent o) (replicate k.len true)) c.args.from to)) (sym c.in-Some.is)
 
 pub returns-in-None : goal.returns-in-None

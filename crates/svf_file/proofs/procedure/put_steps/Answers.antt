@@ -1,14 +1,14 @@
-use Rattle.std.proofs.Common.{◌≡◌, ◌∙◌, ◌∷◌, ap, refl, subst}
+use Rattle.std.proofs.Common.{◌≡◌, ◌∙◌, ap, refl, subst}
 use Rattle.std.specs.Prelude.{MatchOption}
 use Rattle.ij_io.proofs.Adding.{at_refusal}
 use Rattle.net_graph.specs.SeenSteps.{seen_step}
 use Rattle.bit_steps.specs.BitSteps.{BitStepsOf, nothing_left, given_first_bit}
-use Rattle.retargeter.proofs.Same.{at_err}
 use Rattle.retargeter.proofs.Scripts.{few_later, plannable_later, few_steps}
 use Rattle.svf_file.specs.Pieces.{with_piece}
 use Rattle.svf_file.proofs.Causes.{one_later}
 use Rattle.svf_file.proofs.Pieces.{front_stays}
 use Rattle.svf_file.proofs.Steps.{is_part, one_more}
+use Rattle.std.proofs.lemmas.Result.{on_err_weaker}
 use Rattle.svf_file.proofs.procedure.put_steps.Goals as goal
 
 pub returns-in_err-step-clause-part : goal.returns-in_err-step-clause-part
@@ -74,6 +74,6 @@ loop-piece-preserved g c =
 pub returns-clause-part : goal.returns-clause-part
 returns-clause-part g c =
     let files = g.S.Shelf.files c.loop-piece.shelf in
-    at_err c.put_piece.result
+    on_err_weaker c.put_piece.result
     (λ h. is_part c.args.session.now c.args.steps.now.steps (with_piece (g.S.Shelf.files c.args.shelf.now) c.args.name.now c.args.piece) c.args.name.now c.loop-piece.session c.loop-piece.steps.steps files c.loop-piece.piece c.loop-piece.invariant.go
     (g.S.Shelf.files c.put_piece.new.shelf) (h c.loop-piece.invariant.there)) c.put_piece.ensures.part

@@ -1,20 +1,18 @@
-use Rattle.std.proofs.Common.{◌≡◌, ◌+◌, ◌*◌, ◌%◌, ◌^◌, ◌≤◌, ℕ, suc, arith, ap, ◌∙◌, lit<, get_or, take}
-use Rattle.std.proofs.Math.Nat.{pow-le-pow_right, pow-suc}
+use Rattle.std.proofs.Common.{◌≡◌, ◌+◌, ◌*◌, ◌%◌, ◌^◌, suc, arith, ap, ◌∙◌, get_or, take}
+use Rattle.std.proofs.Math.Nat.{pow-suc}
 use Rattle.ij_bits.specs.BitLists.{number_of}
 use Rattle.ij_text.specs.Numbers.{hex_value as digit_value}
 use Rattle.svf_reader.specs.Values.{hex_bits}
 use Rattle.svf_reader.proofs.Putting.{hex_bits-more}
 use Rattle.svf_reader.proofs.Packing.{digit_front}
+use Rattle.svf_reader.proofs.Digits.{hex_up_to}
 use Rattle.svf_reader.proofs.hex.digits_number.Goals as goal
 
-up_to : (i n : ℕ) → i ≤ n → 16 ^ i ≤ 16 ^ n
-up_to i n h = pow-le-pow_right (lit< tt) h
-
 pub overflow_mul-value : goal.overflow_mul-value
-overflow_mul-value c = omega (arith, up_to c.loop-d.d-index 15 (omega arith), c.loop-d.invariant.fits)
+overflow_mul-value c = omega (arith, hex_up_to c.loop-d.d-index 15 (omega arith), c.loop-d.invariant.fits)
 
 pub overflow_add-value : goal.overflow_add-value
-overflow_add-value c = omega (arith, up_to c.loop-d.d-index 15 (omega arith), c.loop-d.invariant.fits)
+overflow_add-value c = omega (arith, hex_up_to c.loop-d.d-index 15 (omega arith), c.loop-d.invariant.fits)
 
 pub loop-d-preserved : goal.loop-d-preserved
 loop-d-preserved c =

@@ -4,14 +4,15 @@ use Rattle.ij_bits.specs.Hex.{hex_digit}
 use Rattle.ij_io.proofs.Adding.{at_refusal}
 use Rattle.ij_io.proofs.Fronts.{AddsFront, front_start, front_next, front_part}
 use Rattle.svf_writer.specs.Written.{hex_lines, hex_text}
-use Rattle.svf_writer.proofs.Opcodes.{bits_of-length, next_digit, opcode_digit}
+use Rattle.svf_writer.proofs.Opcodes.{next_digit, opcode_digit}
 use Rattle.ij_io.proofs.HexLines.{all_lines}
+use Rattle.ij_bits.proofs.WordBits.{length-bits_of}
 use Rattle.svf_writer.proofs.opcode.put_opcode.Goals as goal
 
 pub loop-j-init : goal.loop-j-init
 loop-j-init g c =
     let bits = bits_of c.args.width c.args.n in
-    let n : c.div_ceil-digits.result - 0 ≡ (length bits + 3) / 4 = omega (arith, bits_of-length c.args.width c.args.n) in
+    let n : c.div_ceil-digits.result - 0 ≡ (length bits + 3) / 4 = omega (arith, length-bits_of c.args.width c.args.n) in
     let taken = g.K.Sink.taken c.args.k.now in
     record {
       front = subst (λ (rest : List ℕ). AddsFront taken taken rest (hex_text bits)) (sym (all_lines bits (c.div_ceil-digits.result - 0) n)) (front_start taken (hex_text bits));

@@ -1,9 +1,9 @@
 use Rattle.std.proofs.Common.{[], ◌∷◌, ◌++◌}
 use Rattle.std.specs.Prelude.{codes}
 use Rattle.ij_bits.specs.BitLists.{bits_of}
-use Rattle.ij_io.proofs.Adding.{adds_both, adds_front, adds_then_part, at_refusal}
+use Rattle.ij_io.proofs.Adding.{adds_both, adds_front, adds_then_part, at_refusal, adds_as, adds_part_as}
 use Rattle.ij_io.specs.Words.{hex_text, words_text}
-use Rattle.svf_writer.proofs.Texts.{adds_as, adds_part_as, reset_is}
+use Rattle.svf_writer.proofs.Texts.{reset_is}
 use Rattle.svf_writer.proofs.write.put_reset.Goals as goal
 
 pub returns-in_err-put_words-clause-part : goal.returns-in_err-put_words-clause-part

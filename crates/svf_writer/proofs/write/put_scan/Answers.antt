@@ -1,6 +1,6 @@
-use Rattle.ij_io.proofs.Adding.{adds_both, adds_front, adds_then_part, at_refusal}
+use Rattle.ij_io.proofs.Adding.{adds_both, adds_front, adds_then_part, at_refusal, adds_as, adds_part_as}
 use Rattle.ij_io.specs.Words.{words_text}
-use Rattle.svf_writer.proofs.Texts.{scan_is, adds_as, adds_part_as}
+use Rattle.svf_writer.proofs.Texts.{scan_is}
 use Rattle.svf_writer.proofs.write.put_scan.Goals as goal
 
 pub returns-in_err-put_words-clause-part : goal.returns-in_err-put_words-clause-part

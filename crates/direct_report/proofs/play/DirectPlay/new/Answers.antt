@@ -4,7 +4,7 @@ use Rattle.instruments.specs.OnNetwork.{fresh}
 use Rattle.bit_marks.specs.Marks.{Marks, HasMark, mark_at}
 use Rattle.bit_marks.proofs.Setting.{each_bit_has_one, zeros_are_zero}
 use Rattle.pdl_runner.specs.States.{SeenState}
-use Rattle.direct_report.proofs.Keeping.{machines_are}
+use Rattle.runners.proofs.Machines.{machines_are}
 use Rattle.direct_report.proofs.play.DirectPlay.new.Goals as goal
 
 pub invariant_of-result : goal.invariant_of-result

@@ -2,7 +2,7 @@ use Rattle.std.proofs.Common.{◌+◌, ◌*◌, ◌==◌, ap}
 use Rattle.std.specs.Int.{bit_at}
 use Rattle.std.proofs.lemmas.Nat.Bits.{bit_at-zero}
 use Rattle.merge_order.specs.Tables.{has_bit}
-use Rattle.merge_order.proofs.Tabled.{any_word}
+use Rattle.ij_bits.proofs.Lists.{any_word}
 use Rattle.merge_order.proofs.bit_sets.BitSets.written_word.Goals as goal
 
 pub loop-write-init : goal.loop-write-init

@@ -5,7 +5,8 @@ use Rattle.net_graph.specs.Chain.{IsRoute, chain}
 use Rattle.net_graph.specs.Resets.{start_holds}
 use Rattle.svf_audit.specs.Audit.{bits_on}
 use Rattle.svf_audit.proofs.Found.{path_few}
-use Rattle.svf_audit.proofs.Paths.{bits_at_start, bits_fit, route_in}
+use Rattle.svf_audit.proofs.Paths.{bits_at_start, bits_fit}
+use Rattle.net_graph.proofs.Routes.{route_in}
 use Rattle.svf_audit.proofs.registers.Registers.find.Goals as goal
 
 pub returns-then-self-clause-found : goal.returns-then-self-clause-found

@@ -1,5 +1,5 @@
 use Rattle.std.proofs.Common.{◌≡◌, ◌+◌, ◌<◌, ◌++◌, ◌∷◌, [], ap, sym, ◌∙◌, subst, arith, length, length-append, get_or, take, drop, false, true}
-use Rattle.std.proofs.lemmas.List.{length-set, take_more_same}
+use Rattle.std.proofs.lemmas.List.{length-set, take_more_same, get_or_default}
 use Rattle.ij_bits.specs.BitLists.{same_bit}
 use Rattle.net_graph.specs.Chain.{put_chain}
 use Rattle.net_graph.specs.Held.{set_hold, IsHeld}
@@ -8,7 +8,7 @@ use Rattle.svf_audit.specs.Registers.{differing, path_in}
 use Rattle.svf_audit.proofs.Found.{turned_held, turned_long, turned_put}
 use Rattle.svf_audit.proofs.Looking.{alike, equal, unlike}
 use Rattle.svf_audit.proofs.Places.{first}
-use Rattle.svf_audit.proofs.Turning.{any_default, moved_one, skips, taken_one}
+use Rattle.svf_audit.proofs.Turning.{moved_one, skips, taken_one}
 use Rattle.svf_audit.proofs.registers.Registers.turn.Goals as goal
 
 pub returns-then-get-value-clause-turned : goal.returns-then-get-value-clause-turned
@@ -51,7 +51,7 @@ set-requires-2 c =
     let tdi = seen_tdi c.args.kept.now in
     let t = c.requires.turned in
     let inside : k < length r.bits.items = omega (arith, c.requires.within, turned_long r tdi k t) in
-    let bit : c.index-bit.result.now ≡ get_or r.bits.items k first = c.index-bit.ensures ∙ any_default r.bits.items k c.index-bit.result.now first inside in
+    let bit : c.index-bit.result.now ≡ get_or r.bits.items k first = c.index-bit.ensures ∙ get_or_default r.bits.items k c.index-bit.result.now first inside in
     subst (IsHeld r.after) (sym bit) (turned_held r tdi k k t c.requires.within)
 
 pub returns-clause-turned : goal.returns-clause-turned
@@ -62,7 +62,7 @@ returns-clause-turned c =
     let tdi = seen_tdi c.args.kept.now in
     let t = c.requires.turned in
     let inside : k < length r.bits.items = omega (arith, c.requires.within, turned_long r tdi k t) in
-    let bit : c.index-bit.result.now ≡ get_or r.bits.items k first = c.index-bit.ensures ∙ any_default r.bits.items k c.index-bit.result.now first inside in
+    let bit : c.index-bit.result.now ≡ get_or r.bits.items k first = c.index-bit.ensures ∙ get_or_default r.bits.items k c.index-bit.result.now first inside in
     record {
       sound = record {
         net = t.sound.net;
@@ -94,7 +94,7 @@ returns-clause-moves c =
     let tdi = seen_tdi c.args.kept.now in
     let t = c.requires.turned in
     let inside : k < length r.bits.items = omega (arith, c.requires.within, turned_long r tdi k t) in
-    let bit : c.index-bit.result.now ≡ get_or r.bits.items k first = c.index-bit.ensures ∙ any_default r.bits.items k c.index-bit.result.now first inside in
+    let bit : c.index-bit.result.now ≡ get_or r.bits.items k first = c.index-bit.ensures ∙ get_or_default r.bits.items k c.index-bit.result.now first inside in
     let other : same_bit (get_or tdi k false) (get_or r.chain.items k false) ≡ false =
     ap (λ b. same_bit b (get_or r.chain.items k false)) (sym c.tdi_at-value.ensures) ∙ ap (same_bit v) (sym c.get.ensures) ∙ unlike c.get.result v c.if-get-value.false in
     ap (λ xs. xs ++ differing (drop (k + 1) r.bits.items) (drop (k + 1) c.set.new.self.items) (drop (k + 1) tdi)) c.push_reserved.ensures.items

@@ -1,17 +1,13 @@
-use Rattle.std.proofs.Common.{◌≡◌, Bool, true, false, refl, ap, sym, ◌∙◌, subst}
-use Rattle.std.specs.Prelude.{All, map, not, length}
+use Rattle.std.proofs.Common.{ap, sym, ◌∙◌, subst}
+use Rattle.std.specs.Prelude.{All, map, length}
 use Rattle.std.specs.List.{list_all}
-use Rattle.std.proofs.lemmas.Bool.{false≢true}
+use Rattle.std.proofs.lemmas.Bool.{not-true}
 use Rattle.net_graph.specs.Held.{IsHeld}
 use Rattle.svf_audit.specs.Audit.{has_row}
 use Rattle.svf_audit.specs.Registers.{path_in}
 use Rattle.svf_audit.proofs.Found.{moved_others, moved_there, ready_then, shifted_shape}
 use Rattle.svf_audit.proofs.Moving.{shape_kept, OthersSame}
 use Rattle.svf_audit.proofs.registers.Registers.update.Goals as goal
-
-none : (b : Bool) → not b ≡ true → b ≡ false
-none true e = absurd (false≢true e)
-none false e = refl
 
 pub put_bits-requires-clause-shape : goal.put_bits-requires-clause-shape
 put_bits-requires-clause-shape c =
@@ -49,7 +45,7 @@ returns-clause-still c =
     record {
       same = sym c.put_bits.ensures;
       ready = λ t.
-          let g = ready_then r c.put_bits.new.into c.requires.sound c.requires.found c.requires.shifted (sym c.steers.ensures ∙ none c.steers.result t) c.put_bits.ensures in
+          let g = ready_then r c.put_bits.new.into c.requires.sound c.requires.found c.requires.shifted (sym c.steers.ensures ∙ not-true c.steers.result t) c.put_bits.ensures in
           record { found = record { path = g.0; bits = g.1 }; chain = g.2 };
       listed = λ t. ap (λ h. list_all (has_row h) r.net.now.muxes.items) c.put_bits.ensures ∙ c.requires.rows;
     }
