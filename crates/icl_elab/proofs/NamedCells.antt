@@ -29,8 +29,6 @@ use Rattle.ij_bits.proofs.Contained.{later_in}
 use Rattle.ij_bits.proofs.Everywhere.{all_kept}
 use Rattle.ij_bits.proofs.Lists.{filter_twice}
 
--- ---- what is in a list
-
 -- ---- two lists of which the second has fewer items, under the same names
 
 module _ {A B : Type 0} (f : A → List ℕ) (g : B → List ℕ) (x : A) (y : B) (xs : List A) (ys : List B) where

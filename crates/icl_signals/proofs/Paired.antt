@@ -7,8 +7,6 @@ use Rattle.icl_frames.proofs.Answering.{both, ok_is}
 use Rattle.std.proofs.lemmas.Option.{same_Some}
 use Rattle.ij_bits.proofs.Lists.{head_same, tail_same}
 
--- ---- items
-
 -- ---- what holds of each item
 
 module _ {A : Type 0} (P : A → Type 0) where

@@ -41,5 +41,3 @@ own_there cells e h =
     (all_weaker (λ (k : ℕ). k < part_width e.what) (λ k. IsRefOf cells (one_bit_of e.cell e.part k))
     (λ k lt. subst (λ o. IsSomeAnd o (λ p. k < part_width p)) (sym h) lt) (range_with_len 0 (part_width e.what))
     (range_below 0 (part_width e.what) (part_width e.what) (omega arith)))
-
--- ---- open bits

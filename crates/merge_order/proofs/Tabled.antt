@@ -13,8 +13,6 @@ use Rattle.merge_order.specs.Tables.{SameRows, rows_around}
 use Rattle.std.proofs.Math.Bool.{or_comm}
 use Rattle.ij_bits.proofs.Tests.{or_four, number_turned}
 
--- ---- either one or the other
-
 -- ---- one of a list
 
 module _ {A : Type 0} where

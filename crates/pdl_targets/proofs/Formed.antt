@@ -35,5 +35,3 @@ short_of net (r ∷ rs) h s =
 
 pub short_regs : (net : Net) → IsNet net → All (λ reg. length reg.capture.items < 2 ^ 32) net.regs.items
 short_regs net is_net = short_of net net.regs.items is_net.regs is_net.bits_within_limit
-
--- ---- dotted paths

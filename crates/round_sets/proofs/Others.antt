@@ -9,8 +9,6 @@ use Rattle.round_sets.specs.Rows.{AreMuxSets, MuxSets, has_other, row_at}
 use Rattle.std.proofs.Math.Bool.{or-true}
 use Rattle.ij_bits.proofs.Tests.{number_turned}
 
--- ---- tests
-
 -- ---- a row more has a round
 
 -- where the round is another one

@@ -46,8 +46,6 @@ alike true false f g = g refl
 alike false true f g = sym (f refl)
 alike false false f g = refl
 
--- ---- an item of a list
-
 -- ---- compares, and reads, some of which differ
 
 compare_test : (c : Compare) (cs : List Compare) → (is_empty (differing cs) ≡ false → SomeCompareDiffers cs) → (t : Bool) → same_bit c.expect c.found ≡ t → is_empty (cond t (differing cs) (c ∷ differing cs)) ≡ false → SomeCompareDiffers (c ∷ cs)

@@ -19,10 +19,6 @@ use Rattle.net_graph.proofs.Widths.{chain_fits, started_held}
 use Rattle.svf_audit.specs.Audit.{bits_on}
 use Rattle.net_graph.proofs.Routes.{route_in}
 
--- ---- every path has room
-
--- ---- at power-up
-
 -- ---- the bits of a path
 
 -- they depend on the widths of the registers alone

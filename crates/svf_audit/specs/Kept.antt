@@ -5,7 +5,6 @@ use Rattle.svf_writer.specs.Lent.{lent}
 use Rattle.svf_audit.specs.declared.kept.Kept.{Kept}
 use Rattle.tap_machine.specs.Play.{LastScan, expected}
 
-
 abbrev pub seen_tdi : Kept → List Bool
 seen_tdi k = unwrap_or (lent k.tdi) []
 

@@ -10,7 +10,6 @@ use Rattle.svf_audit.specs.Kept.{looked_for}
 use Rattle.svf_audit.specs.Registers.{path_in}
 use Rattle.svf_audit.proofs.Found.{bits_count, shifted_shape}
 use Rattle.net_graph.specs.Chain.{IsRoute}
-
 use Rattle.svf_audit.proofs.Scanning.{changed_as}
 use Rattle.net_graph.proofs.Routes.{route_is}
 use Rattle.svf_audit.proofs.auditor.does.Goals as goal
