@@ -8,8 +8,8 @@ ghost use Rattle.ij_text.specs.Numbers.{InDecimal, InBits, bits_in, seen, tern_b
 ghost use Rattle.bench_lines.specs.Words.{care_in, number, decimal, in_decimal, is_open, is_one, is_wide, value_in, without_x, plain, hex, hex_from};
 ghost use Rattle.bench_lines.specs.Reading.{plain_value};
 
-use ij_bits::{List, OutOfMemory, Tern};
-use ij_text::{Name, Number, NumberFault, Place, bit_at, hex_value, read_number};
+use ij_bits::{OutOfMemory, Tern};
+use ij_text::{Number, NumberFault, Place, bit_at, hex_value, read_number};
 use std::alloc::Global;
 
 /// Whether a word is this one.

@@ -9,13 +9,14 @@ ghost use Rattle.icl_expressions.specs.Reading.{read_put, read_operand, read_fac
 
 use crate::leaves::read_leaf;
 use crate::parts::Part;
-use crate::reading::{Parsed, begins_mark, beside, read_mark};
+use crate::reading::{Parsed, begins_mark, read_mark};
 use crate::signs::{
     SignAt, begins_product_sign, begins_sum_sign, read_product_sign, read_sum_sign,
 };
 use crate::stop::Stop;
 use icl_lexer::Cursor;
 use icl_syntax::{Expr, Limit};
+use ij_bits::beside;
 use std::alloc::Global;
 
 /// An expression; how many operators its outermost expression has up to here; and whether it is a sized number, behind

@@ -11,9 +11,7 @@ mod stop;
 
 pub use leaves::read_decimal;
 pub use parts::{Part, read_parted};
-pub use reading::{
-    Parsed, before_close, begins_mark, beside, pushed, read_mark, read_name, read_word,
-};
+pub use reading::{Parsed, before_close, begins_mark, pushed, read_mark, read_name, read_word};
 pub use signals::{
     maybe_expr_behind, maybe_range, read_expr_behind, read_sig, read_sigs, read_value,
 };

@@ -40,18 +40,6 @@ pub fn pushed<'a, X: Drop>(
     })
 }
 
-/// What was read already, beside what is read next. It is let go of where that stops.
-pub fn beside<X: Drop, Y>(read: X, next: Result<Y, Stop>) -> Result<(X, Y), Stop>
-    ensures read { IfOk result (λ p. p.0 ≡ read) }
-    ensures next { IfOk result (λ p. next ≡ Ok p.1) }
-    ensures stops { IfErr result (λ e. next ≡ Err e) }
-{
-    match next {
-        Ok(next) => Ok((read, next)),
-        Err(e) => Err(e),
-    }
-}
-
 /// Whether a mark is the next token.
 pub fn begins_mark(tokens: &Cursor, mark: u8) -> bool
     ensures { result ≡ begins (is_mark mark) tokens.now }

@@ -9,11 +9,11 @@ ghost use Rattle.icl_expressions.specs.Reading.{read_value, read_expr_behind, re
 
 use crate::leaves::number_value;
 use crate::parts::{Part, read_behind, read_parted};
-use crate::reading::{Parsed, begins_mark, begins_name, beside, read_mark};
+use crate::reading::{Parsed, begins_mark, begins_name, read_mark};
 use crate::stop::Stop;
 use icl_lexer::{Cursor, Lexeme};
 use icl_syntax::{Ends, Expr, Few, Range, Sig, SigWhat, SmallText};
-use ij_bits::List;
+use ij_bits::{List, beside};
 use ij_text::Place;
 use std::alloc::Global;
 

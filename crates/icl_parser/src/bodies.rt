@@ -12,12 +12,12 @@ ghost use Rattle.icl_parser.specs.Reading.{read_free_prop, read_attribute_said, 
 
 use crate::words::prop_word;
 use icl_expressions::{
-    Parsed, Stop, before_close, begins_mark, beside, maybe_expr_behind, pushed, read_decimal,
-    read_mark, read_name, read_sig, read_sigs, read_value,
+    Parsed, Stop, before_close, begins_mark, maybe_expr_behind, pushed, read_decimal, read_mark,
+    read_name, read_sig, read_sigs, read_value,
 };
 use icl_lexer::{Cursor, Lexeme};
 use icl_syntax::{BodyKind, Expr, Prop, PropKeyword, Sig, SmallText};
-use ij_bits::{List, OutOfMemory};
+use ij_bits::{List, OutOfMemory, beside};
 use std::alloc::Global;
 
 // ---- which properties may stand

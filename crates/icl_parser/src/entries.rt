@@ -5,9 +5,9 @@ ghost use Rattle.grammar.specs.Symbol.{appended};
 ghost use Rattle.icl_expressions.specs.Seen.{seen_read, Gives};
 ghost use Rattle.icl_expressions.specs.Reading.{Reading, Shrinks, read_put, more, read_many, read_braced};
 
-use icl_expressions::{Parsed, Stop, before_close, beside, pushed, read_mark};
+use icl_expressions::{Parsed, Stop, before_close, pushed, read_mark};
 use icl_lexer::Cursor;
-use ij_bits::List;
+use ij_bits::{List, beside};
 use std::alloc::Global;
 
 /// What stands behind others of its kind, without a mark between them.

@@ -13,12 +13,12 @@ use crate::bodies::{read_attribute_said, read_body};
 use crate::entries::{Entry, read_behind, read_braced};
 use crate::words::bind_word;
 use icl_expressions::{
-    Parsed, Stop, begins_mark, beside, maybe_expr_behind, maybe_range, pushed, read_expr_behind,
-    read_mark, read_name, read_parted, read_sig, read_sigs, read_word,
+    Parsed, Stop, begins_mark, maybe_expr_behind, maybe_range, pushed, read_expr_behind, read_mark,
+    read_name, read_parted, read_sig, read_sigs, read_word,
 };
 use icl_lexer::Cursor;
 use icl_syntax::{Bind, BindKeyword, BodyKind, MuxRow, PortKind, Range, What};
-use ij_bits::List;
+use ij_bits::{List, beside};
 use ij_text::Place;
 use std::alloc::Global;
 

@@ -14,11 +14,11 @@ use crate::bodies::read_attribute_said;
 use crate::entries::{Entry, read_braced, read_many};
 use crate::words::{link_kind, member_word};
 use icl_expressions::{
-    Parsed, Stop, before_close, beside, pushed, read_mark, read_name, read_value, read_word,
+    Parsed, Stop, before_close, pushed, read_mark, read_name, read_value, read_word,
 };
 use icl_lexer::Cursor;
 use icl_syntax::{EnumWord, LinkInstr, LinkKind, MemberKeyword, SmallText, What};
-use ij_bits::{List, OutOfMemory};
+use ij_bits::{List, OutOfMemory, beside};
 use std::alloc::Global;
 
 // ---- enumerations

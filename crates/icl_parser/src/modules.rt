@@ -13,10 +13,10 @@ use crate::items::{
 };
 use crate::links::{read_interface, read_link, read_words};
 use crate::words::item_word;
-use icl_expressions::{Parsed, Stop, beside, read_name, read_word};
+use icl_expressions::{Parsed, Stop, read_name, read_word};
 use icl_lexer::Cursor;
 use icl_syntax::{Item, ItemKeyword, Module, What};
-use ij_bits::List;
+use ij_bits::{List, beside};
 use ij_text::Place;
 use std::alloc::Global;
 

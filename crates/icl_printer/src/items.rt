@@ -4,7 +4,7 @@ ghost use Rattle.ij_bits.specs.Room.{seen_list};
 ghost use Rattle.ij_io.specs.Bytes.{Adds, AddsPart};
 ghost use Rattle.ij_io.specs.Causes.{HasCause};
 ghost use Rattle.icl_syntax.specs.Words.{link_word};
-ghost use Rattle.icl_printer.specs.Layout.{word, layout};
+ghost use Rattle.icl_printer.specs.Layout.{layout};
 ghost use Rattle.icl_printer.specs.Canonical.{mux_tokens, child_tokens, words_tokens, parameter_tokens, parameter_word, interface_tokens, in_turn, member_tokens, link_tokens};
 ghost use Rattle.icl_syntax.specs.Views.{bytes_of, seen_bind, seen_enum_word, seen_expr, seen_instr, seen_row, seen_sig};
 

@@ -4,7 +4,7 @@ ghost use Rattle.ij_io.specs.Bytes.{Adds, AddsPart};
 ghost use Rattle.ij_io.specs.Causes.{HasCause};
 ghost use Rattle.std.specs.Option.{option_map};
 ghost use Rattle.ij_bits.specs.Room.{seen_list};
-ghost use Rattle.icl_printer.specs.Layout.{word, layout};
+ghost use Rattle.icl_printer.specs.Layout.{layout};
 ghost use Rattle.icl_printer.specs.Canonical.{attribute_tokens, port_binding_tokens, parameter_binding_tokens};
 ghost use Rattle.icl_syntax.specs.Views.{seen_expr, seen_range, seen_sig};
 

@@ -10,7 +10,6 @@ ghost use Rattle.icl_signals.specs.PlainNets.{seen_mux, seen_net, seen_reg, seen
 ghost use Rattle.icl_signals.specs.Connecting.{entries_that, mux_of, network, network_from, register_of, thing_of};
 
 use crate::ConnectFault;
-use crate::beside::beside;
 use crate::ends::scan_from;
 use crate::entries::entries_of;
 use crate::finding::with_ends;
@@ -23,7 +22,7 @@ use crate::registers::registers;
 use crate::things::things;
 use crate::wiring::{Wiring, wiring_of};
 use icl_elab::{Hier, Ref};
-use ij_bits::{List, OutOfMemory};
+use ij_bits::{List, OutOfMemory, beside};
 use ij_text::{Name, Place};
 use net_graph::{Mux, Net, Reg, Thing};
 use std::alloc::Global;

@@ -11,13 +11,12 @@ ghost use Rattle.icl_signals.specs.PlainNets.{seen_input, seen_output, seen_inst
 ghost use Rattle.icl_signals.specs.Connecting.{input_from, input_of, output_of, instrument_of, instruments, parts_that};
 
 use crate::ConnectFault;
-use crate::beside::beside;
 use crate::ends::input_from;
 use crate::entries::{PartAt, entries_at, next, own_refs};
 use crate::parts::{Kind, is_instrument, width_of};
 use crate::wiring::Wiring;
 use icl_elab::{Cell, Ref};
-use ij_bits::{List, OutOfMemory};
+use ij_bits::{List, OutOfMemory, beside};
 use ij_text::{Place, name_of};
 use net_graph::{Inst, PortIn, PortOut, Sig};
 use std::alloc::Global;

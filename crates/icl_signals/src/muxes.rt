@@ -9,13 +9,12 @@ ghost use Rattle.icl_signals.specs.PlainNets.{seen_row, seen_mux};
 ghost use Rattle.icl_signals.specs.Connecting.{select_from, row_from, mux_of};
 
 use crate::ConnectFault;
-use crate::beside::beside;
 use crate::copies::values_copy;
 use crate::ends::{scan_from, select_from};
 use crate::entries::PartAt;
 use crate::wiring::Wiring;
 use icl_elab::{Body, Ref};
-use ij_bits::{List, Tern};
+use ij_bits::{List, Tern, beside};
 use ij_text::{Place, name_of};
 use net_graph::{BitId, Mux, Row};
 use std::alloc::Global;

@@ -13,7 +13,6 @@ ghost use Rattle.icl_signals.specs.PlainNets.{seen_reg};
 ghost use Rattle.icl_signals.specs.Connecting.{data_from, scan_source, captures, register_of, number_among};
 
 use crate::ConnectFault;
-use crate::beside::beside;
 use crate::copies::resets;
 use crate::ends::{data_from, scan_from};
 use crate::entries::PartAt;
@@ -21,7 +20,7 @@ use crate::numbers::number_at;
 use crate::parts::width_of;
 use crate::wiring::Wiring;
 use icl_elab::{Body, Ref};
-use ij_bits::{List, OutOfMemory};
+use ij_bits::{List, OutOfMemory, beside};
 use ij_text::Place;
 use net_graph::{Point, Reg, Sig};
 use std::alloc::Global;

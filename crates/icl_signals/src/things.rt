@@ -7,7 +7,6 @@ ghost use Rattle.icl_signals.specs.Told.{seen_entry};
 ghost use Rattle.icl_signals.specs.PlainNets.{seen_thing};
 ghost use Rattle.icl_signals.specs.Connecting.{own_bits, spot_of, thing_of, number_among};
 
-use crate::beside::beside;
 use crate::copies::words_copy;
 use crate::ends::{constant, signal_from};
 use crate::entries::{PartAt, own_refs};
@@ -15,7 +14,7 @@ use crate::numbers::number_at;
 use crate::parts::part_at;
 use crate::wiring::Wiring;
 use icl_elab::{Body, Part, Ref};
-use ij_bits::{List, OutOfMemory};
+use ij_bits::{List, OutOfMemory, beside};
 use ij_text::name_of;
 use net_graph::{BitId, Spot, Thing};
 use std::alloc::Global;

@@ -5,14 +5,13 @@ ghost use Rattle.icl_signals.specs.Wirings.{IsWiring, cells_of};
 ghost use Rattle.icl_signals.specs.Kinds.{in_front, is_of, numbers_from};
 ghost use Rattle.icl_signals.specs.Traces.{signal_bits};
 
-use crate::beside::beside;
 use crate::found::Note;
 use crate::numbers::{instruments_of, numbers_of, outputs_of};
 use crate::parts::{Kind, instrument_flags, width};
 use crate::places::{Places, places_of};
 use crate::wires::Wire;
 use icl_elab::{Cell, Hier, Part};
-use ij_bits::OutOfMemory;
+use ij_bits::{OutOfMemory, beside};
 use std::alloc::Global;
 
 /// What following a signal looks at, made once for a network.

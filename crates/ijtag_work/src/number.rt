@@ -1,22 +1,9 @@
 // The numbers among the words.
 ghost use Rattle.std.specs.Prelude.{◌≡◌};
 ghost use Rattle.std.specs.Char.{is_ascii_digit};
-ghost use Rattle.std.specs.List.{list_all};
 ghost use Rattle.ijtag_work.specs.Command.{is_number, number_of};
 
-use ij_text::decimal;
-
-/// Whether all bytes are decimal digits.
-fn are_digits(bytes: &[u8]) -> bool
-    ensures { result ≡ list_all is_ascii_digit bytes.now }
-{
-    for b in bytes {
-        if !b.is_ascii_digit() {
-            return false;
-        }
-    }
-    true
-}
+use ij_text::{all_digits, decimal};
 
 /// Whether a text is a decimal number of 1 to 19 digits, of which the first is 0 in `0` alone.
 fn is_number(text: &[u8]) -> bool
@@ -25,7 +12,7 @@ fn is_number(text: &[u8]) -> bool
     match text {
         [first, rest @ ..] => {
             first.is_ascii_digit()
-                && are_digits(rest)
+                && all_digits(rest)
                 && rest.len() < 19
                 && (*first != b'0' || rest.is_empty())
         }

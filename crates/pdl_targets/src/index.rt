@@ -1,8 +1,6 @@
 // The names of the cells, in an index.
-ghost use Rattle.std.specs.Prelude.{◌≡◌, ◌++◌, length, map, take, IfOk};
+ghost use Rattle.std.specs.Prelude.{◌≡◌, length, take, IfOk};
 ghost use Rattle.net_graph.specs.Nets.{IsNet};
-ghost use Rattle.pdl_parser.specs.Views.{bytes_of};
-ghost use Rattle.pdl_expand.specs.Expansion.{dotted};
 ghost use Rattle.pdl_targets.specs.Index.{IsIndex};
 
 use crate::captors::{Captors, captors_of};

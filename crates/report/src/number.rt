@@ -1,20 +1,11 @@
 // Numbers in hexadecimal digits.
-ghost use Rattle.std.specs.Prelude.{◌≡◌, ◌*◌, ◌/◌, ◌%◌, ◌^◌, ◌<◌, ◌≤◌, OnOk, OnErr};
-ghost use Rattle.ij_bits.specs.Hex.{hex_code};
+ghost use Rattle.std.specs.Prelude.{◌/◌, ◌<◌, ◌≤◌, OnOk, OnErr};
 ghost use Rattle.ij_io.specs.Bytes.{Adds, AddsPart};
 ghost use Rattle.ij_io.specs.Causes.{HasCause};
 ghost use Rattle.report.specs.Numbers.{hex_number};
 
-use ij_bits::hex_digit_of;
+use ij_bits::hex_digit_at;
 use ij_io::{Sink, StoreFault};
-
-/// The digit at a place of a number, place 0 being the rightmost.
-fn digit_at(number: u64, place: u32) -> u8
-    requires { place < 16 }
-    ensures { result ≡ hex_code (number / 2 ^ (4 * place) % 16) }
-{
-    hex_digit_of(((number >> (4 * place)) % 16) as u8)
-}
 
 /// Writes a number with as many hexadecimal digits as a width takes, with leading zeros.
 pub(crate) fn put_hex_number<K: Sink>(width: u32, number: u64, k: &mut K) -> Result<(), StoreFault>
@@ -25,7 +16,7 @@ pub(crate) fn put_hex_number<K: Sink>(width: u32, number: u64, k: &mut K) -> Res
 {
     let digits = (width + 3) / 4;
     for j in 0..digits {
-        k.write(&[digit_at(number, digits - 1 - j)])?;
+        k.write(&[hex_digit_at(number, digits - 1 - j)])?;
     }
     Ok(())
 }

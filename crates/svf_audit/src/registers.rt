@@ -3,10 +3,10 @@ ghost use Rattle.std.specs.Prelude.{◌≡◌, ◌+◌, ◌<◌, ◌≤◌, ◌+
 ghost use Rattle.std.specs.List.{list_all, list_any};
 ghost use Rattle.net_graph.specs.declared.net.BitId.{BitId as ABit};
 ghost use Rattle.net_graph.specs.Chain.{IsRoute, chain};
-ghost use Rattle.net_graph.specs.Held.{AreHolds, IsHeld};
+ghost use Rattle.net_graph.specs.Held.{IsHeld};
 ghost use Rattle.net_graph.specs.Named.{bits_from};
 ghost use Rattle.net_graph.specs.Nets.{IsNet};
-ghost use Rattle.net_graph.specs.Path.{is_select, same_place, route_of};
+ghost use Rattle.net_graph.specs.Path.{is_select, same_place};
 ghost use Rattle.net_graph.specs.Resets.{reset_holds, start_holds};
 ghost use Rattle.net_graph.specs.Signals.{hold_at};
 ghost use Rattle.svf_audit.specs.Audit.{bits_on, has_row};

@@ -1,11 +1,12 @@
 // What words say.
 ghost use Rattle.std.specs.Prelude.{◌≡◌, ◌<◌, ◌≤◌, ◌^◌, length, map, IfSome};
 ghost use Rattle.std.specs.List.{list_all};
-ghost use Rattle.std.specs.Char.{is_ascii_digit, is_ascii_hexdigit};
+ghost use Rattle.std.specs.Char.{is_ascii_hexdigit};
 ghost use Rattle.svf_reader.specs.Commands.{is_open, is_close, is_word, is_one_of, words_are, any_is_one_of, number_from, number};
 ghost use Rattle.svf_reader.specs.Reading.{words_of, runs_of};
 
 use crate::pieces::{next_run, next_word};
+use ij_text::all_digits;
 
 /// Whether a word says a name, in either case.
 pub(crate) fn is_word(word: &[u8], name: &[u8]) -> bool
@@ -69,12 +70,6 @@ pub(crate) fn any_is_one_of(text: &[u8], names: &[&[u8]]) -> bool
         text = next.rest;
     }
     false
-}
-
-fn all_digits(word: &[u8]) -> bool
-    ensures { result ≡ list_all is_ascii_digit word.now }
-{
-    word.iter().all(|b| b.is_ascii_digit())
 }
 
 /// Whether a byte is a hexadecimal digit, found without a branch.

@@ -1,25 +1,12 @@
 // The instruction that selects the network, without memory.
-ghost use Rattle.std.specs.Prelude.{◌≡◌, ◌*◌, ◌/◌, ◌%◌, ◌^◌, ◌<◌, ◌≤◌, OnOk, OnErr};
+ghost use Rattle.std.specs.Prelude.{◌^◌, ◌<◌, ◌≤◌, OnOk, OnErr};
 ghost use Rattle.ij_bits.specs.BitLists.{bits_of};
-ghost use Rattle.ij_bits.specs.Hex.{hex_code};
 ghost use Rattle.ij_io.specs.Bytes.{Adds, AddsPart};
 ghost use Rattle.ij_io.specs.Causes.{HasCause};
 ghost use Rattle.svf_writer.specs.Written.{hex_text};
 
+use ij_bits::hex_digit_at;
 use ij_io::{Sink, StoreFault};
-
-/// The digit at a place of a number, place 0 being the rightmost.
-fn digit_at(n: u64, place: u32) -> u8
-    requires { place < 16 }
-    ensures { result ≡ hex_code (n / 2 ^ (4 * place) % 16) }
-{
-    let value = ((n >> (4 * place)) % 16) as u8;
-    if value < 10 {
-        b'0' + value
-    } else {
-        b'A' + (value - 10)
-    }
-}
 
 /// Writes a number of so many bits as a hex text, with leading zeros.
 pub(crate) fn put_opcode<K: Sink>(width: u32, n: u64, k: &mut K) -> Result<(), StoreFault>
@@ -31,7 +18,7 @@ pub(crate) fn put_opcode<K: Sink>(width: u32, n: u64, k: &mut K) -> Result<(), S
 {
     let digits = width.div_ceil(4);
     for j in 0..digits {
-        k.write(&[digit_at(n, digits - 1 - j)])?;
+        k.write(&[hex_digit_at(n, digits - 1 - j)])?;
     }
     Ok(())
 }

@@ -4,7 +4,7 @@ ghost use Rattle.std.specs.Int.{bit_at};
 ghost use Rattle.ij_bits.specs.BitLists.{bits_of, number_of};
 ghost use Rattle.svf_writer.specs.Lent.{lent};
 
-use ij_bits::{Bits, OutOfMemory};
+use ij_bits::{Bits, OutOfMemory, bit_of_number};
 use std::alloc::Global;
 use std::marker::Model;
 
@@ -39,14 +39,6 @@ impl Model for Part {
     ghost view = { λ p. seen_part p.stored };
 
     ghost invariant = { λ p. IsStored p.stored };
-}
-
-/// The bit of a number at a place.
-fn bit_of_number(n: u64, k: u32) -> bool
-    requires { k < 64 }
-    ensures { result ≡ (bit_at n k == 1) }
-{
-    (n >> k) & 1 == 1
 }
 
 /// The `n` bits of a number from a place on.

@@ -1,12 +1,12 @@
 // What one line of a table says, whatever its names mean.
-ghost use Rattle.std.specs.Prelude.{◌≡◌, ◌+◌, ◌<◌, ◌&&◌, not, [], ◌∷◌, map, IfOk, IfSome, MatchOption, option_map, Ok, None, Some};
+ghost use Rattle.std.specs.Prelude.{◌≡◌, ◌+◌, ◌<◌, ◌&&◌, [], ◌∷◌, map, IfOk, IfSome, option_map, Ok, None, Some};
 ghost use Rattle.bench_lines.specs.Reading.{texts, plain_value};
 ghost use Rattle.ij_text.specs.Words.{is_name};
 ghost use Rattle.bench_lines.specs.Words.{named, number, decimal, plain, closed, bracketed, entry, part_of, two_decimals, slice, path};
 ghost use Rattle.std.specs.List.{list_all};
 ghost use Rattle.ij_text.specs.Parts.{split};
 ghost use Rattle.ij_text.specs.Options.{both};
-ghost use Rattle.table_lines.specs.Said.{cond_of, old_cond, starts_of, with_reset, front_cond, entry_of, entry_in, slot, amount, entry_amount, plus_minus, set_words, parts, sets, conds_sets, row, row_of, starts, line, instrument, instrument_text, version_of, version};
+ghost use Rattle.table_lines.specs.Said.{cond_of, old_cond, starts_of, with_reset, front_cond, entry_of, entry_in, slot, amount, entry_amount, plus_minus, set_words, parts, sets, conds_sets, row, row_of, starts, instrument, instrument_text, version_of, version};
 ghost use Rattle.table_lines.specs.Parted.{part_list, behind_parts, with_conds, do_sets};
 ghost use Rattle.table_lines.specs.SeenSaid.{seen_front, seen_bracketed, seen_entry, seen_slot, seen_amount, seen_cond, seen_set, seen_row, seen_starts, seen_slice};
 

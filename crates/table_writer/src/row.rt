@@ -11,6 +11,7 @@ ghost use Rattle.bench_file.specs.Written.{digit, digits, compared_text, cond_te
 ghost use Rattle.table_writer.specs.Pieces.{sum_text, next_cond, next_set};
 
 use crate::names::{old_mark, operand_name, operand_width, put_entry, put_operand, word_name};
+use ij_bits::bit_of_number;
 use ij_io::{Sink, StoreFault, Word, put_decimal, put_words};
 use instruments::{Amount, Cond, Model, Operand, RowDef, Set, Slot};
 
@@ -27,18 +28,11 @@ fn digit(value: bool, care: bool) -> u8
     }
 }
 
-fn bit(n: u64, i: u32) -> bool
-    requires { i < 64 }
-    ensures { result ≡ (bit_at n i == 1) }
-{
-    (n >> i) & 1 == 1
-}
-
 fn digit_at(value: u64, care: u64, i: u32) -> u8
     requires { i < 64 }
     ensures { result ≡ digit (bit_at value i == 1) (bit_at care i == 1) }
 {
-    digit(bit(value, i), bit(care, i))
+    digit(bit_of_number(value, i), bit_of_number(care, i))
 }
 
 /// Writes a digit for each bit, the highest first.

@@ -4,7 +4,7 @@ ghost use Rattle.svf_writer.specs.Fits.{FitsAfter};
 ghost use Rattle.svf_writer.specs.Lent.{lent};
 ghost use Rattle.svf_writer.specs.SeenCommands.{SIR, SDR, seen_scan, seen_command};
 ghost use Rattle.tap_machine.specs.Remaining.{seen_held, last_length, AreHeldBits, scan_under_way, phase_pins, pins_at_hand, later_pins, remaining_pins, rests_at_end, remaining_commands, to_begin, IsWithin, IsUnderWay, first_of};
-ghost use Rattle.tap_machine.specs.Play.{no_shift, after_scan, expected};
+ghost use Rattle.tap_machine.specs.Play.{no_shift, after_scan};
 
 use crate::{Pins, Stable};
 use svf_writer::{Command, Commands, Part, Scan, lend};

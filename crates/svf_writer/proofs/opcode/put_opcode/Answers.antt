@@ -27,10 +27,10 @@ returns-in_err-write-clause-part g c =
     let more : n - j ≡ suc (n - (j + 1)) = omega arith in
     let place : n - (j + 1) ≡ n - 1 - j = omega arith in
     let short : j < 64 = omega arith in
-    let is = ap (hex_digit bits) place ∙ opcode_digit c.args.width c.args.n (n - 1 - j) c.requires.fits ∙ sym c.digit_at.ensures in
-    let line = next_digit bits (n - j) (n - (j + 1)) c.digit_at.result j more short is in
+    let is = ap (hex_digit bits) place ∙ opcode_digit c.args.width c.args.n (n - 1 - j) c.requires.fits ∙ sym c.hex_digit_at.ensures in
+    let line = next_digit bits (n - j) (n - (j + 1)) c.hex_digit_at.result j more short is in
     at_refusal c.from_residual.result
-    (front_part (c.digit_at.result ∷ []) (hex_lines bits (n - (j + 1)) (j + 1))
+    (front_part (c.hex_digit_at.result ∷ []) (hex_lines bits (n - (j + 1)) (j + 1))
     (subst (λ (rest : List ℕ). AddsFront (g.K.Sink.taken c.args.k.now) (g.K.Sink.taken c.loop-j.k) rest (hex_text bits)) line c.loop-j.invariant.front) c.in_err-write.ensures.part)
 
 pub loop-j-preserved : goal.loop-j-preserved
@@ -41,10 +41,10 @@ loop-j-preserved g c =
     let more : n - j ≡ suc (n - (j + 1)) = omega arith in
     let place : n - (j + 1) ≡ n - 1 - j = omega arith in
     let short : j < 64 = omega arith in
-    let is = ap (hex_digit bits) place ∙ opcode_digit c.args.width c.args.n (n - 1 - j) c.requires.fits ∙ sym c.digit_at.ensures in
-    let line = next_digit bits (n - j) (n - (j + 1)) c.digit_at.result j more short is in
+    let is = ap (hex_digit bits) place ∙ opcode_digit c.args.width c.args.n (n - 1 - j) c.requires.fits ∙ sym c.hex_digit_at.ensures in
+    let line = next_digit bits (n - j) (n - (j + 1)) c.hex_digit_at.result j more short is in
     record {
-      front = front_next (c.digit_at.result ∷ []) (hex_lines bits (n - (j + 1)) (j + 1))
+      front = front_next (c.hex_digit_at.result ∷ []) (hex_lines bits (n - (j + 1)) (j + 1))
           (subst (λ (rest : List ℕ). AddsFront (g.K.Sink.taken c.args.k.now) (g.K.Sink.taken c.loop-j.k) rest (hex_text bits)) line c.loop-j.invariant.front) c.in_ok-write.ensures.whole;
       later = omega (arith, c.write.ensures.cause.later);
     }
