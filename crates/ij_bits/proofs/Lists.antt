@@ -23,7 +23,7 @@ no_head x xs e = cc
 pub no_cons : {A : Type 0} (x : A) (xs : List A) → x ∷ xs ≡ [] → ⊥
 no_cons x xs e = cc
 
-pub none_below : {A : Type 0} → 0 < length {A = A} [] → ⊥
+pub none_below : 0 < length {A = Bool} [] → ⊥
 none_below h = omega arith
 
 -- ---- elements by their place
