@@ -1,10 +1,10 @@
 // Ranges.
 ghost use Rattle.std.specs.Prelude.{◌≡◌, ◌+◌, ◌-◌};
 ghost use Rattle.std.specs.Option.{option_map};
+ghost use Rattle.ij_text.specs.Options.{same};
 ghost use Rattle.icl_syntax.specs.Views.{seen_expr, seen_range};
 ghost use Rattle.icl_values.specs.Faults.{Gives};
 ghost use Rattle.icl_values.specs.Tables.{seen_table};
-ghost use Rattle.icl_values.specs.Expressions.{same};
 ghost use Rattle.icl_declarations.specs.Ranges.{has_index, position_of, right_or, indices, few_enough, declared, stretch_of, named_in, width};
 
 use icl_syntax::{Expr, Range};

@@ -15,9 +15,6 @@ use Rattle.icl_expressions.specs.declared.signs.SignAt.{SignAt}
 abbrev pub seen_read : {X Y : Type 0} → (X → Y) → Parsed X → Y × List SeenToken
 seen_read view r = (view r.value, r.rest)
 
-abbrev pub same : {X : Type 0} → X → X
-same x = x
-
 abbrev pub seen_counting : Counting → Counted
 seen_counting c = record { formula = seen_expr c.expr; used = c.used; lone = c.lone }
 

@@ -1,12 +1,13 @@
 // The tokens that are expressions by themselves.
 ghost use Rattle.std.specs.Prelude.{◌≡◌, ◌-◌, ◌<◌, ◌≤◌, ◌+◌, ◌*◌, ◌==◌, cond, length, slice_range, IfErr, IfOk, Option, true, Some, None};
 ghost use Rattle.std.specs.Option.{option_map};
+ghost use Rattle.ij_text.specs.Options.{same};
 ghost use Rattle.icl_lexer.specs.Lexemes.{tok};
 ghost use Rattle.icl_syntax.specs.Tokens.{decimal_of, decimal_at};
 ghost use Rattle.icl_syntax.specs.Values.{ASized};
 ghost use Rattle.icl_syntax.specs.Grammar.{number_of, leaf_at, with_count};
 ghost use Rattle.icl_syntax.specs.Views.{seen_expr};
-ghost use Rattle.icl_expressions.specs.Seen.{seen_read, seen_counting, same, Gives, IsAtToken};
+ghost use Rattle.icl_expressions.specs.Seen.{seen_read, seen_counting, Gives, IsAtToken};
 ghost use Rattle.icl_expressions.specs.Reading.{read_leaf, read_decimal};
 
 use crate::expressions::Counting;

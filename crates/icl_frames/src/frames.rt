@@ -2,6 +2,7 @@
 ghost use Rattle.std.specs.Prelude.{◌≡◌, ◌≤◌, ◌++◌, ◌∷◌, List, [], map, IfOk, IfErr, OnOk};
 ghost use Rattle.std.specs.List.{list_any};
 ghost use Rattle.std.specs.Str.{bytes_eq};
+ghost use Rattle.ij_text.specs.Options.{same};
 ghost use Rattle.icl_syntax.specs.Values.{SeenItem, AChild};
 ghost use Rattle.icl_syntax.specs.Views.{seen_what, seen_item, seen_module, seen_bind};
 ghost use Rattle.icl_values.specs.Faults.{Gives, over};
@@ -9,7 +10,6 @@ ghost use Rattle.icl_values.specs.Tables.{seen_table};
 ghost use Rattle.icl_frames.specs.FirstPass.{request, bounds_of, look_at, with_added, pass_item, nothing_passed};
 ghost use Rattle.icl_declarations.specs.Parts.{range_in};
 ghost use Rattle.icl_declarations.specs.Ranges.{declared};
-ghost use Rattle.icl_values.specs.Expressions.{same};
 ghost use Rattle.icl_declarations.specs.Taken.{AreTaken};
 ghost use Rattle.icl_frames.specs.SeenFrames.{seen_request, seen_wanted, names_of, seen_added, seen_passed};
 

@@ -1,11 +1,12 @@
 // Properties and bodies.
 ghost use Rattle.std.specs.Prelude.{◌≡◌, ◌<◌, ◌≤◌, Some, IfOk, length, map};
 ghost use Rattle.std.specs.Option.{option_map};
+ghost use Rattle.ij_text.specs.Options.{same};
 ghost use Rattle.ij_bits.specs.Room.{seen_list};
 ghost use Rattle.icl_lexer.specs.Lexemes.{tok};
 ghost use Rattle.icl_syntax.specs.Views.{seen_prop, seen_sig};
 ghost use Rattle.icl_syntax.specs.Grammar.{is_prop, stands, takes, lacks, with_property, free_prop_at};
-ghost use Rattle.icl_expressions.specs.Seen.{seen_read, same, Gives};
+ghost use Rattle.icl_expressions.specs.Seen.{seen_read, Gives};
 ghost use Rattle.icl_parser.specs.SeenParts.{seen_said};
 ghost use Rattle.icl_expressions.specs.Reading.{read_put};
 ghost use Rattle.icl_parser.specs.Reading.{read_free_prop, read_attribute_said, read_one_sig, read_sources, read_prop_behind, read_property, read_properties, read_body_end, read_braced_body, read_body};

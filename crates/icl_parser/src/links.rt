@@ -1,11 +1,12 @@
 // Items of names: enumerations, scan interfaces and access links.
 ghost use Rattle.std.specs.Prelude.{◌≡◌, ◌<◌, ◌≤◌, IfOk, length};
 ghost use Rattle.std.specs.Option.{option_map};
+ghost use Rattle.ij_text.specs.Options.{same};
 ghost use Rattle.ij_bits.specs.Room.{seen_list};
 ghost use Rattle.icl_syntax.specs.Values.{SeenEnumWord, SeenLinkInstr};
 ghost use Rattle.icl_syntax.specs.Views.{bytes_of, seen_instr, seen_enum_word, seen_what};
 ghost use Rattle.icl_syntax.specs.Modules.{with_member};
-ghost use Rattle.icl_expressions.specs.Seen.{seen_read, same, Gives};
+ghost use Rattle.icl_expressions.specs.Seen.{seen_read, Gives};
 ghost use Rattle.icl_parser.specs.SeenParts.{seen_selected};
 ghost use Rattle.icl_expressions.specs.Reading.{read_put};
 ghost use Rattle.icl_parser.specs.Reading.{read_enum_word, read_words, read_member_word, read_member_behind, read_member, read_members, read_interface, read_selected, read_selecting, read_instruction, read_entity, read_link_kind, read_link};

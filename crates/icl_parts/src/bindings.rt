@@ -2,10 +2,10 @@
 ghost use Rattle.std.specs.Prelude.{◌≡◌, ◌+◌, ◌-◌, ◌==◌, ◌++◌, ◌∷◌, [], map, slice_index_or, false, IfOk, IfErr};
 ghost use Rattle.std.specs.List.{list_any, list_all, position_from, range_with_len};
 ghost use Rattle.std.specs.Option.{option_map};
+ghost use Rattle.ij_text.specs.Options.{same};
 ghost use Rattle.icl_syntax.specs.Views.{seen_bind, seen_range, seen_sig, seen_what};
 ghost use Rattle.icl_declarations.specs.Parts.{is_input, port_that};
 ghost use Rattle.icl_declarations.specs.Ranges.{positions, width};
-ghost use Rattle.icl_values.specs.Expressions.{same};
 ghost use Rattle.icl_values.specs.Faults.{Gives, each, over};
 ghost use Rattle.icl_parts.specs.Bindings.{binds_bit, is_bound, only_one, bound_refs, bind, ref_at, refs_of};
 ghost use Rattle.icl_parts.specs.Marks.{bound_in, is_whole_part, nowhere, seen_bound};

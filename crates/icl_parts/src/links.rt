@@ -1,8 +1,8 @@
 // What scan interfaces and access links name.
 ghost use Rattle.std.specs.Prelude.{◌≡◌, map};
 ghost use Rattle.std.specs.Option.{option_map};
+ghost use Rattle.ij_text.specs.Options.{same};
 ghost use Rattle.icl_syntax.specs.Views.{bytes_of, seen_instr, seen_what};
-ghost use Rattle.icl_values.specs.Expressions.{same};
 ghost use Rattle.icl_values.specs.Faults.{Gives, each};
 ghost use Rattle.icl_declarations.specs.Parts.{is_interface, is_port};
 ghost use Rattle.icl_references.specs.Roles.{seen_selection};

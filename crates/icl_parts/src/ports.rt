@@ -1,8 +1,8 @@
 // What ports and aliases are.
 ghost use Rattle.std.specs.Prelude.{◌≡◌, [], map};
+ghost use Rattle.ij_text.specs.Options.{same};
 ghost use Rattle.icl_syntax.specs.Values.{ARefEnum};
 ghost use Rattle.icl_syntax.specs.Views.{seen_prop, seen_sig};
-ghost use Rattle.icl_values.specs.Expressions.{same};
 ghost use Rattle.icl_values.specs.Faults.{Gives, over};
 ghost use Rattle.icl_parts.specs.Marks.{nowhere};
 ghost use Rattle.icl_references.specs.Roles.{seen_body};

@@ -17,11 +17,12 @@ use Rattle.icl_syntax.specs.Values.{SeenProp, ASource, ALaunchEdge, ALoadValue, 
 use Rattle.icl_syntax.specs.Grammar.{Of, name, value, sig, sigs, sources, prop_behind, property, with_property, body, body_end, lacks, takes, stands, is_prop, free_word, free_prop_at, prop_word_at, decimal_token, mark as a_mark}
 use Rattle.icl_printer.specs.Layout.{Spelling, word, mark}
 use Rattle.icl_printer.specs.Canonical.{in_turn, braced, value_tokens, signal_tokens, signals_tokens, name_tokens, property_tokens}
-use Rattle.icl_printer.specs.Again.{spellings, IsSpelled, AllSpelled, no_place, placeless_value, placeless_signal, placeless_signals, placeless_property}
+use Rattle.icl_printer.specs.Again.{spellings, IsSpelled, AllSpelled, placeless_value, placeless_signal, placeless_signals, placeless_property}
 use Rattle.icl_printer.proofs.Printed.{Printed, Law, p_turn, p_last, p_give, p_left, p_right, p_mark, p_token, itself, name_law, single, halves}
 use Rattle.icl_printer.proofs.Bytes.{decimal_kind, decimal_again, small_is}
 use Rattle.icl_printer.proofs.SignalLaws.{value_law, sig_law, sigs_law}
 use Rattle.icl_printer.proofs.KeptLoops.{keeps}
+use Rattle.ij_text.specs.Places.{no_place}
 
 -- ---- the words of properties
 

@@ -10,8 +10,9 @@ use Rattle.icl_syntax.specs.Values.{SeenExpr, ADecimal, ASized, AQuoted, AParam,
 use Rattle.icl_syntax.specs.Grammar.{Of, Counted, Signed, Operand, operator, operand, with_operand, chain, sum_sign, product_sign, in_parentheses, factor, sum_of, leaf_at}
 use Rattle.icl_printer.specs.Layout.{Spelling, mark}
 use Rattle.icl_printer.specs.Canonical.{sign_mark, binding, binding_of}
-use Rattle.icl_printer.specs.Again.{IsSpelled, no_place, placeless_formula}
+use Rattle.icl_printer.specs.Again.{IsSpelled, placeless_formula}
 use Rattle.icl_printer.proofs.Printed.{cut, all_append, Printed, p_turn, p_last, p_mark, p_token}
+use Rattle.ij_text.specs.Places.{no_place}
 
 -- ---- what counts of a formula
 

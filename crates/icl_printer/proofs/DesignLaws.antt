@@ -11,11 +11,12 @@ use Rattle.icl_syntax.specs.Values.{SeenWhat, APort, ARegister, AMux, AChild, An
 use Rattle.icl_syntax.specs.Modules.{ItemBegin, item_begun, item_begin_at, meaning_behind, item, module_of, design}
 use Rattle.icl_printer.specs.Layout.{Spelling, word}
 use Rattle.icl_printer.specs.Canonical.{parameter_word, item_tokens, thing_tokens, module_tokens, tokens_of}
-use Rattle.icl_printer.specs.Again.{spellings, IsSpelled, AllSpelled, no_place, placeless_meaning, placeless_thing, placeless_block, placeless_design, PrintedTokensDeriveIt}
+use Rattle.icl_printer.specs.Again.{spellings, IsSpelled, AllSpelled, placeless_meaning, placeless_thing, placeless_block, placeless_design, PrintedTokensDeriveIt}
 use Rattle.icl_printer.proofs.Printed.{Printed, Law, p_turn, p_last, p_word, p_token, name_law, halves}
 use Rattle.icl_printer.proofs.Loops.{many_law}
 use Rattle.icl_printer.proofs.ItemLaws.{port_law, register_law, alias_law, parameter_law, attribute_law, mux_law}
 use Rattle.icl_printer.proofs.InstanceLaws.{braced_again, child_law, words_law, interface_law, link_law}
+use Rattle.ij_text.specs.Places.{no_place}
 
 -- ---- the words of items
 

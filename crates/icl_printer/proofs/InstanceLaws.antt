@@ -18,12 +18,13 @@ use Rattle.icl_syntax.specs.Grammar.{Of, ended_by, AttributeSaid}
 use Rattle.icl_syntax.specs.Modules.{BindBegin, begun_by, bind_begin_at, bound_port, bound_parameter, bound_attribute, bind_behind, bind, binds, braced as a_braced, child, enum_word, words, member_word_at, member_behind, member, with_member, interface, Selected, selected, selecting, instruction, link_kind_at, entity, link}
 use Rattle.icl_printer.specs.Layout.{Spelling, word, mark}
 use Rattle.icl_printer.specs.Canonical.{in_turn, behind, braced, if_there, name_tokens, formula_tokens, range_tokens, signals_tokens, binding_tokens, enum_tokens, member_tokens, instruction_tokens}
-use Rattle.icl_printer.specs.Again.{spellings, IsSpelled, AllSpelled, no_place, placeless_binding, placeless_word, placeless_meaning}
+use Rattle.icl_printer.specs.Again.{spellings, IsSpelled, AllSpelled, placeless_binding, placeless_word, placeless_meaning}
 use Rattle.icl_printer.proofs.Printed.{Printed, Law, p_turn, p_last, p_left, p_right, p_mark, p_word, p_token, itself, name_law, halves}
 use Rattle.icl_printer.proofs.Loops.{many_law}
 use Rattle.icl_printer.proofs.KeptLoops.{keeps}
 use Rattle.icl_printer.proofs.SignalLaws.{value_law, behind_expr_law, maybe_range_law, sigs_law, same_itself}
 use Rattle.icl_printer.proofs.ItemLaws.{attribute_said_law}
+use Rattle.ij_text.specs.Places.{no_place}
 
 -- ---- instances
 

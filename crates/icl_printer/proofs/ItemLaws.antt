@@ -11,11 +11,12 @@ use Rattle.icl_syntax.specs.Grammar.{value, AttributeSaid, attribute_said}
 use Rattle.icl_syntax.specs.Modules.{owner_of, port_range, port, register, alias, parameter, attribute, row, rows, mux}
 use Rattle.icl_printer.specs.Layout.{word, mark}
 use Rattle.icl_printer.specs.Canonical.{in_turn, behind, braced, if_there, formula_tokens, value_tokens, range_tokens, signals_tokens, property_tokens, row_tokens}
-use Rattle.icl_printer.specs.Again.{spellings, AllSpelled, no_place, placeless_formula, placeless_value, placeless_span, placeless_row, placeless_meaning}
+use Rattle.icl_printer.specs.Again.{spellings, AllSpelled, placeless_formula, placeless_value, placeless_span, placeless_row, placeless_meaning}
 use Rattle.icl_printer.proofs.Printed.{Printed, Law, p_turn, p_last, p_give, p_mark, p_word, name_law, halves}
 use Rattle.icl_printer.proofs.Loops.{appends, parted_law}
 use Rattle.icl_printer.proofs.SignalLaws.{value_law, behind_expr_law, maybe_expr_law, maybe_range_law, sig_law, sigs_law}
 use Rattle.icl_printer.proofs.BodyLaws.{body_law}
+use Rattle.ij_text.specs.Places.{no_place}
 
 -- ---- items with bodies
 

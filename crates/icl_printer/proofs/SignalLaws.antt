@@ -14,11 +14,12 @@ use Rattle.icl_syntax.specs.Values.{ADecimal, ASized, AParam, ANumber, APath}
 use Rattle.icl_syntax.specs.Grammar.{expr, value, range, expr_behind, Located, number_located, number_of, number_at, as_decimal, Named, named_at, name, path_behind, named_sig, plain_sig, sig, sigs, mark as a_mark}
 use Rattle.icl_printer.specs.Layout.{Spelling, word, mark}
 use Rattle.icl_printer.specs.Canonical.{behind, if_there, formula_tokens, value_tokens, range_tokens, name_tokens, meant_tokens, signal_tokens, signals_tokens}
-use Rattle.icl_printer.specs.Again.{spellings, IsSpelled, AllSpelled, no_place, placeless_formula, placeless_value, placeless_span, placeless_meant, placeless_signal, placeless_signals}
+use Rattle.icl_printer.specs.Again.{spellings, IsSpelled, AllSpelled, placeless_formula, placeless_value, placeless_span, placeless_meant, placeless_signal, placeless_signals}
 use Rattle.icl_printer.proofs.Printed.{Printed, Law, p_turn, p_last, p_left, p_right, p_mark, p_token, itself, name_law, single, halves}
 use Rattle.icl_printer.proofs.Loops.{appends, behind_law, parted_law, maybe_law}
 use Rattle.icl_printer.proofs.Bytes.{decimal_kind, decimal_again, small_is, param_text}
 use Rattle.icl_printer.proofs.Derived.{expr_law}
+use Rattle.ij_text.specs.Places.{no_place}
 
 pub value_law : Law value placeless_value value_tokens
 unfolding value

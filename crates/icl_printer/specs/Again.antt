@@ -1,7 +1,6 @@
 -- What is printed is read again as the same design, places aside.
 use Rattle.std.specs.Prelude.{◌≡◌, ℕ, List, [], ◌∷◌, map, Some}
 use Rattle.std.specs.Option.{option_map}
-use Rattle.ij_text.specs.declared.Place.{Place}
 use Rattle.icl_lexer.specs.Token.{Token}
 use Rattle.icl_lexer.specs.declared.token.PieceKind.TheVariants.{Is}
 use Rattle.icl_lexer.specs.Pieces.{kind_of}
@@ -11,6 +10,7 @@ use Rattle.icl_syntax.specs.Values.{SeenExpr, ADecimal, ASized, AQuoted, AParam,
 use Rattle.icl_syntax.specs.Modules.{design}
 use Rattle.icl_printer.specs.Layout.{Spelling}
 use Rattle.icl_printer.specs.Canonical.{tokens_of, design_text}
+use Rattle.ij_text.specs.Places.{no_place}
 
 -- ---- tokens without their places
 
@@ -29,9 +29,6 @@ AllSpelled [] = Unit {0}
 AllSpelled (s ∷ ss) = (IsSpelled s) × (AllSpelled ss)
 
 -- ---- designs without their places
-
-abbrev pub no_place : Place
-no_place = record { line = 0; col = 0 }
 
 abbrev pub placeless_formula : SeenExpr → SeenExpr
 placeless_formula (ADecimal n) = ADecimal n

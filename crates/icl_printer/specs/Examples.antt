@@ -5,7 +5,7 @@ use Rattle.icl_syntax.specs.declared.tree.Sign.TheVariants.{Plus, Minus, Times}
 use Rattle.icl_syntax.specs.Values.{SeenExpr, ASized, AParam, AnOp, APath, SeenSig, AScanInSource, ACaptureSource, APort, ARegister, AChild, AnInterface}
 use Rattle.icl_printer.specs.Layout.{layout}
 use Rattle.icl_printer.specs.Canonical.{formula_tokens, item_tokens, tokens_of, design_text}
-use Rattle.icl_printer.specs.Again.{no_place}
+use Rattle.ij_text.specs.Places.{no_place}
 
 no_modules : design_text [] ≡ []
 unfolding layout tokens_of

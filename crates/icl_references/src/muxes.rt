@@ -1,8 +1,8 @@
 // The rows of a multiplexer.
 ghost use Rattle.std.specs.Prelude.{length, map, Ok};
+ghost use Rattle.ij_text.specs.Options.{same};
 ghost use Rattle.ij_text.specs.Numbers.{tern_bits};
 ghost use Rattle.icl_syntax.specs.Views.{seen_expr, seen_few, seen_sig, seen_row};
-ghost use Rattle.icl_values.specs.Expressions.{same};
 ghost use Rattle.icl_values.specs.Faults.{Gives, each};
 ghost use Rattle.icl_values.specs.Widths.{value_in};
 ghost use Rattle.icl_references.specs.Muxes.{mux_role, row_in};

@@ -1,9 +1,9 @@
 // What a signal names, bit by bit.
 ghost use Rattle.std.specs.Prelude.{◌≡◌, ◌==◌, map, Ok, Err, None};
 ghost use Rattle.std.specs.Option.{option_map};
+ghost use Rattle.ij_text.specs.Options.{same};
 ghost use Rattle.icl_syntax.specs.Views.{bytes_of, seen_expr, seen_range, seen_sig, seen_sig_what};
 ghost use Rattle.icl_syntax.specs.Values.{ANumber};
-ghost use Rattle.icl_values.specs.Expressions.{same};
 ghost use Rattle.icl_values.specs.Faults.{Gives, each};
 ghost use Rattle.icl_references.specs.Roles.{seen_refs};
 ghost use Rattle.icl_references.specs.Signals.{alias_meant, alias_path, alias_signals, as_wide, control_meant, control_signals, data_meant, data_path, data_signal, data_signals, is_scan_out_of, lone_width, register_named, scan_named, scan_path, scan_signal, select_signals};

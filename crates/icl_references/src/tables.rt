@@ -1,8 +1,8 @@
 // The cells of a design, with tables of their parts.
 ghost use Rattle.std.specs.Prelude.{◌≡◌, ◌<◌, ◌^◌, None, map, length, get_or, IfOk, OnOk};
+ghost use Rattle.ij_text.specs.Options.{same};
 ghost use Rattle.icl_syntax.specs.Views.{seen_what};
 ghost use Rattle.icl_values.specs.Faults.{Gives};
-ghost use Rattle.icl_values.specs.Expressions.{same};
 ghost use Rattle.icl_values.specs.Tables.{seen_table};
 ghost use Rattle.icl_declarations.specs.Ranges.{one_bit, width};
 ghost use Rattle.icl_frames.specs.SeenFrames.{seen_frame};

@@ -1,6 +1,6 @@
 // What the end of a trace is in the network: a data signal, or where a scan path comes from.
 ghost use Rattle.std.specs.Prelude.{◌≡◌, false};
-ghost use Rattle.icl_values.specs.Expressions.{same};
+ghost use Rattle.ij_text.specs.Options.{same};
 ghost use Rattle.icl_elab.specs.WellFormed.{is_mux};
 ghost use Rattle.icl_signals.specs.Refusals.{Gives};
 ghost use Rattle.icl_signals.specs.Wirings.{IsWiring, cells_of};

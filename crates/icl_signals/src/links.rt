@@ -2,8 +2,8 @@
 ghost use Rattle.std.specs.Prelude.{◌≡◌, ◌==◌, ◌&&◌, map, filter, find, get_or, [], Some, None, IfOk};
 ghost use Rattle.std.specs.Option.{option_map};
 ghost use Rattle.std.specs.Str.{bytes_eq};
+ghost use Rattle.ij_text.specs.Options.{same};
 ghost use Rattle.icl_references.specs.Roles.{part_at, seen_body, seen_part, seen_hier, seen_selection};
-ghost use Rattle.icl_values.specs.Expressions.{same};
 ghost use Rattle.icl_signals.specs.Refusals.{Gives, NoLink, seen_fault};
 ghost use Rattle.icl_signals.specs.Connecting.{selections_in, link_at, passes, only, only_port, known, known_selection, place_of, ends};
 ghost use Rattle.icl_signals.specs.Links.{test_of_side, seen_ends, named_link};

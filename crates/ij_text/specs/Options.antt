@@ -1,4 +1,4 @@
--- Two values that may be missing.
+-- Two values that may be missing, and one as it is.
 use Rattle.std.specs.Prelude.{ℕ, Option, Some, None}
 
 -- both, where both are there
@@ -11,3 +11,7 @@ both (Some l) (Some r) = Some (l, r)
 abbrev pub or_else : {A : Type 0} → Option A → Option A → Option A
 or_else None other = other
 or_else (Some a) other = Some a
+
+-- a value as it is
+abbrev pub same : {X : Type 0} → X → X
+same x = x

@@ -5,6 +5,10 @@ use Rattle.ij_text.specs.declared.Place.{Place}
 abbrev pub first_place : Place
 first_place = record { line = 1; col = 1 }
 
+-- the place of what stands in no text
+abbrev pub no_place : Place
+no_place = record { line = 0; col = 0 }
+
 -- behind a line feed (10) a line begins
 abbrev pub next_place : Place → ℕ → Place
 next_place p b = cond (b == 10) (record { line = suc p.line; col = 1 }) (record { line = p.line; col = suc p.col })

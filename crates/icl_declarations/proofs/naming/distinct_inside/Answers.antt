@@ -1,8 +1,8 @@
 use Rattle.std.proofs.Common.{ℕ, List, ap, ◌∙◌, map, subst}
 use Rattle.icl_values.specs.Faults.{Gives}
-use Rattle.icl_values.specs.Expressions.{same}
 use Rattle.icl_declarations.specs.Naming.{distinct}
 use Rattle.icl_declarations.proofs.InnerNames.{word_names, instr_names}
+use Rattle.ij_text.specs.Options.{same}
 use Rattle.icl_declarations.proofs.naming.distinct_inside.Goals as goal
 
 pub returns-in-Words : goal.returns-in-Words

@@ -4,13 +4,13 @@ use Rattle.std.proofs.lemmas.Result.{err_from_is_err_and}
 use Rattle.icl_syntax.specs.declared.tree.Bind.{Bind}
 use Rattle.icl_syntax.specs.Views.{seen_bind, seen_range, seen_sig}
 use Rattle.icl_values.specs.Faults.{◌>>=◌, seen_fault}
-use Rattle.icl_values.specs.Expressions.{same}
 use Rattle.icl_values.proofs.Each.{fails_along}
 use Rattle.icl_parts.specs.Bindings.{bind}
 use Rattle.icl_parts.specs.Marks.{bound_in, seen_bound}
 use Rattle.icl_references.specs.Tables.{frames_of, here_in}
 use Rattle.icl_parts.proofs.Binding.{bind_parts}
 use Rattle.icl_parts.proofs.Rounds.{step_fails, step_goes, gives_if}
+use Rattle.ij_text.specs.Options.{same}
 use Rattle.icl_parts.proofs.bindings.bind.Goals as goal
 
 pub returns-in_err-bound-in-Port : goal.returns-in_err-bound-in-Port
