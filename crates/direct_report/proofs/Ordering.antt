@@ -3,7 +3,7 @@ use Rattle.std.proofs.Common.{◌≡◌, ◌≢◌, ◌⊎◌, inl, inr, ◌<◌
 use Rattle.std.specs.Prelude.{map, filter, sum, All}
 use Rattle.std.proofs.Math.Seq.{drop-cons}
 use Rattle.std.proofs.lemmas.Bool.Decides.{eqb_tells}
-use Rattle.std.proofs.lemmas.List.{length-map, get_or_past}
+use Rattle.std.proofs.lemmas.List.{length-map}
 use Rattle.std.proofs.lemmas.List.Sums.{sum_by-cons}
 use Rattle.std.proofs.lemmas.List.Elements.{All-head, All-tail, All-map, All-weaker, filter-append}
 use Rattle.net_graph.specs.Named.{IsBitOf, bits_from, width_of}
@@ -18,8 +18,8 @@ use Rattle.direct_report.specs.Laws.{OrderKeepsReads, ReadsAreFew}
 use Rattle.direct_report.specs.Report.{all_bits, bits_of_registers, in_order, reads_at, reads_on}
 use Rattle.direct_report.proofs.Finding.{at, once_at}
 use Rattle.direct_report.proofs.Lining.{told_at}
-use Rattle.ij_bits.proofs.Tests.{up_to_or_past}
 use Rattle.net_graph.proofs.PlainNet.{length-bits_from}
+use Rattle.net_graph.proofs.Widths.{register_there}
 
 abbrev Read : Type 0
 Read = ReadBit × Bool
@@ -128,17 +128,6 @@ in_registers net c r (suc n) is low high =
     elim (eqb_tells r c.reg) [
       | inl f ↦ in_this_register net c r n is f.1
       | inr f ↦ let place = f.1 in in_later_register net c r n place (in_registers net c (suc r) n is (omega (arith, low, place)) (omega (arith, high)))
-    ]
-
-no_width : (net : Net) (r : ℕ) → length net.regs.items ≤ r → width_of net r ≡ 0
-no_width net r h =
-    get_or_past (map (λ (reg : Reg). reg.width) net.regs.items) r 0 (omega (arith, h, length-map net.regs.items (λ (reg : Reg). reg.width)))
-
-register_there : (net : Net) (c : BitId) → IsBitOf net c → c.reg < length net.regs.items
-register_there net c is =
-    elim (up_to_or_past (length net.regs.items) c.reg) [
-      | inl h ↦ let none = no_width net c.reg h in absurd (omega (arith, is, none))
-      | inr h ↦ h
     ]
 
 each_once : (net : Net) (c : BitId) → IsBitOf net c → times c (all_bits net) ≡ 1

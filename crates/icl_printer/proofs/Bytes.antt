@@ -65,7 +65,7 @@ all_digits : (xs : List ℕ) → AreDigits xs → size in_decimal Decimal xs ≡
 all_digits [] h = refl
 all_digits (x ∷ xs) h = ap (λ c. cond c (size in_decimal Decimal xs) (cond (x == 39) (base xs) None)) h.0 ∙ all_digits xs h.1
 
-pub record Written (n : ℕ) (text : List ℕ) : Type 0 where
+pub record IsPrinted (n : ℕ) (text : List ℕ) : Type 0 where
   pub first : ℕ
   pub rest : List ℕ
   pub is : text ≡ (48 + first) ∷ rest
@@ -73,11 +73,11 @@ pub record Written (n : ℕ) (text : List ℕ) : Type 0 where
   pub others : AreDigits rest
   pub value : decimal_from 0 text ≡ n
 
-one_written : (n : ℕ) → n < 10 → Written n ((48 + n) ∷ [])
-one_written n h = record { first = n; rest = []; is = refl; digit = h; others = tt; value = push_digit 0 [] (48 + n) n (a_digit n h) ∙ omega arith }
+one_printed : (n : ℕ) → n < 10 → IsPrinted n ((48 + n) ∷ [])
+one_printed n h = record { first = n; rest = []; is = refl; digit = h; others = tt; value = push_digit 0 [] (48 + n) n (a_digit n h) ∙ omega arith }
 
-more_written : (n : ℕ) (ds : List ℕ) → 10 ≤ n → Written (n / 10) ds → Written n (ds ++ ((48 + n % 10) ∷ []))
-more_written n ds h w =
+more_printed : (n : ℕ) (ds : List ℕ) → 10 ≤ n → IsPrinted (n / 10) ds → IsPrinted n (ds ++ ((48 + n % 10) ∷ []))
+more_printed n ds h w =
     let last = a_digit (n % 10) (omega arith) in
     record {
       first = w.first;
@@ -88,8 +88,8 @@ more_written n ds h w =
       value = push_digit 0 ds (48 + n % 10) (n % 10) last ∙ omega (arith, w.value);
     }
 
-pub written : (n : ℕ) → n < 2 ^ 64 → Written n (decimal n)
-written n h = decimal_by_steps Written one_written more_written n h
+pub written : (n : ℕ) → n < 2 ^ 64 → IsPrinted n (decimal n)
+written n h = decimal_by_steps IsPrinted one_printed more_printed n h
 
 pub decimal_kind : (n : ℕ) → n ≤ 4294967295 → kind_of (decimal n) ≡ Some (Is Decimal)
 decimal_kind n h = let w = written n (omega arith) in ap kind_of w.is ∙ kind_of_digit w.first w.digit w.rest ∙ all_digits w.rest w.others

@@ -1,7 +1,7 @@
 -- Update stages that have the widths of their registers: at power-up, after a reset, and how long their paths are.
-use Rattle.std.proofs.Common.{◌≡◌, ℕ, zero, suc, ◌+◌, ◌<◌, ◌≤◌, false, get_or, List, [], ◌∷◌, length, drop, refl, sym, ap, ◌∙◌, subst, arith, length-append}
+use Rattle.std.proofs.Common.{◌≡◌, ℕ, zero, suc, ◌+◌, ◌<◌, ◌≤◌, false, get_or, List, [], ◌∷◌, length, drop, refl, sym, ap, ◌∙◌, subst, arith, length-append, inl, inr}
 use Rattle.std.specs.Prelude.{map, replicate, slice_set, sum}
-use Rattle.std.proofs.lemmas.List.{length-map, length-set, drop_more, get_or-set_other, length-replicate}
+use Rattle.std.proofs.lemmas.List.{length-map, length-set, drop_more, get_or-set_other, length-replicate, get_or_past}
 use Rattle.std.proofs.lemmas.List.Sums.{sum_by-cons}
 use Rattle.net_graph.specs.Chain.{NotIn, IsRoute, chain}
 use Rattle.net_graph.specs.Held.{AreHolds, IsHeld, set_hold}
@@ -13,6 +13,8 @@ use Rattle.net_graph.proofs.Shapes.{shape, length_at, total, reset-shape, length
 use Rattle.net_graph.proofs.Writing.{set_hold-shape}
 use Rattle.net_graph.specs.declared.net.BitId.{BitId}
 use Rattle.net_graph.specs.declared.step.WriteBit.{WriteBit}
+use Rattle.net_graph.specs.Named.{IsBitOf, width_of}
+use Rattle.std.proofs.lemmas.Bool.{cases_lt}
 
 pub zero-shape : (rs : List Reg) → shape (map (λ r. replicate r.width false) rs) ≡ map (λ r. r.width) rs
 zero-shape [] = refl
@@ -80,3 +82,16 @@ held_same s t b e h =
 
 pub next_widths : (h after first : Holds) (w : WriteBit) → map length h ≡ map length first → after ≡ set_hold h w.bit w.value → map length after ≡ map length first
 next_widths h after first w e g = ap (map length) g ∙ set_hold-shape h w.bit w.value ∙ e
+
+-- ---- registers that are there
+
+pub no_width : (net : Net) (r : ℕ) → length net.regs.items ≤ r → width_of net r ≡ 0
+no_width net r h =
+    get_or_past (map (λ (reg : Reg). reg.width) net.regs.items) r 0 (omega (arith, h, length-map net.regs.items (λ (reg : Reg). reg.width)))
+
+pub register_there : (net : Net) (b : BitId) → IsBitOf net b → b.reg < length net.regs.items
+register_there net b is =
+    elim (cases_lt b.reg (length net.regs.items)) [
+      | inl h ↦ h
+      | inr h ↦ let none = no_width net b.reg h in absurd (omega (arith, is, none))
+    ]
