@@ -20,7 +20,7 @@ use Rattle.icl_frames.specs.FirstPass.{request, Passed, bounds_of, Added, look_a
 use Rattle.icl_declarations.specs.Counting.{count_part}
 use Rattle.icl_frames.specs.Laws.{register_bits}
 use Rattle.icl_frames.proofs.Answering.{both, ok_is}
-use Rattle.ij_text.proofs.Names.{bytes_same}
+use Rattle.ij_text.proofs.EqualTexts.{bytes_same}
 use Rattle.ij_bits.proofs.Contained.{cases_in, none_in}
 use Rattle.ij_bits.proofs.Different.{different_one}
 use Rattle.ij_bits.proofs.Everywhere.{all_one}

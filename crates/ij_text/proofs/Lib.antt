@@ -3,4 +3,4 @@ pub mod Numbers
 pub mod Widths
 pub mod Behind
 pub mod OpenDigits
-pub mod Names
+pub mod EqualTexts

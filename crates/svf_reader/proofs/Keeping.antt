@@ -7,7 +7,7 @@ use Rattle.svf_reader.specs.declared.so_far.ReadSoFar.{ReadSoFar}
 use Rattle.svf_reader.specs.Texts.{words, runs, behind_word}
 use Rattle.svf_reader.specs.Meaning.{Cause, SvfSyntax, Step, if_parsed, unless_left_out, read_command}
 use Rattle.svf_reader.specs.Commands.{is_word, is_one_of, begins_with_length, begins_with_on, headers, end_states, left_out_names, any_is_one_of, is_left_out, left_out, command_of_words}
-use Rattle.ij_text.proofs.Names.{bytes_are}
+use Rattle.ij_text.proofs.EqualTexts.{bytes_are}
 
 -- whether a command is left out, by its first word in lower case
 abbrev left_lower : List ℕ → List ℕ → Bool

@@ -23,7 +23,7 @@ use Rattle.table_file.specs.Tables.{stands_in, has_twice, word_named, input_name
 use Rattle.table_file.proofs.Naming.{IsNumber, number_of_name, there}
 use Rattle.table_file.proofs.SaidRows.{IsSaidSet, IsSaidRow}
 use Rattle.table_file.proofs.Within.{less}
-use Rattle.ij_text.proofs.Names.{bytes_are, bytes_same}
+use Rattle.ij_text.proofs.EqualTexts.{bytes_are, bytes_same}
 use Rattle.ij_bits.proofs.Tests.{or_left_false, or_right_false}
 
 -- ---- the number of a condition

@@ -6,7 +6,7 @@ use Rattle.std.proofs.lemmas.List.Elements.{Contains-append_left, Contains-appen
 use Rattle.ij_bits.specs.Different.{AreDifferent}
 use Rattle.table_file.specs.Tables.{named_from, named, stands_in}
 use Rattle.ij_bits.proofs.Tests.{not_both, or_left_false, or_right_false}
-use Rattle.ij_text.proofs.Names.{bytes_are, bytes_same}
+use Rattle.ij_text.proofs.EqualTexts.{bytes_are, bytes_same}
 
 -- ---- a name that doesn't stand there
 

@@ -24,7 +24,7 @@ use Rattle.table_writer.proofs.Rowed.{row_back, IsRowRead, row_read}
 use Rattle.table_writer.proofs.Taken.{IsTaken, input_taken, word_taken, memory_taken, out_back, out_taken, with_rows, row_said_as, change_taken, run_taken}
 use Rattle.std.proofs.lemmas.Bool.{le-ltb, and_from, or_from}
 use Rattle.ij_bits.proofs.Everywhere.{front_holds, middle_holds}
-use Rattle.ij_text.proofs.Names.{bytes_are}
+use Rattle.ij_text.proofs.EqualTexts.{bytes_are}
 use Rattle.ij_bits.proofs.Tests.{and_second}
 
 -- ---- where reading stands

@@ -7,7 +7,7 @@ use Rattle.ij_bits.specs.Different.{AreDifferent}
 use Rattle.table_file.specs.Tables.{named_from, named, stands_in, has_twice}
 use Rattle.std.proofs.lemmas.Bool.{or_from}
 use Rattle.ij_bits.proofs.Tests.{not_both}
-use Rattle.ij_text.proofs.Names.{bytes_are, bytes_same}
+use Rattle.ij_text.proofs.EqualTexts.{bytes_are, bytes_same}
 
 -- two texts, one with a property that the other lacks
 pub other_text : (p : List ℕ → Bool) (a b : List ℕ) → p a ≡ false → p b ≡ true → bytes_eq a b ≡ false

@@ -22,7 +22,7 @@ use Rattle.table_writer.specs.Again.{IsName, HasNames, AreWrittenBack}
 use Rattle.table_writer.proofs.Lexed.{first_true}
 use Rattle.table_writer.proofs.Blocks.{file_read}
 use Rattle.ij_bits.proofs.Different.{different_one}
-use Rattle.ij_text.proofs.Names.{bytes_same}
+use Rattle.ij_text.proofs.EqualTexts.{bytes_same}
 use Rattle.ij_bits.proofs.Tests.{or_left_false, or_right_false, and_second, not_both}
 use Rattle.std.proofs.lemmas.List.{map_push}
 use Rattle.std.proofs.lemmas.Bool.{and_from}

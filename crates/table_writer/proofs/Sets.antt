@@ -28,7 +28,7 @@ use Rattle.table_writer.proofs.Named.{not_byte, last_of, digit_no_start, name_le
 use Rattle.table_writer.proofs.Joined.{in_brackets, entry_again, brackets_no_name, brackets_some, brackets_letters}
 use Rattle.table_writer.proofs.Conds.{IsNamed, at_index, word_good, memory_good, operand_good, word_found, operand_found, small_number, equals, no_comma, letters_no_comma}
 use Rattle.std.proofs.lemmas.Bool.{lt-leb, and_from, or_from}
-use Rattle.ij_text.proofs.Names.{bytes_same}
+use Rattle.ij_text.proofs.EqualTexts.{bytes_same}
 use Rattle.ij_bits.proofs.Tests.{not_both}
 
 -- ---- a text that begins as a name isn't a number
