@@ -2,7 +2,7 @@ use Rattle.std.proofs.Common.{◌≡◌, ◌+◌, ◌∷◌, ap, sym, ◌∙◌,
 use Rattle.svf_writer.specs.Fits.{AreFitAfter}
 use Rattle.svf_writer.specs.SeenCommands.{seen_command}
 use Rattle.tap_machine.specs.Play.{scans_in}
-use Rattle.tap_machine.proofs.Scans.{scans_first}
+use Rattle.tap_machine.proofs.ScanCounts.{scans_first}
 use Rattle.svf_audit.specs.Audit.{audit_from}
 use Rattle.svf_audit.specs.Auditing.{last_ir, state_of}
 use Rattle.svf_audit.specs.Kept.{last_length}

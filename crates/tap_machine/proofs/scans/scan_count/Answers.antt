@@ -1,6 +1,6 @@
 use Rattle.std.proofs.Common.{◌<◌, length, arith}
 use Rattle.svf_writer.specs.SeenCommands.{seen_command}
-use Rattle.tap_machine.proofs.Scans.{scans_next}
+use Rattle.tap_machine.proofs.ScanCounts.{scans_next}
 use Rattle.tap_machine.proofs.scans.scan_count.Goals as goal
 
 pub overflow_add-scans : goal.overflow_add-scans
