@@ -1,0 +1,29 @@
+# Completion of ijtag for bash, made from docs/MANUAL.md by .ci/words.py. Use it by:  . share/ijtag.bash
+_ijtag() {
+  local current=${COMP_WORDS[COMP_CWORD]} kinds=() kind at icl= pdl=
+  COMPREPLY=()
+  if [ "$COMP_CWORD" = 1 ]; then
+    mapfile -t COMPREPLY < <(compgen -W 'compile play run direct audit make migrate' -- "$current")
+    return
+  fi
+  case ${COMP_WORDS[1]} in
+    compile) kinds=(ICL PDL DEVICE TOP PROC SVF) ;;
+    play) kinds=(SVF ICL DEVICE TABLES TOP) ;;
+    run) kinds=(ICL PDL DEVICE TABLES TOP PROC SVF) ;;
+    direct) kinds=(ICL PDL DEVICE TABLES TOP PROC) ;;
+    audit) kinds=(SVF ICL PDL DEVICE TOP PROC) ;;
+    make) kinds=(SEED SIZE STEM) ;;
+    migrate) kinds=(TABLES NEW) ;;
+  esac
+  kind=${kinds[COMP_CWORD - 2]:-}
+  for at in "${!kinds[@]}"; do
+    [ "${kinds[at]}" = ICL ] && icl=${COMP_WORDS[at + 2]:-}
+    [ "${kinds[at]}" = PDL ] && pdl=${COMP_WORDS[at + 2]:-}
+  done
+  case $kind in
+    ICL | PDL | DEVICE | TABLES | SVF | NEW | STEM) mapfile -t COMPREPLY < <(compgen -f -- "$current") ;;
+    TOP) mapfile -t COMPREPLY < <(compgen -W "$(sed -n 's/^[[:blank:]]*Module[[:blank:]]*\([[:alnum:]_]*\).*/\1/p' "$icl" 2> /dev/null)" -- "$current") ;;
+    PROC) mapfile -t COMPREPLY < <(compgen -W "$(sed -n 's/^[[:blank:]]*iProc[[:blank:]][[:blank:]]*\([[:alnum:]_]*\).*/\1/p' "$pdl" 2> /dev/null)" -- "$current") ;;
+  esac
+}
+complete -o filenames -F _ijtag ijtag ./ijtag
