@@ -96,12 +96,19 @@ with tempfile.TemporaryDirectory() as folder:
 
     # a device that takes nothing, and one that was closed
     check('SVF on a full device', compile_to('/dev/full'), (5, b'', b'write fault /dev/full\n'))
-    with open('/dev/full', 'wb') as full:
-        check('a report on a full device', play(svf, full)[::2], (5, b'write fault output\n'))
-    reader, writer = os.pipe()
-    os.close(reader)
-    check('a report on a closed pipe', play(svf, writer)[::2], (5, b'write fault output\n'))
-    os.close(writer)
+    # of each command that prints: what its stream took is handed on before the status is told
+    files = [FLAT / f'chip.{kind}' for kind in ('icl', 'pdl', 'dev', 'tab')]
+    check('the SVF text that is audited', compile_to(svf)[0], 0)
+    printing = {'play': [svf, files[0], *files[2:], 'chip'], 'run': [*files, 'chip', 'p', folder / 'run.svf'], 'direct': [*files, 'chip', 'p'],
+                'audit': [svf, *files[:3], 'chip', 'p'], 'make': ['0', '1', folder / 'made']}
+    for name, words in printing.items():
+        check(f'{name}, whose output is taken', run([name, *words])[::2], (0, b''))
+        with open('/dev/full', 'wb') as full:
+            check(f'{name} on a full device', run([name, *words], full)[::2], (5, b'write fault output\n'))
+        reader, writer = os.pipe()
+        os.close(reader)
+        check(f'{name} on a closed pipe', run([name, *words], writer)[::2], (5, b'write fault output\n'))
+        os.close(writer)
 
     # a long report is handed to the operating system in pieces of 8 KiB: in such a pipe each write stands apart, in packets
     # of at most 4,096 bytes

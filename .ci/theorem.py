@@ -1,0 +1,115 @@
+#!/usr/bin/env python3
+"""Counts again what docs/THEOREM.md says that has to be read: theorem.py [--write], at the top of a checkout.
+
+It follows the clauses of `ijtag` (crates/ijtag_core/src/top.rt) through the definitions that they cite, those that these cite, and so on. Of
+the page's tables it wants that each file is there, each name is one of its row's files, each file that is reached is in exactly one row,
+and that the lines are those of the definitions that are reached, without imports, comments and blank lines. --write puts the lines in.
+
+A cell of files is `crate` `File` `File`; `crate` `File`. A row whose first cell is empty has the sum of its table."""
+import collections
+import pathlib
+import re
+import sys
+
+PAGE, TOP = pathlib.Path('docs/THEOREM.md'), pathlib.Path('crates/ijtag_core/src/top.rt')
+USE = re.compile(r'((?:pub |unfoldable |ghost )*)use Rattle\.(\w+)\.specs\.([\w.]+?)\.\{(.*)\};?$')
+KIND = '(?:(?:abbrev|unfoldable|pub|record|data|instance) )'
+# a definition begins at the margin, or two blanks from it in a module with parameters
+HEAD = re.compile(rf'{KIND}+([^\s:({{]+)|  (?:pub )?(?:abbrev|unfoldable|record|data|instance) {KIND}*([^\s:({{]+)')
+NAME = re.compile(r"[^\W\d][\w'⁻-]*")
+
+
+class Definitions:
+    """The definitions of one file: their lines by name, the names of constructors, and what is imported."""
+
+    def __init__(self, path):
+        self.imports, self.passed_on, self.lines, self.part_of = {}, {}, collections.defaultdict(list), {}
+        current, is_data = None, False
+        for line in path.read_text().splitlines():
+            use, head = USE.match(line), HEAD.match(line)
+            if use:
+                for part in filter(None, map(str.strip, use[4].split(','))):
+                    name, _, alias = part.partition(' as ')
+                    self.imports[alias or name] = use[2], use[3], name
+                    if 'pub ' in use[1]:
+                        self.passed_on[alias or name] = use[2], use[3], name
+            elif line.strip() and not re.match(r'\s*--|(pub )?use |module ', line):
+                if head:
+                    current, is_data = head[1] or head[2], 'data ' in line.partition(':')[0]
+                    self.part_of[current] = current
+                elif is_data and (constructor := re.match(r'\s+(?:pub )?(\S+) :', line)):
+                    self.part_of[constructor[1]] = current
+                if current:
+                    self.lines[current].append(line)
+
+
+files = {(it.parts[1], it.stem): Definitions(it) for it in pathlib.Path('crates').glob('*/specs/*.antt') if it.stem != 'Lib'}
+
+
+def found(crate, file, name):
+    """Where a name is defined, through files that pass it on; None where it is the kit's or a type of src/."""
+    here = files.get((crate, file))
+    if here and name in here.part_of:
+        return crate, file, here.part_of[name]
+    return found(*here.passed_on[name]) if here and name in here.passed_on else None
+
+
+def cited(crate, file, name):
+    """The definitions that one cites."""
+    here = files[crate, file]
+    text = re.sub(r'--.*', '', '\n'.join(here.lines[name]))
+    names = set(NAME.findall(text))
+    for operator in (it for it in {*here.part_of, *here.imports} if '◌' in it):
+        if operator.strip('◌') in text or operator == '◌>>=◌' and re.search(r'\bdo\b', text):
+            names.add(operator)
+    for it in names:
+        if it in here.part_of:
+            yield crate, file, here.part_of[it]
+        elif it in here.imports and (at := found(*here.imports[it])):
+            yield at
+
+
+reached, left = set(), [at for it in Definitions(TOP).imports.values() if (at := found(*it))]
+while left:
+    it = left.pop()
+    if it not in reached:
+        reached.add(it)
+        left += cited(*it)
+lines = collections.Counter()
+for crate, file, name in reached:
+    lines[crate, file] += len(files[crate, file].lines[name])
+
+failed, listed, total, made = [], collections.Counter(), 0, []
+in_table = False
+for line in PAGE.read_text().splitlines():
+    cells = [it.strip() for it in line.split('|')]
+    in_table = line.startswith('|') and (in_table or cells[1:6] == ['Step', 'The question', 'Files', 'Lines', 'Names'])
+    if in_table and cells[1] == 'Step':
+        total = 0
+    elif in_table and not cells[1].startswith('-'):
+        of_row = [(crate, file) for group in cells[3].split(';') for crate, *rest in [re.findall(r'`(\w+)`', group) or [None]] for file in rest]
+        for it in of_row:
+            listed[it] += 1
+            if it not in files:
+                failed.append(f'step {cells[1]}: there is no crates/{it[0]}/specs/{it[1]}.antt')
+            elif it not in lines:
+                failed.append(f'step {cells[1]}: nothing of {it[0]} {it[1]} is reached')
+        for name in re.findall(r'`([^`]+)`', cells[5]):
+            if not any(name in files[it].part_of for it in of_row if it in files):
+                failed.append(f'step {cells[1]}: {name} is in none of its files')
+        number = sum(lines[it] for it in of_row) if cells[1] else total
+        total += number
+        if cells[4] != f'{number:,}':
+            if '--write' not in sys.argv:
+                failed.append(f'step {cells[1] or "sum"}: {number:,} lines, and not {cells[4]}')
+            cells[4] = f'{number:,}'
+            line = '| ' + ' | '.join(cells[1:-1]) + ' |'
+    made.append(line)
+failed += [f'{crate} {file} is in no row: {count} lines are reached' for (crate, file), count in sorted(lines.items()) if not listed[crate, file]]
+failed += [f'{crate} {file} is in {count} rows' for (crate, file), count in listed.items() if count > 1]
+if '--write' in sys.argv:
+    PAGE.write_text('\n'.join(made) + '\n')
+for line in failed:
+    print(line)
+print(f'theorem: {len(reached)} definitions, {sum(lines.values())} lines, {len(lines)} files, {len(failed)} failed')
+sys.exit(1 if failed or not reached else 0)
