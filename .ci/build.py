@@ -5,6 +5,7 @@ One build of a kind runs at a time: a second call waits, and then takes what the
 (.ci/stamp), the kit that built it and the log stand in out/, those of the unproved program in out/unproved/.
 
 The proved program is what `rt run` builds once it has proved every crate below it. What is proved before an interrupt is kept by rt.
+Each IJTAG_REPORT_SECONDS, 180 where it isn't set, a line says what is being proved.
 
 The unproved program is what `rt try` compiles to run it once: it stops at an index out of bounds, an overflow or a failed unwrap, and tests
 no contract. rt removes it at its end, so it is linked out of rt's temporary folder as soon as it is there."""

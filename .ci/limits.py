@@ -96,7 +96,7 @@ with tempfile.TemporaryDirectory() as folder:
 
     # a device that takes nothing, and one that was closed
     check('SVF on a full device', compile_to('/dev/full'), (5, b'', b'write fault /dev/full\n'))
-    # of each command that prints: what its stream took is handed on before the status is told
+    # of each command that prints: its output is flushed before the status is decided
     files = [FLAT / f'chip.{kind}' for kind in ('icl', 'pdl', 'dev', 'tab')]
     check('the SVF text that is audited', compile_to(svf)[0], 0)
     printing = {'play': [svf, files[0], *files[2:], 'chip'], 'run': [*files, 'chip', 'p', folder / 'run.svf'], 'direct': [*files, 'chip', 'p'],
