@@ -71,7 +71,8 @@ def crates_at_work(process):
             words = (folder / 'cmdline').read_text().split('\0')
         except (OSError, TypeError, UnicodeDecodeError):
             continue
-        if '--crate-name' in words:
+        # rt first reads all sources at once, which proves nothing
+        if '--crate-name' in words and '--lib' not in words:
             names[int(folder.name)] = words[words.index('--crate-name') + 1]
     found = set()
     for number, name in names.items():
@@ -111,7 +112,7 @@ def build_proved(rt, how):
         if time.monotonic() - last >= EVERY:
             last = time.monotonic()
             at_work = [it for it in crates if it in crates_at_work(run.pid)]
-            where = f'proving {", ".join(at_work)}, crate {crates.index(at_work[-1]) + 1} of {len(crates)}' if at_work else 'still building'
+            where = f'proving {", ".join(at_work)}, crate {crates.index(at_work[-1]) + 1} of {len(crates)}' if at_work else 'reading the sources'
             say(f'{round((last - begin) / 60)} minutes: {where}')
 
     follow(run, report)
