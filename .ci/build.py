@@ -113,7 +113,7 @@ def build_proved(rt, how):
             last = time.monotonic()
             at_work = [it for it in crates if it in crates_at_work(run.pid)]
             where = f'proving {", ".join(at_work)}, crate {crates.index(at_work[-1]) + 1} of {len(crates)}' if at_work else 'reading the sources'
-            say(f'{round((last - begin) / 60)} minutes: {where}')
+            say(f'{round((last - begin) / 60)} min: {where}')
 
     follow(run, report)
     made = CLI / 'out' / 'ijtag_cli'

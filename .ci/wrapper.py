@@ -133,7 +133,7 @@ with tempfile.TemporaryDirectory() as made:
 
     source.write_text(good + '// slow\n')
     err = call(top, {'SECONDS_OF_BUILD': '4', 'IJTAG_REPORT_SECONDS': '1'})[2]
-    check('a slow build says that it goes on', err.count('minutes: ') > 1, True)
+    check('a slow build says that it goes on', err.count(' min: ') > 1, True)
     builds()
 
     bare = room / 'bare'
