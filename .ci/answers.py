@@ -12,7 +12,7 @@ Each file of .ci/answers/ has cases of one topic, in these lines:
       holds NAME = TEXT    a file that it wrote; without TEXT, whatever it holds. All other files stay as they were
       row A => B           the case is run for each row, whose texts are <1>, <2>
 
-Where nothing stands behind `=`, the text is the lines below that are indented by two blanks more, each with a line feed, but for a line that is
+Where nothing is after `=`, the text is the lines below that are indented by two blanks more, each with a line feed, but for a line that is
 <NAME> alone; else it has no line feed at its end. \\n, \\t, \\r, \\xNN and \\\\ are bytes, <7 * ab> is seven times `ab`, and # begins a comment."""
 import concurrent.futures
 import os

@@ -2,7 +2,7 @@
 """Runs the worked examples and the corpus beside the repository, as far as the commands are built: beds.py PROGRAM SHARED.
 
 Of both beds, all runs of the built commands are compared in their last form, byte for byte. One play of 1,000,000,000 clocks is left out for its
-time. Cases of words that are no command are told the usage line of the built commands."""
+time. Cases of words that are no command get the usage line of the built commands."""
 import concurrent.futures
 import gzip
 import importlib.util

@@ -187,4 +187,7 @@ def main():
     (built / 'stamp').write_text(sources)
 
 
-main()
+try:
+    main()
+except KeyboardInterrupt:
+    sys.exit(130)
