@@ -11,8 +11,8 @@ use Rattle.instruments.specs.declared.model.Slot.TheVariants.{Word as ToWord}
 use Rattle.instruments.specs.declared.model.Amount.TheVariants.{Copy, Plus, Minus}
 use Rattle.instruments.specs.Seen.{SeenModel}
 use Rattle.bench_file.specs.declared.fault.FitsFault.TheVariants.{NoTable, ExtraTable, PortWidth}
-use Rattle.bench_lines.specs.Lines.{lines_of, end_of}
-use Rattle.bench_lines.specs.Words.{path, number, decimal, plain, is_wide, value_in, care_in, entry, slice}
+use Rattle.table_lines.specs.Lines.{lines_of, end_of}
+use Rattle.table_lines.specs.Words.{path, number, decimal, plain, is_wide, value_in, care_in, entry, slice}
 use Rattle.table_lines.specs.Said.{line, instrument, version}
 use Rattle.table_file.specs.Tables.{SeenTable, tables}
 use Rattle.bench_file.specs.Written.{tables_text, table_text, model_text}

@@ -4,12 +4,12 @@ ghost use Rattle.instruments.specs.Seen.{seen_word, seen_memory, seen_port, seen
 ghost use Rattle.table_file.specs.Tables.{named};
 ghost use Rattle.bench_file.specs.Fits.{in_port, out_port, no_out, out_named};
 
-use bench_lines::is;
 use ij_bits::{List, OutOfMemory};
 use ij_text::name_of;
 use instruments::{MemDef, OutDef, PortDef, WordDef};
 use net_graph::{PortIn, PortOut};
 use std::alloc::Global;
+use table_lines::is;
 
 fn word_copy(alloc: Global, d: &WordDef) -> Result<WordDef, OutOfMemory>
     ensures { IfOk result (λ r. seen_word r ≡ seen_word d.now) }

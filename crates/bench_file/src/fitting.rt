@@ -8,12 +8,12 @@ ghost use Rattle.bench_file.specs.Fits.{in_port, out_port, model_out_port, same_
 ghost use Rattle.table_file.specs.Answers.{seen_tables};
 
 use crate::fault::FitsFault;
-use bench_lines::is;
 use ij_bits::List;
 use ij_text::Name;
 use instruments::{Model, OutDef, PortDef};
 use net_graph::{Inst, Net, PortIn, PortOut};
 use table_file::Table;
+use table_lines::is;
 
 fn same_in(port: &PortIn, d: &PortDef) -> bool
     ensures forth { result ≡ same_port (in_port port.now) (seen_port d.now) }

@@ -4,11 +4,11 @@ ghost use Rattle.instruments.specs.Seen.{seen_port, seen_row};
 ghost use Rattle.table_file.specs.Tables.{named};
 ghost use Rattle.bench_file.specs.Fits.{in_port, input_names, moved, operand_moved, cond_moved, slot_moved, amount_moved, set_moved, row_moved};
 
-use bench_lines::is;
 use ij_bits::{List, OutOfMemory};
 use instruments::{Amount, Cond, Operand, PortDef, RowDef, Set, Slot};
 use net_graph::PortIn;
 use std::alloc::Global;
+use table_lines::is;
 
 /// The number of the input of a name.
 fn find_port(ports: &[PortIn], name: &[u8]) -> Option<usize>

@@ -1,3 +1,4 @@
 pub mod Counting
 pub mod Whole
 pub mod States
+pub mod Counted

@@ -12,10 +12,10 @@ use Rattle.tap_machine.specs.Play.{pins, scans_in}
 use Rattle.net_bench.specs.Bench.{State, fault_free, power_up}
 use Rattle.net_bench.specs.Board.{SeenBench}
 use Rattle.net_bench.specs.Playing.{after_pins, compares, differing, play_from}
-use Rattle.runners.specs.Runners.{machines_of}
+use Rattle.instruments.specs.Runners.{machines_of}
 use Rattle.report.specs.Totalled.{play_text}
 use Rattle.bench_report.specs.Report.{chip, chip_of, differs_of, state_text}
-use Rattle.runners.proofs.Machines.{machines_are}
+use Rattle.instruments.proofs.Machines.{machines_are}
 
 module _ (net : Net) (models : List Model) (b : SeenBench) (ps : List Pins) (cs : List SeenCommand) (n : b.net ≡ net) (m : b.models ≡ models) (st : b.state ≡ power_up (chip_of b)) (p : ps ≡ pins InReset 0 cs) where
   chip_is : chip_of b ≡ chip net b.device (map seen_model models)

@@ -15,7 +15,7 @@ use Rattle.tap_machine.specs.Play.{pins, scans_in}
 use Rattle.net_bench.specs.Bench.{Chip, State, fault_free, power_up}
 use Rattle.net_bench.specs.Board.{SeenBench}
 use Rattle.net_bench.specs.Playing.{Compare, play_from, compares_from, differing}
-use Rattle.runners.specs.Runners.{machines_of}
+use Rattle.instruments.specs.Runners.{machines_of}
 use Rattle.report.specs.Differs.{differ_text}
 use Rattle.report.specs.Instruments.{instrument_text}
 use Rattle.report.specs.Registers.{registers_text}

@@ -6,7 +6,7 @@ ghost use Rattle.instruments.specs.Seen.{seen_model};
 ghost use Rattle.tap_machine.specs.declared.Stable.TheVariants.{Reset as InReset};
 ghost use Rattle.tap_machine.specs.Play.{pins, scans_in};
 ghost use Rattle.net_bench.specs.Bench.{power_up};
-ghost use Rattle.runners.specs.Runners.{AreModels};
+ghost use Rattle.instruments.specs.Runners.{AreModels};
 ghost use Rattle.net_graph.specs.Nets.{IsNet};
 ghost use Rattle.bench_report.specs.Report.{Names, chip_of, differs_of, named_report, play_report};
 

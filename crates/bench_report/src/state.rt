@@ -5,7 +5,7 @@ ghost use Rattle.ij_io.specs.Causes.{HasCause};
 ghost use Rattle.instruments.specs.Models.{IsModel};
 ghost use Rattle.instruments.specs.OnNetwork.{inner_at};
 ghost use Rattle.instruments.specs.Seen.{seen_model};
-ghost use Rattle.runners.specs.Runners.{AreModels};
+ghost use Rattle.instruments.specs.Runners.{AreModels};
 ghost use Rattle.net_graph.specs.Nets.{IsNet};
 ghost use Rattle.bench_report.specs.Report.{inst_text, instruments_text, state_text};
 

@@ -1,7 +1,7 @@
 -- Items that are added one after the other, and the lists that they are made of.
 use Rattle.std.proofs.Common.{◌≡◌, List, [], ◌∷◌, ◌++◌, map, ap, ◌∙◌, subst, append_assoc}
 use Rattle.std.proofs.lemmas.List.{map-append}
-use Rattle.icl_syntax.specs.Values.{SeenItem}
+use Rattle.icl_lexer.specs.Values.{SeenItem}
 use Rattle.design_maker.specs.Parts.{HasAdded, seen_items}
 use Rattle.design_maker.specs.declared.items.Items.{Items}
 

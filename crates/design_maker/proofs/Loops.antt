@@ -2,7 +2,7 @@
 use Rattle.std.proofs.Common.{◌≡◌, ◌<◌, ◌≤◌, ◌+◌, ℕ, suc, List, [], ◌∷◌, ◌++◌, length, drop, ap, sym, ◌∙◌, arith, append_assoc, append-nil}
 use Rattle.std.specs.Prelude.{get_or}
 use Rattle.std.proofs.lemmas.List.{at_drop_all, at_drop_more, length-map}
-use Rattle.icl_syntax.specs.Values.{SeenItem}
+use Rattle.icl_lexer.specs.Values.{SeenItem}
 use Rattle.rand_pcg.specs.Lcg.{Lcg}
 use Rattle.design_maker.proofs.Changes.{length-change_at}
 use Rattle.design_maker.specs.declared.instrument.Instrument.{Instrument}

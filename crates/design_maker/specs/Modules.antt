@@ -1,8 +1,8 @@
 -- The modules that each made design has: a segment insertion bit, an instrument, and its register (IEEE 1687-2014, ICL).
 use Rattle.std.specs.Prelude.{List, [], ◌∷◌, ◌++◌, Some, None, codes}
-use Rattle.icl_syntax.specs.declared.tree.PortKind.TheVariants.{ScanInPort, ScanOutPort, DataInPort, DataOutPort, SelectPort, CaptureEnPort, ShiftEnPort, UpdateEnPort, ResetPort, TCKPort, ToSelectPort, ToCaptureEnPort, ToShiftEnPort, ToUpdateEnPort, ToResetPort, ToTCKPort}
-use Rattle.icl_syntax.specs.declared.tree.LinkKind.TheVariants.{Std2001}
-use Rattle.icl_syntax.specs.Values.{ASized, AScanInSource, ACaptureSource, ALoadValue, AResetValue, APolarity, APort, ARegister, AMux, ALink, SeenLinkInstr, SeenItem, SeenModule}
+use Rattle.icl_lexer.specs.declared.tree.PortKind.TheVariants.{ScanInPort, ScanOutPort, DataInPort, DataOutPort, SelectPort, CaptureEnPort, ShiftEnPort, UpdateEnPort, ResetPort, TCKPort, ToSelectPort, ToCaptureEnPort, ToShiftEnPort, ToUpdateEnPort, ToResetPort, ToTCKPort}
+use Rattle.icl_lexer.specs.declared.tree.LinkKind.TheVariants.{Std2001}
+use Rattle.icl_lexer.specs.Values.{ASized, AScanInSource, ACaptureSource, ALoadValue, AResetValue, APolarity, APort, ARegister, AMux, ALink, SeenLinkInstr, SeenItem, SeenModule}
 use Rattle.design_maker.specs.Parts.{module_of, item, the_width, whole_width, lowest, ranged, signal, port, sourced, wide_port, interface, width_parameter, attribute, instance, bound, bound_width, mux_row}
 
 -- ---- a segment insertion bit

@@ -1,7 +1,7 @@
 -- The network of a made design: each instrument behind its SIBs, the outermost first (IEEE 1687-2014, ICL).
 use Rattle.std.specs.Prelude.{ℕ, zero, suc, ◌==◌, cond, List, [], ◌∷◌, ◌++◌, length, codes, decimal}
-use Rattle.icl_syntax.specs.declared.tree.PortKind.TheVariants.{ScanInPort, ScanOutPort}
-use Rattle.icl_syntax.specs.Values.{ADecimal, SeenItem, SeenModule}
+use Rattle.icl_lexer.specs.declared.tree.PortKind.TheVariants.{ScanInPort, ScanOutPort}
+use Rattle.icl_lexer.specs.Values.{ADecimal, SeenItem, SeenModule}
 use Rattle.design_maker.specs.Modules.{sib_module, ins_module, wrap_module, chip_module}
 use Rattle.design_maker.specs.Numbered.{numbered}
 use Rattle.design_maker.specs.Parts.{module_of, signal, port, sourced, interface, instance, bound, bound_width}

@@ -1,11 +1,11 @@
 -- Parts of a made design, which stand at no place of a text.
 use Rattle.std.specs.Prelude.{◌≡◌, ℕ, false, List, [], ◌∷◌, ◌++◌, Option, Some, None, codes}
 use Rattle.ij_bits.specs.Room.{seen_list}
-use Rattle.icl_syntax.specs.declared.tree.PortKind.{PortKind}
-use Rattle.icl_syntax.specs.declared.tree.Sign.TheVariants.{Minus}
-use Rattle.icl_syntax.specs.Views.{seen_item}
+use Rattle.icl_lexer.specs.declared.tree.PortKind.{PortKind}
+use Rattle.icl_lexer.specs.declared.tree.Sign.TheVariants.{Minus}
+use Rattle.icl_lexer.specs.Views.{seen_item}
 use Rattle.design_maker.specs.declared.items.Items.{Items}
-use Rattle.icl_syntax.specs.Values.{SeenExpr, ADecimal, ASized, AQuoted, AParam, AnOp, SeenRange, APath, SeenSig, ASource, SeenRow, SeenBind, ABoundPort, ABoundParameter, SeenWhat, APort, AChild, AParameter, AnInterface, AnAttribute, SeenItem, SeenModule}
+use Rattle.icl_lexer.specs.Values.{SeenExpr, ADecimal, ASized, AQuoted, AParam, AnOp, SeenRange, APath, SeenSig, ASource, SeenRow, SeenBind, ABoundPort, ABoundParameter, SeenWhat, APort, AChild, AParameter, AnInterface, AnAttribute, SeenItem, SeenModule}
 use Rattle.ij_text.specs.Places.{no_place}
 
 abbrev pub module_of : List ℕ → List SeenItem → SeenModule

@@ -1,12 +1,12 @@
 // The items of a module in the making.
 ghost use Rattle.std.specs.Prelude.{◌≡◌, ◌≤◌, [], ◌∷◌, length, map, Some, None, OnOk, IfOk};
 ghost use Rattle.ij_bits.specs.Room.{seen_list};
-ghost use Rattle.icl_syntax.specs.Values.{ASized, APort};
-ghost use Rattle.icl_syntax.specs.Views.{seen_bind, seen_expr, seen_few, seen_module, seen_prop, seen_row, seen_sig, seen_what};
+ghost use Rattle.icl_lexer.specs.Values.{ASized, APort};
+ghost use Rattle.icl_lexer.specs.Views.{seen_bind, seen_expr, seen_few, seen_module, seen_prop, seen_row, seen_sig, seen_what};
 ghost use Rattle.design_maker.specs.Parts.{HasAdded, attribute, bound, bound_width, instance, interface, item, module_of, mux_row, port, seen_items, signal, sourced, wide_port, width_parameter};
 
 use crate::signals::{NOWHERE, names, one, signal, whole_width};
-use icl_syntax::{Bind, Expr, Few, Item, Module, MuxRow, PortKind, Prop, Sig, SmallText, What};
+use icl_lexer::{Bind, Expr, Few, Item, Module, MuxRow, PortKind, Prop, Sig, SmallText, What};
 use ij_bits::{List, OutOfMemory};
 use std::alloc::Global;
 

@@ -1,14 +1,14 @@
 // The modules that each made design has.
 ghost use Rattle.std.specs.Prelude.{◌≡◌, [], ◌∷◌, codes, OnOk, IfOk};
-ghost use Rattle.icl_syntax.specs.Values.{ALink};
-ghost use Rattle.icl_syntax.specs.declared.tree.LinkKind.{LinkKind};
-ghost use Rattle.icl_syntax.specs.Views.{seen_instr, seen_module};
+ghost use Rattle.icl_lexer.specs.Values.{ALink};
+ghost use Rattle.icl_lexer.specs.declared.tree.LinkKind.{LinkKind};
+ghost use Rattle.icl_lexer.specs.Views.{seen_instr, seen_module};
 ghost use Rattle.design_maker.specs.Parts.{HasAdded, item};
 ghost use Rattle.design_maker.specs.Modules.{chip_module, client_side, data_register, host_side, inner_instrument, ins_module, link_instruction, segment_mux, select_bit, sib_module, wrap_module, wrap_ports};
 
 use crate::items::{Items, bound, bound_width, mux_row, sized};
 use crate::signals::{lowest, one, ranged, signal, the_width, whole_width};
-use icl_syntax::{LinkInstr, LinkKind, Module, PortKind, Prop, SmallText, What};
+use icl_lexer::{LinkInstr, LinkKind, Module, PortKind, Prop, SmallText, What};
 use ij_bits::{List, OutOfMemory};
 use std::alloc::Global;
 

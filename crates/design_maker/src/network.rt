@@ -1,6 +1,6 @@
 // The network of a made design.
 ghost use Rattle.std.specs.Prelude.{◌≡◌, ◌≤◌, ◌<◌, [], ◌∷◌, length, codes, OnOk, IfOk};
-ghost use Rattle.icl_syntax.specs.Views.{seen_bind, seen_design, seen_module, seen_sig};
+ghost use Rattle.icl_lexer.specs.Views.{seen_bind, seen_design, seen_module, seen_sig};
 ghost use Rattle.design_maker.specs.Numbered.{numbered};
 ghost use Rattle.design_maker.specs.Parts.{HasAdded, bound, signal};
 ghost use Rattle.design_maker.specs.Network.{chain_items, inner_of, made_design, net_module, net_ports, outer_of, sib_item, sib_items, sib_name, wrap_item, wrap_name};
@@ -9,7 +9,7 @@ use crate::instrument::Instrument;
 use crate::items::{Items, bound, bound_width};
 use crate::modules::{chip_module, ins_module, sib_module, wrap_module};
 use crate::signals::signal;
-use icl_syntax::{Bind, Design, Expr, Module, PortKind, Sig};
+use icl_lexer::{Bind, Design, Expr, Module, PortKind, Sig};
 use ij_bits::{List, OutOfMemory};
 use ij_io::{SureSink, Word, put_words};
 use std::alloc::Global;

@@ -1,9 +1,9 @@
 // Expressions, signals and properties of a made design, which stand at no place of a text.
 ghost use Rattle.std.specs.Prelude.{◌≡◌, ◌≤◌, ◌++◌, [], ◌∷◌, length, map, option_map, IfOk, OnOk};
-ghost use Rattle.icl_syntax.specs.Views.{bytes_of, seen_expr, seen_range, seen_sig};
+ghost use Rattle.icl_lexer.specs.Views.{bytes_of, seen_expr, seen_range, seen_sig};
 ghost use Rattle.design_maker.specs.Parts.{lowest, ranged, signal, the_width, whole_width};
 
-use icl_syntax::{Ends, Expr, Few, Range, Sig, SigWhat, Sign, SmallText};
+use icl_lexer::{Ends, Expr, Few, Range, Sig, SigWhat, Sign, SmallText};
 use ij_bits::{List, OutOfMemory};
 use ij_text::Place;
 use std::alloc::Global;

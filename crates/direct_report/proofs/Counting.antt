@@ -4,7 +4,7 @@ use Rattle.std.specs.Prelude.{filter}
 use Rattle.std.proofs.lemmas.List.{take-map, get_or-map, length-map}
 use Rattle.std.proofs.lemmas.List.Filters.{length-filter_more}
 use Rattle.net_graph.specs.declared.step.ReadBit.{ReadBit}
-use Rattle.pdl_runner.specs.States.{SeenState}
+use Rattle.pdl_meaning.specs.States.{SeenState}
 use Rattle.direct_report.specs.Report.{differs}
 use Rattle.direct_report.specs.Seen.{found_in, found_all}
 

@@ -19,8 +19,8 @@ use Rattle.net_graph.specs.declared.net.Net.{Net}
 use Rattle.net_graph.specs.declared.step.Group.{Group}
 use Rattle.net_graph.specs.declared.step.ReadBit.{ReadBit}
 use Rattle.pdl_meaning.specs.Direct.{Direct, do_group, do_rounds, found}
-use Rattle.pdl_runner.specs.States.{SeenState}
-use Rattle.runners.specs.Runners.{machines_of}
+use Rattle.pdl_meaning.specs.States.{SeenState}
+use Rattle.instruments.specs.Runners.{machines_of}
 use Rattle.direct_report.specs.Going.{AreCounted, AreReads, IsAfterWrites, StandsFor}
 use Rattle.direct_report.specs.Report.{differs, in_order, lines, rounds_lines}
 use Rattle.direct_report.specs.Seen.{found_all}

@@ -12,15 +12,15 @@ use Rattle.net_graph.specs.SeenSteps.{SeenGroup, Apply, Reset, Run}
 use Rattle.net_graph.specs.Signals.{Holds}
 use Rattle.net_graph.specs.declared.net.Net.{Net}
 use Rattle.pdl_meaning.specs.Direct.{Direct, do_rounds, do_step, run_cycles}
-use Rattle.pdl_runner.specs.States.{Reads, SeenState, direct_at, with_reads}
+use Rattle.pdl_meaning.specs.States.{Reads, SeenState, direct_at, with_reads}
 use Rattle.report.specs.Registers.{registers_text}
 use Rattle.report.specs.Totalled.{direct_text}
 use Rattle.bench_report.specs.Report.{instruments_text}
-use Rattle.runners.specs.Runners.{machines_of}
+use Rattle.instruments.specs.Runners.{machines_of}
 use Rattle.direct_report.specs.Going.{AreCounted, StandsFor}
 use Rattle.direct_report.specs.Kept.{Kept, Keeps}
 use Rattle.direct_report.specs.Report.{differing, end_text, rounds_lines, step_lines}
-use Rattle.runners.proofs.Machines.{machines_are}
+use Rattle.instruments.proofs.Machines.{machines_are}
 
 -- a run that stands for a meaning, with the meaning's reads, is the meaning
 pub same_as : (s : SeenState) (d : Direct Counts) → s.holds ≡ d.holds → s.insts ≡ d.insts → with_reads s d.reads ≡ d

@@ -9,8 +9,8 @@ use Rattle.net_graph.specs.declared.net.BitId.{BitId}
 use Rattle.net_graph.specs.declared.net.Net.{Net}
 use Rattle.net_graph.specs.declared.step.ReadBit.{ReadBit}
 use Rattle.instruments.specs.OnNetwork.{outputs}
-use Rattle.pdl_runner.specs.States.{SeenState}
-use Rattle.runners.specs.Runners.{machines_of}
+use Rattle.pdl_meaning.specs.States.{SeenState}
+use Rattle.instruments.specs.Runners.{machines_of}
 use Rattle.direct_report.specs.Marked.{IsMarked, marked}
 use Rattle.direct_report.specs.Report.{bits_of_registers, differs, in_order, all_bits, line_if, lines, read_line, reads_at, reads_on}
 use Rattle.direct_report.specs.Seen.{found_all}

@@ -8,8 +8,8 @@ use Rattle.ij_bits.specs.Different.{AreDifferent}
 use Rattle.net_graph.specs.declared.net.BitId.{BitId}
 use Rattle.net_graph.specs.declared.step.ReadBit.{ReadBit}
 use Rattle.net_graph.proofs.Places.{place_is}
-use Rattle.bit_marks.specs.Marks.{Marks, HasMark, mark_at, set_mark}
-use Rattle.bit_marks.proofs.Setting.{set_is_there, others_stay, bits_stay}
+use Rattle.net_graph.specs.Marks.{Marks, HasMark, mark_at, set_mark}
+use Rattle.net_graph.proofs.Setting.{set_is_there, others_stay, bits_stay}
 use Rattle.direct_report.specs.Marked.{marked, IsMarked, AreMarked, AreBlank}
 use Rattle.direct_report.proofs.Finding.{at, bits_in, none_at, new_at, still_marked, last_marked, mark_is_none, none_passes}
 

@@ -10,8 +10,8 @@ use Rattle.net_graph.specs.declared.net.Net.{Net}
 use Rattle.net_graph.specs.declared.step.ReadBit.{ReadBit}
 use Rattle.net_graph.specs.declared.step.WriteBit.{WriteBit}
 use Rattle.pdl_meaning.specs.Direct.{Direct}
-use Rattle.pdl_runner.specs.States.{SeenState}
-use Rattle.runners.specs.Runners.{machines_of}
+use Rattle.pdl_meaning.specs.States.{SeenState}
+use Rattle.instruments.specs.Runners.{machines_of}
 use Rattle.direct_report.specs.Report.{differing}
 
 -- the same register bits and instruments

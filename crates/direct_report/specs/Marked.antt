@@ -1,6 +1,6 @@
 -- Reads with a mark at each bit that is read: the place of its read, counted from 1.
 use Rattle.std.specs.Prelude.{◌≡◌, ◌≤◌, ℕ, zero, suc, List, [], filter, take, drop, length}
-use Rattle.bit_marks.specs.Marks.{Marks, mark_at}
+use Rattle.net_graph.specs.Marks.{Marks, mark_at}
 use Rattle.net_graph.specs.Path.{same_place}
 use Rattle.net_graph.specs.declared.net.BitId.{BitId}
 use Rattle.net_graph.specs.declared.step.ReadBit.{ReadBit}

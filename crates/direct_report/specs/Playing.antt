@@ -1,12 +1,12 @@
 -- A play that is sound: its parts belong together.
 use Rattle.std.specs.Prelude.{◌≡◌, ◌≤◌, ℕ, List}
-use Rattle.bit_marks.specs.Marks.{Marks}
+use Rattle.net_graph.specs.Marks.{Marks}
 use Rattle.instruments.specs.declared.model.Model.{Model}
 use Rattle.net_graph.specs.Nets.{IsNet}
 use Rattle.net_graph.specs.declared.net.Net.{Net}
-use Rattle.pdl_runner.specs.States.{SeenState}
-use Rattle.runners.specs.Runners.{AreModels}
-use Rattle.bit_marks.specs.Numbered.{HaveMarks}
+use Rattle.pdl_meaning.specs.States.{SeenState}
+use Rattle.instruments.specs.Runners.{AreModels}
+use Rattle.net_graph.specs.Numbered.{HaveMarks}
 use Rattle.direct_report.specs.Marked.{AreBlank}
 
 pub record IsPlay (net : Net) (models : List Model) (values : SeenState) (marks : Marks) (reads differs : ℕ) : Type 0 where

@@ -3,8 +3,8 @@ use Rattle.std.specs.Prelude.{Bool, List, [], map}
 use Rattle.instruments.specs.Machine.{count_log}
 use Rattle.net_graph.specs.declared.step.ReadBit.{ReadBit}
 use Rattle.pdl_meaning.specs.Direct.{found}
-use Rattle.pdl_runner.specs.States.{SeenState, with_reads}
-use Rattle.runners.specs.Runners.{machines_of}
+use Rattle.pdl_meaning.specs.States.{SeenState, with_reads}
+use Rattle.instruments.specs.Runners.{machines_of}
 
 -- a read bit with the value that is found
 abbrev pub found_in : SeenState → ReadBit → ReadBit × Bool

@@ -1,13 +1,12 @@
 // Marks at the bits that a round reads.
 ghost use Rattle.std.specs.Prelude.{◌≤◌, length, map, All};
-ghost use Rattle.bit_marks.specs.Marks.{HasMark};
-ghost use Rattle.bit_marks.specs.Numbered.{HaveMarks};
+ghost use Rattle.net_graph.specs.Marks.{HasMark};
+ghost use Rattle.net_graph.specs.Numbered.{HaveMarks};
 ghost use Rattle.direct_report.specs.Marked.{AreBlank, AreMarked};
 ghost use Rattle.ij_bits.specs.Different.{AreDifferent};
 ghost use Rattle.net_graph.specs.declared.net.Net.{Net};
 
-use bit_marks::BitMarks;
-use net_graph::ReadBit;
+use net_graph::{BitMarks, ReadBit};
 
 /// Marks each bit that is read with the place of its read, counted from 1.
 pub(crate) fn mark_reads(reads: &[ReadBit], marks: &mut BitMarks)

@@ -13,16 +13,15 @@ ghost use Rattle.net_graph.specs.Nets.{IsNet};
 ghost use Rattle.net_graph.specs.SeenSteps.{Apply, seen_group, seen_step};
 ghost use Rattle.net_graph.specs.Steps.{IsGroup, IsStep};
 ghost use Rattle.pdl_meaning.specs.Direct.{Direct, do_step, power_up};
-ghost use Rattle.runners.specs.Runners.{AreModels};
+ghost use Rattle.instruments.specs.Runners.{AreModels};
 
 use crate::round::tell_rounds;
 use crate::state::put_values;
-use bit_marks::BitMarks;
 use ij_bits::{List, OutOfMemory};
 use ij_io::{Sink, StoreFault};
 use instruments::Model;
-use net_graph::{BitStep, Group, Net};
-use pdl_runner::DataState;
+use net_graph::{BitMarks, BitStep, Group, Net};
+use pdl_meaning::DataState;
 use report::{Totals, put_totals};
 use std::alloc::Global;
 

@@ -8,10 +8,9 @@ ghost use Rattle.ij_io.specs.Causes.{HasCause};
 ghost use Rattle.net_graph.specs.Named.{IsBitOf, bits_from};
 ghost use Rattle.net_graph.specs.Nets.{IsNet};
 
-use bit_marks::BitMarks;
 use ij_io::{Sink, StoreFault};
-use net_graph::{BitId, Net, ReadBit, register_count};
-use pdl_runner::DataState;
+use net_graph::{BitId, BitMarks, Net, ReadBit, register_count};
+use pdl_meaning::DataState;
 use report::{Differ, put_differ, width_of};
 
 /// How many reads differ.

@@ -1,7 +1,7 @@
 // The rounds of an iApply: what they print, and what they do.
 ghost use Rattle.std.specs.Prelude.{◌≡◌, ◌<◌, ◌≤◌, ◌+◌, ◌*◌, ◌^◌, length, filter, map, All, IfOk, OnOk, OnErr};
 ghost use Rattle.direct_report.specs.Going.{AreCounted, AreReads, IsAfterWrites, StandsFor};
-ghost use Rattle.bit_marks.specs.Numbered.{HaveMarks};
+ghost use Rattle.net_graph.specs.Numbered.{HaveMarks};
 ghost use Rattle.direct_report.specs.Marked.{AreBlank};
 ghost use Rattle.direct_report.specs.Report.{differs, in_order, lines, rounds_lines};
 ghost use Rattle.direct_report.specs.Seen.{found_all};
@@ -13,14 +13,13 @@ ghost use Rattle.net_graph.specs.Nets.{IsNet};
 ghost use Rattle.net_graph.specs.SeenSteps.{seen_group};
 ghost use Rattle.net_graph.specs.Steps.{IsGroup};
 ghost use Rattle.pdl_meaning.specs.Direct.{Direct, do_rounds};
-ghost use Rattle.runners.specs.Runners.{machines_of};
+ghost use Rattle.instruments.specs.Runners.{machines_of};
 
 use crate::marking::{mark_reads, unmark_reads};
 use crate::reads::{count_differing, put_reads};
-use bit_marks::BitMarks;
 use ij_io::{Sink, StoreFault};
-use net_graph::{Group, Net, ReadBit};
-use pdl_runner::DataState;
+use net_graph::{BitMarks, Group, Net, ReadBit};
+use pdl_meaning::DataState;
 
 /// How many bits were compared, and how many of them differ.
 #[derive(Clone, Copy)]

@@ -8,13 +8,13 @@ ghost use Rattle.instruments.specs.OnNetwork.{inner_at};
 ghost use Rattle.instruments.specs.Seen.{seen_model};
 ghost use Rattle.net_graph.specs.Nets.{IsNet};
 ghost use Rattle.report.specs.Registers.{registers_text};
-ghost use Rattle.runners.specs.Runners.{AreModels};
+ghost use Rattle.instruments.specs.Runners.{AreModels};
 
 use ij_bits::List;
 use ij_io::{Sink, StoreFault};
 use instruments::Model;
 use net_graph::Net;
-use pdl_runner::DataState;
+use pdl_meaning::DataState;
 use report::{put_instrument, put_registers};
 
 /// The numbers of an instrument's words, 0 behind the last one.

@@ -8,13 +8,13 @@ ghost use Rattle.instruments.specs.Seen.{seen_model};
 ghost use Rattle.net_graph.specs.Nets.{IsNet};
 ghost use Rattle.net_graph.specs.Steps.{IsStep};
 ghost use Rattle.pdl_targets.specs.Laws.{rounds_in};
-ghost use Rattle.runners.specs.Runners.{AreModels};
+ghost use Rattle.instruments.specs.Runners.{AreModels};
 
 use crate::play::DirectPlay;
-use bit_steps::{BitSteps, next_step};
 use ij_bits::List;
 use ij_io::{Sink, StoreFault};
 use instruments::Model;
+use merge_order::{BitSteps, next_step};
 use net_graph::Net;
 use std::alloc::Global;
 

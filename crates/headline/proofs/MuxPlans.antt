@@ -68,6 +68,7 @@ row_fits value r l =
 mux_fits : IsMux rounds_net the_mux
 mux_fits =
     record {
+      named = refl;
       at_least_one_bit = omega arith;
       select = All-cons (IsBitOf rounds_net) (bit 2 0) [] (omega arith) (All-nil (IsBitOf rounds_net));
       some_rows = omega arith;

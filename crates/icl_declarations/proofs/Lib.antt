@@ -1,2 +1,11 @@
 pub mod ScopeTables
 pub mod InnerNames
+pub mod DigitLists
+pub mod ParamLists
+pub mod ClosedNumbers
+pub mod WideBits
+pub mod Sizes
+pub mod Each
+pub mod Joins
+pub mod OneOrSeveral
+pub mod ValueWidths

@@ -3,8 +3,8 @@
 use Rattle.std.specs.Prelude.{ℕ, ◌+◌, nat_lt, nat_le, Bool, ◌&&◌, List, zip, count_by, Ok}
 use Rattle.std.specs.List.{list_any}
 use Rattle.ij_text.specs.declared.Which.TheVariants.{ScanBits, Muxes, Instruments, Ports, PortBits}
-use Rattle.icl_syntax.specs.Values.{SeenWhat, ARegister, AMux, SeenModule}
-use Rattle.icl_values.specs.Faults.{Answer, ◌>>=◌, refuse_if, Limit}
+use Rattle.icl_lexer.specs.Values.{SeenWhat, ARegister, AMux, SeenModule}
+use Rattle.icl_declarations.specs.Faults.{Answer, ◌>>=◌, refuse_if, Limit}
 use Rattle.icl_declarations.specs.declared.counts.Counts.{Counts}
 use Rattle.icl_declarations.specs.declared.ranges.Bounds.{Bounds}
 use Rattle.icl_declarations.specs.Parts.{parts_of, is_data_port, port_that, is_data_in, is_data_out}

@@ -4,3 +4,10 @@ pub mod Naming
 pub mod Counting
 pub mod Scopes
 pub mod Taken
+pub mod Faults
+pub mod Values
+pub mod Tables
+pub mod Sized
+pub mod Expressions
+pub mod Widths
+pub mod Examples

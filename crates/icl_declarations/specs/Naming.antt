@@ -3,8 +3,8 @@ use Rattle.std.specs.Prelude.{ℕ, List, [], ◌∷◌, ◌++◌, Ok}
 use Rattle.std.specs.List.{list_any}
 use Rattle.std.specs.Str.{bytes_eq}
 use Rattle.ij_text.specs.declared.Place.{Place}
-use Rattle.icl_syntax.specs.Values.{SeenItem}
-use Rattle.icl_values.specs.Faults.{Answer, ◌>>=◌, refuse_if, over, DoubleName}
+use Rattle.icl_lexer.specs.Values.{SeenItem}
+use Rattle.icl_declarations.specs.Faults.{Answer, ◌>>=◌, refuse_if, over, DoubleName}
 use Rattle.icl_declarations.specs.Parts.{is_taken, inner_names}
 
 abbrev pub with_name : Place → List (List ℕ) → List ℕ → Answer (List (List ℕ))

@@ -4,12 +4,12 @@ use Rattle.std.specs.Prelude.{ℕ, ◌+◌, ◌-◌, nat_lt, nat_le, Bool, ◌&&
 use Rattle.std.specs.List.{range_with_len}
 use Rattle.ij_text.specs.declared.Place.{Place}
 use Rattle.ij_text.specs.declared.Which.TheVariants.{Width}
-use Rattle.icl_syntax.specs.Values.{SeenExpr, SeenRange}
+use Rattle.icl_lexer.specs.Values.{SeenExpr, SeenRange}
 use Rattle.icl_declarations.specs.declared.ranges.Bounds.{Bounds}
 use Rattle.icl_declarations.specs.declared.ranges.Stretch.{Stretch}
-use Rattle.icl_values.specs.Faults.{Answer, ◌>>=◌, BadRange, Limit}
-use Rattle.icl_values.specs.Values.{Params}
-use Rattle.icl_values.specs.Expressions.{integer}
+use Rattle.icl_declarations.specs.Faults.{Answer, ◌>>=◌, BadRange, Limit}
+use Rattle.icl_declarations.specs.Values.{Params}
+use Rattle.icl_declarations.specs.Expressions.{integer}
 
 -- one bit of index 0
 abbrev pub one_bit : Bounds

@@ -3,7 +3,7 @@ use Rattle.std.specs.Prelude.{◌≡◌, ℕ, suc, Bool, ◌&&◌, cond, List, [
 use Rattle.std.specs.Str.{bytes_eq}
 use Rattle.std.specs.Map.{lookup}
 use Rattle.ij_text.specs.Options.{or_else}
-use Rattle.icl_syntax.specs.Values.{SeenWhat, SeenItem}
+use Rattle.icl_lexer.specs.Values.{SeenWhat, SeenItem}
 use Rattle.icl_declarations.specs.declared.scope.Scope.{Scope}
 use Rattle.icl_declarations.specs.Parts.{is_part, is_signal}
 

@@ -2,7 +2,7 @@
 use Rattle.std.specs.Prelude.{◌≡◌, ℕ, Bool, ◌&&◌, List, [], ◌∷◌, ◌++◌, is_some}
 use Rattle.std.specs.List.{list_any}
 use Rattle.std.specs.Str.{bytes_eq}
-use Rattle.icl_syntax.specs.Values.{SeenWhat, SeenItem}
+use Rattle.icl_lexer.specs.Values.{SeenWhat, SeenItem}
 use Rattle.icl_declarations.specs.declared.scope.Scope.{Scope}
 use Rattle.icl_declarations.specs.declared.taken.Taken.{Taken}
 use Rattle.icl_declarations.specs.Parts.{is_signal, is_interface, is_link, is_enum, is_parameter}

@@ -2,16 +2,16 @@
 ghost use Rattle.std.specs.Prelude.{◌≡◌, ◌≤◌, ◌+◌, ◌<◌, ◌&&◌, map, count_by, IfOk, nat_lt};
 ghost use Rattle.std.specs.List.{list_any};
 ghost use Rattle.ij_text.specs.Options.{same};
-ghost use Rattle.icl_syntax.specs.Views.{seen_what, seen_prop, seen_item, seen_module};
-ghost use Rattle.icl_values.specs.Faults.{Gives};
+ghost use Rattle.icl_lexer.specs.Views.{seen_what, seen_prop, seen_item, seen_module};
+ghost use Rattle.icl_declarations.specs.Faults.{Gives};
 ghost use Rattle.icl_declarations.specs.Parts.{is_source, is_data_port, is_not_of_instrument, is_instrument, is_part, port_that, is_data_in, is_data_out};
 ghost use Rattle.icl_declarations.specs.Ranges.{width};
 ghost use Rattle.icl_declarations.specs.Counting.{count_part, count_instrument, has_wide_port};
 
+use crate::fault::ElabFault;
 use crate::kinds::{is_data_in_port, is_data_out_port, is_part};
 use crate::ranges::{Bounds, width};
-use icl_syntax::{Item, Module, PortKind, Prop, What};
-use icl_values::ElabFault;
+use icl_lexer::{Item, Module, PortKind, Prop, What};
 use ij_text::Which;
 
 /// What is counted over all cells.

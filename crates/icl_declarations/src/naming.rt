@@ -2,17 +2,17 @@
 ghost use Rattle.std.specs.Prelude.{ℕ, List, ◌||◌, ◌≡◌, OnOk, map};
 ghost use Rattle.std.specs.Str.{bytes_eq};
 ghost use Rattle.ij_text.specs.Options.{same};
-ghost use Rattle.icl_syntax.specs.Values.{SeenItem};
-ghost use Rattle.icl_syntax.specs.Views.{seen_item, seen_what};
-ghost use Rattle.icl_values.specs.Faults.{DoubleName, Gives, refuse_if};
+ghost use Rattle.icl_lexer.specs.Values.{SeenItem};
+ghost use Rattle.icl_lexer.specs.Views.{seen_item, seen_what};
+ghost use Rattle.icl_declarations.specs.Faults.{DoubleName, Gives, refuse_if};
 ghost use Rattle.icl_declarations.specs.Parts.{inner_names};
 ghost use Rattle.icl_declarations.specs.Naming.{distinct, new_names};
 ghost use Rattle.icl_declarations.specs.Taken.{AreTaken, has_entry};
 
+use crate::fault::ElabFault;
 use crate::scope::Scope;
 use crate::taken::Taken;
-use icl_syntax::{EnumWord, Item, LinkInstr, What};
-use icl_values::ElabFault;
+use icl_lexer::{EnumWord, Item, LinkInstr, What};
 use ij_text::{Place, name_of};
 use std::alloc::Global;
 

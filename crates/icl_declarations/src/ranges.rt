@@ -2,13 +2,15 @@
 ghost use Rattle.std.specs.Prelude.{◌≡◌, ◌+◌, ◌-◌};
 ghost use Rattle.std.specs.Option.{option_map};
 ghost use Rattle.ij_text.specs.Options.{same};
-ghost use Rattle.icl_syntax.specs.Views.{seen_expr, seen_range};
-ghost use Rattle.icl_values.specs.Faults.{Gives};
-ghost use Rattle.icl_values.specs.Tables.{seen_table};
+ghost use Rattle.icl_lexer.specs.Views.{seen_expr, seen_range};
+ghost use Rattle.icl_declarations.specs.Faults.{Gives};
+ghost use Rattle.icl_declarations.specs.Tables.{seen_table};
 ghost use Rattle.icl_declarations.specs.Ranges.{has_index, position_of, right_or, indices, few_enough, declared, stretch_of, named_in, width};
 
-use icl_syntax::{Expr, Range};
-use icl_values::{ElabFault, ParamTable, integer};
+use crate::expressions::integer;
+use crate::fault::ElabFault;
+use crate::params::ParamTable;
+use icl_lexer::{Expr, Range};
 use ij_text::{Place, Which};
 use std::alloc::Global;
 

@@ -1,12 +1,12 @@
 // The parts of a module by their names.
 ghost use Rattle.std.specs.Prelude.{ℕ, List, None, ◌||◌, ◌≡◌, ◌<◌, ◌≤◌, ◌+◌, ◌^◌, map, length, IfOk, OnOk, OnErr};
-ghost use Rattle.icl_syntax.specs.Views.{seen_item};
+ghost use Rattle.icl_lexer.specs.Views.{seen_item};
 ghost use Rattle.icl_declarations.specs.Scopes.{GoesOn, IsAdded, IsKept, IsScopeOf, entry_of};
 ghost use Rattle.icl_declarations.specs.Taken.{KeepsNames, has_entry};
 ghost use Rattle.std.specs.Str.{bytes_eq};
 
 use crate::kinds::{is_part, is_signal};
-use icl_syntax::Item;
+use icl_lexer::Item;
 use ij_bits::OutOfMemory;
 use indexmap::IndexMap;
 use std::alloc::Global;

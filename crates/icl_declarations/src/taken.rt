@@ -1,12 +1,12 @@
 // The names that stand at some items.
 ghost use Rattle.std.specs.Prelude.{◌≡◌, List, [], OnOk, OnErr};
-ghost use Rattle.icl_syntax.specs.Values.{SeenItem};
-ghost use Rattle.icl_syntax.specs.Views.{seen_item};
+ghost use Rattle.icl_lexer.specs.Values.{SeenItem};
+ghost use Rattle.icl_lexer.specs.Views.{seen_item};
 ghost use Rattle.icl_declarations.specs.Parts.{is_taken};
 ghost use Rattle.icl_declarations.specs.Taken.{AreStill, AreTaken, IsOneMore};
 
 use crate::scope::Scope;
-use icl_syntax::{Item, What};
+use icl_lexer::{Item, What};
 use ij_bits::OutOfMemory;
 use std::alloc::Global;
 

@@ -2,7 +2,7 @@
 use Rattle.std.proofs.Common.{◌≡◌, ◌+◌, ℕ, List, [], ◌∷◌, map, Ok, refl, subst}
 use Rattle.std.specs.Prelude.{zip}
 use Rattle.std.specs.List.{enumerate_from}
-use Rattle.icl_syntax.specs.Values.{SeenModule}
+use Rattle.icl_lexer.specs.Values.{SeenModule}
 use Rattle.icl_declarations.specs.Ranges.{width}
 use Rattle.icl_frames.specs.FirstPass.{Frame, first_pass}
 use Rattle.icl_frames.specs.Written.{IsWrittenWhat}
@@ -10,8 +10,8 @@ use Rattle.icl_frames.proofs.Answering.{both, ok_is}
 use Rattle.icl_frames.proofs.Paired.{Paired}
 use Rattle.icl_references.specs.Names.{Here, here_of, Member, members}
 use Rattle.icl_references.specs.Roles.{PartOf, CellOf, part_width}
-use Rattle.icl_parts.specs.Bindings.{Bound}
-use Rattle.icl_parts.specs.FoundParts.{Found, part_found}
+use Rattle.icl_elab.specs.Bindings.{Bound}
+use Rattle.icl_elab.specs.FoundParts.{Found, part_found}
 use Rattle.icl_elab.specs.SecondPass.{cell_found, cells_of, second_pass}
 use Rattle.icl_elab.specs.Hierarchy.{bindings_of, part_in, cell_in, put_together, hierarchy}
 use Rattle.icl_elab.specs.WellFormed.{HasRows}

@@ -5,8 +5,8 @@ use Rattle.std.specs.List.{AllByRecursion, list_any, enumerate_from}
 use Rattle.std.proofs.lemmas.Bool.{true≢false}
 use Rattle.std.proofs.lemmas.List.Sums.{sum_by-cons, length-filter}
 use Rattle.ij_bits.specs.Different.{AreDifferent}
-use Rattle.icl_syntax.specs.declared.tree.PortKind.{PortKind}
-use Rattle.icl_syntax.specs.Values.{SeenWhat, APort, ARegister, AMux, AChild, AnAlias, SomeWords, AParameter, AnInterface, ALink, AnAttribute, SeenItem, SeenModule}
+use Rattle.icl_lexer.specs.declared.tree.PortKind.{PortKind}
+use Rattle.icl_lexer.specs.Values.{SeenWhat, APort, ARegister, AMux, AChild, AnAlias, SomeWords, AParameter, AnInterface, ALink, AnAttribute, SeenItem, SeenModule}
 use Rattle.icl_declarations.specs.declared.ranges.Bounds.{Bounds}
 use Rattle.icl_declarations.specs.Parts.{is_part, port_that, is_data_in as is_data_in_kind, is_data_out as is_data_out_kind, is_data_port as is_data_port_item, is_register as is_register_item, is_mux as is_mux_item, is_not_of_instrument as is_barred_item, parts_of}
 use Rattle.icl_frames.specs.FirstPass.{Frame}

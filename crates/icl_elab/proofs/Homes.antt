@@ -7,13 +7,13 @@ use Rattle.std.proofs.lemmas.Bool.Decides.{nat_tests}
 use Rattle.ij_text.specs.Options.{or_else}
 use Rattle.icl_elab.specs.declared.pass.Placed.{Placed}
 use Rattle.icl_elab.specs.declared.pass.CellParts.{CellParts}
-use Rattle.icl_parts.specs.Bindings.{Bound}
+use Rattle.icl_elab.specs.Bindings.{Bound}
 use Rattle.icl_elab.specs.Hierarchy.{bindings_of, bound_at, is_this_cell}
 use Rattle.icl_references.specs.Names.{is_in}
 use Rattle.icl_elab.specs.Placing.{bound_by, bound_of, home_in, is_of_cell, parts_of}
-use Rattle.icl_parts.specs.FoundParts.{Found}
+use Rattle.icl_elab.specs.FoundParts.{Found}
 use Rattle.icl_elab.specs.SeenCells.{seen_pass, seen_placed}
-use Rattle.icl_parts.proofs.Bound.{first_get, none_found}
+use Rattle.icl_elab.proofs.Bound.{first_get, none_found}
 use Rattle.icl_references.proofs.Children.{or_none}
 
 -- ---- one part more, one cell more

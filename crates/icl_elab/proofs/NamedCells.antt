@@ -6,7 +6,7 @@ use Rattle.std.proofs.lemmas.Bool.{true≢false}
 use Rattle.std.proofs.lemmas.List.Sums.{length-filter}
 use Rattle.ij_bits.specs.Different.{AreDifferent}
 use Rattle.ij_text.specs.Words.{is_name}
-use Rattle.icl_syntax.specs.Values.{SeenWhat, SeenItem}
+use Rattle.icl_lexer.specs.Values.{SeenWhat, SeenItem}
 use Rattle.icl_declarations.specs.declared.ranges.Bounds.{Bounds}
 use Rattle.icl_declarations.specs.Parts.{is_part, is_signal, is_interface, is_link, port_that, is_data_in as is_data_in_kind, is_data_out as is_data_out_kind, is_data_port as is_data_port_item, parts_of}
 use Rattle.icl_declarations.specs.Ranges.{width}

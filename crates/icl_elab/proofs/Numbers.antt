@@ -6,10 +6,10 @@ use Rattle.std.specs.Str.{bytes_eq}
 use Rattle.std.proofs.lemmas.Bool.{eqb-true, and_parts, true≢false}
 use Rattle.std.proofs.lemmas.Slice.Eq.{bytes_eq-Decides}
 use Rattle.ij_text.specs.declared.Place.{Place}
-use Rattle.icl_syntax.specs.declared.tree.PortKind.{PortKind}
-use Rattle.icl_syntax.specs.declared.tree.PortKind.TheVariants.{ScanInPort, ScanOutPort, DataInPort, DataOutPort, SelectPort, CaptureEnPort, ShiftEnPort, UpdateEnPort, ResetPort, TCKPort, TMSPort, TRSTPort, ClockPort, ToSelectPort, ToCaptureEnPort, ToShiftEnPort, ToUpdateEnPort, ToResetPort, ToTCKPort, ToTMSPort, ToTRSTPort, ToClockPort, ToIRSelectPort}
-use Rattle.icl_syntax.specs.Values.{SeenSig, SeenRow, SeenProp, ASource, ALaunchEdge, ALoadValue, ARefEnum, APolarity, AScanInSource, ACaptureSource, AResetValue, ATogether, SeenLinkInstr, SeenWhat, APort, ARegister, AMux, AChild, AnAlias, SomeWords, AParameter, AnInterface, ALink, AnAttribute}
-use Rattle.icl_values.specs.Faults.{◌>>=◌, refuse_if, each, over, WrongKind, RowsOverlap}
+use Rattle.icl_lexer.specs.declared.tree.PortKind.{PortKind}
+use Rattle.icl_lexer.specs.declared.tree.PortKind.TheVariants.{ScanInPort, ScanOutPort, DataInPort, DataOutPort, SelectPort, CaptureEnPort, ShiftEnPort, UpdateEnPort, ResetPort, TCKPort, TMSPort, TRSTPort, ClockPort, ToSelectPort, ToCaptureEnPort, ToShiftEnPort, ToUpdateEnPort, ToResetPort, ToTCKPort, ToTMSPort, ToTRSTPort, ToClockPort, ToIRSelectPort}
+use Rattle.icl_lexer.specs.Values.{SeenSig, SeenRow, SeenProp, ASource, ALaunchEdge, ALoadValue, ARefEnum, APolarity, AScanInSource, ACaptureSource, AResetValue, ATogether, SeenLinkInstr, SeenWhat, APort, ARegister, AMux, AChild, AnAlias, SomeWords, AParameter, AnInterface, ALink, AnAttribute}
+use Rattle.icl_declarations.specs.Faults.{◌>>=◌, refuse_if, each, over, WrongKind, RowsOverlap}
 use Rattle.icl_declarations.specs.Parts.{is_port, is_interface}
 use Rattle.icl_declarations.specs.Ranges.{width}
 use Rattle.icl_frames.specs.FirstPass.{Frame, first_pass}
@@ -17,8 +17,8 @@ use Rattle.icl_references.specs.Names.{Here, here_of, Member, members, member_th
 use Rattle.icl_references.specs.Signals.{data_signals, select_signals, alias_signals, control_signals}
 use Rattle.icl_references.specs.Roles.{Selection, Role, ScanInput, ScanOutput, DataInput, DataOutput, ControlPort, AScanRegister, AScanMux, AnAliasOf, AnInstance, AnInterfaceOf, AnAccessLink, PartOf, CellOf, part_of, part_at}
 use Rattle.icl_references.specs.Muxes.{some_meet, row_in, mux_role}
-use Rattle.icl_parts.specs.Bindings.{Bound, bind, all_whole}
-use Rattle.icl_parts.specs.FoundParts.{Found, found, words_named, first_scan, source_role, port_prop, port_role, register_prop, register_found, nothing_said, alias_prop, instance_found, port_number, selection, found_at, part_found}
+use Rattle.icl_elab.specs.Bindings.{Bound, bind, all_whole}
+use Rattle.icl_elab.specs.FoundParts.{Found, found, words_named, first_scan, source_role, port_prop, port_role, register_prop, register_found, nothing_said, alias_prop, instance_found, port_number, selection, found_at, part_found}
 use Rattle.icl_elab.specs.SecondPass.{cell_found, cells_of, second_pass}
 use Rattle.icl_elab.specs.Hierarchy.{bindings_of, with_bound, part_in, cell_in, put_together, hierarchy}
 use Rattle.icl_elab.specs.Laws.{is_port_role, is_interface_role, HasNumbers, IsChildOf, IsInstanceOf, IsPortOf, IsSelectedBy, IsNumbered, AreNumbered, HierarchiesAreNumbered}

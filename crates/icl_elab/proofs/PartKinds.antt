@@ -1,10 +1,10 @@
 -- Each part is of its item's kind.
 use Rattle.std.proofs.Common.{◌≡◌, Bool, true, false, ◌&&◌, ◌||◌, List, [], ◌∷◌, length, Some, Ok, refl, sym, subst, ◌∙◌}
 use Rattle.std.specs.List.{list_any}
-use Rattle.icl_syntax.specs.declared.tree.PortKind.{PortKind}
-use Rattle.icl_syntax.specs.declared.tree.PortKind.TheVariants.{ScanInPort, ScanOutPort, DataInPort, DataOutPort, SelectPort, CaptureEnPort, ShiftEnPort, UpdateEnPort, ResetPort, TCKPort, TMSPort, TRSTPort, ClockPort, ToSelectPort, ToCaptureEnPort, ToShiftEnPort, ToUpdateEnPort, ToResetPort, ToTCKPort, ToTMSPort, ToTRSTPort, ToClockPort, ToIRSelectPort}
-use Rattle.icl_syntax.specs.Values.{SeenSig, SeenProp, ASource, ALaunchEdge, ALoadValue, ARefEnum, APolarity, AScanInSource, ACaptureSource, AResetValue, ATogether, SeenWhat, APort, ARegister, AMux, AChild, AnAlias, SomeWords, AParameter, AnInterface, ALink, AnAttribute}
-use Rattle.icl_values.specs.Faults.{◌>>=◌, refuse_if, each, over, RowsOverlap}
+use Rattle.icl_lexer.specs.declared.tree.PortKind.{PortKind}
+use Rattle.icl_lexer.specs.declared.tree.PortKind.TheVariants.{ScanInPort, ScanOutPort, DataInPort, DataOutPort, SelectPort, CaptureEnPort, ShiftEnPort, UpdateEnPort, ResetPort, TCKPort, TMSPort, TRSTPort, ClockPort, ToSelectPort, ToCaptureEnPort, ToShiftEnPort, ToUpdateEnPort, ToResetPort, ToTCKPort, ToTMSPort, ToTRSTPort, ToClockPort, ToIRSelectPort}
+use Rattle.icl_lexer.specs.Values.{SeenSig, SeenProp, ASource, ALaunchEdge, ALoadValue, ARefEnum, APolarity, AScanInSource, ACaptureSource, AResetValue, ATogether, SeenWhat, APort, ARegister, AMux, AChild, AnAlias, SomeWords, AParameter, AnInterface, ALink, AnAttribute}
+use Rattle.icl_declarations.specs.Faults.{◌>>=◌, refuse_if, each, over, RowsOverlap}
 use Rattle.icl_declarations.specs.Parts.{is_source, is_signal, port_that, is_scan_in, is_scan_out, is_data_in as is_data_in_kind, is_data_out as is_data_out_kind, is_data_port as is_data_port_item, is_register as is_register_item, is_mux as is_mux_item, is_not_of_instrument as is_barred_item}
 use Rattle.icl_declarations.specs.Ranges.{width}
 use Rattle.icl_frames.specs.FirstPass.{Frame}
@@ -13,8 +13,8 @@ use Rattle.icl_references.specs.Names.{Here, Member, members, inside}
 use Rattle.icl_references.specs.Signals.{data_signals, select_signals, alias_signals, control_signals}
 use Rattle.icl_references.specs.Roles.{Role, ScanInput, ScanOutput, DataInput, DataOutput, ControlPort, AScanRegister, AScanMux, AnAliasOf, AnInstance, AnInterfaceOf, AnAccessLink}
 use Rattle.icl_references.specs.Muxes.{some_meet, row_in, mux_role}
-use Rattle.icl_parts.specs.Bindings.{Bound, bind, all_whole}
-use Rattle.icl_parts.specs.FoundParts.{Found, found, words_named, first_scan, source_role, port_prop, port_role, register_prop, register_found, nothing_said, alias_prop, instance_found, port_number, selection, found_at, part_found}
+use Rattle.icl_elab.specs.Bindings.{Bound, bind, all_whole}
+use Rattle.icl_elab.specs.FoundParts.{Found, found, words_named, first_scan, source_role, port_prop, port_role, register_prop, register_found, nothing_said, alias_prop, instance_found, port_number, selection, found_at, part_found}
 use Rattle.icl_elab.specs.Hierarchy.{with_bound}
 use Rattle.icl_elab.specs.WellFormed.{is_register, is_mux, is_data_in, is_data_out, is_data_port, is_thing, is_not_of_instrument}
 use Rattle.std.proofs.Math.Bool.{or-false}

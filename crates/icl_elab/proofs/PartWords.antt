@@ -7,12 +7,12 @@ use Rattle.std.proofs.lemmas.List.{length-append, length-map}
 use Rattle.std.proofs.lemmas.List.FromFn.{length-map-range_with_len}
 use Rattle.ij_bits.specs.Different.{AreDifferent}
 use Rattle.ij_text.specs.declared.Place.{Place}
-use Rattle.icl_syntax.specs.declared.tree.PortKind.{PortKind}
-use Rattle.icl_syntax.specs.Values.{SeenRange, SeenSigWhat, ANumber, APath, SeenSig, SeenRow, SeenEnumWord, SeenProp, ASource, ALaunchEdge, ALoadValue, ARefEnum, APolarity, AScanInSource, ACaptureSource, AResetValue, ATogether, SeenWhat, APort, ARegister, AMux, AChild, AnAlias, SomeWords, AParameter, AnInterface, ALink, AnAttribute, SeenItem}
-use Rattle.icl_values.specs.Faults.{Answer, ◌>>=◌, refuse_if, each, over, BadRange, WrongKind, RowsOverlap}
-use Rattle.icl_values.specs.Values.{OpenBits, Worth, AnInteger, SomeBits, AText, Params}
-use Rattle.icl_values.specs.Expressions.{evaluate, place_in}
-use Rattle.icl_values.specs.Widths.{value_in, joined}
+use Rattle.icl_lexer.specs.declared.tree.PortKind.{PortKind}
+use Rattle.icl_lexer.specs.Values.{SeenRange, SeenSigWhat, ANumber, APath, SeenSig, SeenRow, SeenEnumWord, SeenProp, ASource, ALaunchEdge, ALoadValue, ARefEnum, APolarity, AScanInSource, ACaptureSource, AResetValue, ATogether, SeenWhat, APort, ARegister, AMux, AChild, AnAlias, SomeWords, AParameter, AnInterface, ALink, AnAttribute, SeenItem}
+use Rattle.icl_declarations.specs.Faults.{Answer, ◌>>=◌, refuse_if, each, over, BadRange, WrongKind, RowsOverlap}
+use Rattle.icl_declarations.specs.Values.{OpenBits, Worth, AnInteger, SomeBits, AText, Params}
+use Rattle.icl_declarations.specs.Expressions.{evaluate, place_in}
+use Rattle.icl_declarations.specs.Widths.{value_in, joined}
 use Rattle.icl_declarations.specs.declared.ranges.Bounds.{Bounds}
 use Rattle.icl_declarations.specs.declared.ranges.Stretch.{Stretch}
 use Rattle.icl_declarations.specs.Parts.{inner_names, words_in, is_mux as is_mux_item}
@@ -25,8 +25,8 @@ use Rattle.icl_references.specs.Names.{Here, Member, members, inside, path_from}
 use Rattle.icl_references.specs.Signals.{bits_of, is_data_source, data_signal, data_signals, data_meant, data_path, select_signals, alias_signals, constants, closed, free_number, number_bits, scan_signal}
 use Rattle.icl_references.specs.Roles.{Choice, Role, ScanInput, ScanOutput, DataInput, DataOutput, ControlPort, AScanRegister, AScanMux, AnAliasOf, AnInstance, AnInterfaceOf, AnAccessLink, Word}
 use Rattle.icl_references.specs.Muxes.{some_meet, row_in, mux_role}
-use Rattle.icl_parts.specs.Bindings.{Bound, bind, all_whole}
-use Rattle.icl_parts.specs.FoundParts.{Found, found, Said, words_named, known_enum, enum_named, word_of, source_role, port_prop, port_role, register_prop, register_found, nothing_said, alias_prop, instance_found, port_number, selection, found_at, part_found}
+use Rattle.icl_elab.specs.Bindings.{Bound, bind, all_whole}
+use Rattle.icl_elab.specs.FoundParts.{Found, found, Said, words_named, known_enum, enum_named, word_of, source_role, port_prop, port_role, register_prop, register_found, nothing_said, alias_prop, instance_found, port_number, selection, found_at, part_found}
 use Rattle.icl_elab.specs.Hierarchy.{with_bound}
 use Rattle.icl_elab.specs.WellFormed.{is_mux, HasRows}
 use Rattle.icl_elab.proofs.Worths.{IsWorth, AreWorths, evaluate_worth}

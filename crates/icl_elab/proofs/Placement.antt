@@ -2,21 +2,21 @@
 use Rattle.std.proofs.Common.{◌≡◌, ◌+◌, ℕ, List, [], ◌∷◌, map, Ok, Err, Result, refl, ap, ◌∙◌}
 use Rattle.std.specs.Prelude.{zip, unwrap_or, IfOk}
 use Rattle.std.specs.List.{enumerate_from}
-use Rattle.icl_syntax.specs.Values.{SeenModule}
-use Rattle.icl_values.specs.declared.fault.ElabFault.{ElabFault}
-use Rattle.icl_values.specs.Faults.{Gives}
+use Rattle.icl_lexer.specs.Values.{SeenModule}
+use Rattle.icl_declarations.specs.declared.fault.ElabFault.{ElabFault}
+use Rattle.icl_declarations.specs.Faults.{Gives}
 use Rattle.icl_declarations.specs.Ranges.{width}
 use Rattle.icl_frames.specs.FirstPass.{Frame}
 use Rattle.icl_references.specs.declared.hier.Hier.{Hier}
 use Rattle.icl_elab.specs.declared.pass.Placed.{Placed}
 use Rattle.icl_elab.specs.declared.pass.CellParts.{CellParts}
-use Rattle.icl_parts.specs.Bindings.{Bound}
+use Rattle.icl_elab.specs.Bindings.{Bound}
 use Rattle.icl_elab.specs.Hierarchy.{bindings_of, with_bound, part_in, cell_in, hierarchy}
 use Rattle.icl_elab.specs.Laws.{AreNumbered, AreWired}
 use Rattle.icl_references.specs.Names.{Member, here_of, members}
 use Rattle.icl_elab.specs.Placing.{made, part_with, parts_with, port_bound, port_of, ports_from}
 use Rattle.icl_references.specs.Roles.{Role, ScanInput, ScanOutput, DataInput, DataOutput, ControlPort, AScanRegister, AScanMux, AnAliasOf, AnInstance, AnInterfaceOf, AnAccessLink, PartOf, CellOf, seen_hier}
-use Rattle.icl_parts.specs.FoundParts.{Found}
+use Rattle.icl_elab.specs.FoundParts.{Found}
 use Rattle.icl_elab.specs.SeenCells.{PartHead, head_of_member, head_of_placed, heads_of_cells, heads_of_frame, seen_cell_parts, seen_placed}
 use Rattle.icl_frames.specs.Written.{AreWritten}
 use Rattle.icl_elab.specs.WellFormed.{IsHierarchy}

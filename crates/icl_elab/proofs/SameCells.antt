@@ -7,7 +7,7 @@ use Rattle.icl_frames.proofs.Answering.{both, ok_is}
 use Rattle.icl_frames.proofs.Paired.{Paired}
 use Rattle.icl_frames.proofs.Entering.{frames_are_preorder}
 use Rattle.icl_references.specs.Names.{here_of}
-use Rattle.icl_parts.specs.FoundParts.{Found}
+use Rattle.icl_elab.specs.FoundParts.{Found}
 use Rattle.icl_elab.specs.SecondPass.{second_pass}
 use Rattle.icl_elab.specs.Hierarchy.{cell_in, put_together, hierarchy}
 use Rattle.icl_elab.specs.Preorder.{Head, head_of_frame, head_of_cell, HierarchiesArePreorder}

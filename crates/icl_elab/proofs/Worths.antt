@@ -7,11 +7,11 @@ use Rattle.std.proofs.lemmas.Bool.{and_parts, ltb-true}
 use Rattle.std.proofs.lemmas.List.FromFn.{length-map-range_with_len}
 use Rattle.ij_text.specs.declared.Place.{Place}
 use Rattle.ij_text.specs.Numbers.{decimal_from}
-use Rattle.icl_syntax.specs.Values.{SeenExpr, ADecimal, ASized, AQuoted, AParam, AnOp, SeenBind, ABoundPort, ABoundParameter, ABoundAttribute, SeenWhat, APort, ARegister, AMux, AChild, AnAlias, SomeWords, AParameter, AnInterface, ALink, AnAttribute, SeenItem, SeenModule}
-use Rattle.icl_values.specs.Faults.{Answer, ◌>>=◌, refuse_if, NoName, DoubleName, BadNumber}
-use Rattle.icl_values.specs.Values.{OpenBits, Worth, AnInteger, SomeBits, AText, Given, Params, worth_of, with_worth}
-use Rattle.icl_values.specs.Sized.{front, behind, plain, bits_behind, fits, in_width, within_size, at_most_4096}
-use Rattle.icl_values.specs.Expressions.{as_integer, known, parameter, size, parameter_size, size_of, told, number_of_size, sized_number, operate, place_in, evaluate}
+use Rattle.icl_lexer.specs.Values.{SeenExpr, ADecimal, ASized, AQuoted, AParam, AnOp, SeenBind, ABoundPort, ABoundParameter, ABoundAttribute, SeenWhat, APort, ARegister, AMux, AChild, AnAlias, SomeWords, AParameter, AnInterface, ALink, AnAttribute, SeenItem, SeenModule}
+use Rattle.icl_declarations.specs.Faults.{Answer, ◌>>=◌, refuse_if, NoName, DoubleName, BadNumber}
+use Rattle.icl_declarations.specs.Values.{OpenBits, Worth, AnInteger, SomeBits, AText, Given, Params, worth_of, with_worth}
+use Rattle.icl_declarations.specs.Sized.{front, behind, plain, bits_behind, fits, in_width, within_size, at_most_4096}
+use Rattle.icl_declarations.specs.Expressions.{as_integer, known, parameter, size, parameter_size, size_of, told, number_of_size, sized_number, operate, place_in, evaluate}
 use Rattle.icl_declarations.specs.Parts.{is_open}
 use Rattle.icl_frames.specs.FirstPass.{Frame, worth_in, bound_worth, with_parameter, parameters, with_binding, first_pass}
 use Rattle.icl_frames.specs.Preorder.{Declared, OfInstance, AreOfChildren, AreOfInstance, children_of}

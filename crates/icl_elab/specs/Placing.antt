@@ -2,17 +2,17 @@
 use Rattle.std.specs.Prelude.{ℕ, ◌+◌, Bool, List, [], ◌∷◌, map, slice_get, slice_index_or, Option, Some, None, unwrap_or, Ok}
 use Rattle.std.specs.List.{position_from}
 use Rattle.std.specs.Option.{option_map}
-use Rattle.icl_values.specs.Faults.{Answer, ◌>>=◌}
+use Rattle.icl_declarations.specs.Faults.{Answer, ◌>>=◌}
 use Rattle.icl_declarations.specs.Ranges.{width}
 use Rattle.icl_frames.specs.FirstPass.{Frame}
 use Rattle.icl_references.specs.declared.hier.Body.{Body}
 use Rattle.icl_elab.specs.declared.pass.Placed.{Placed}
 use Rattle.icl_elab.specs.declared.pass.CellParts.{CellParts}
 use Rattle.icl_elab.specs.declared.hierarchy.CellPorts.{CellPorts}
-use Rattle.icl_parts.specs.Bindings.{Bound, refs_of}
+use Rattle.icl_elab.specs.Bindings.{Bound, refs_of}
 use Rattle.icl_elab.specs.Hierarchy.{bindings_of, first_ref, is_this_cell, put_together}
 use Rattle.icl_references.specs.Roles.{Role, ScanInput, DataInput, PartOf, CellOf, seen_body, seen_part}
-use Rattle.icl_parts.specs.FoundParts.{Found}
+use Rattle.icl_elab.specs.FoundParts.{Found}
 use Rattle.icl_elab.specs.SecondPass.{second_pass}
 use Rattle.icl_references.specs.Tables.{here_at}
 

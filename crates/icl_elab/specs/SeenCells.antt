@@ -4,8 +4,8 @@ use Rattle.ij_text.specs.declared.Place.{Place}
 use Rattle.icl_frames.specs.FirstPass.{Frame}
 use Rattle.icl_references.specs.Names.{Member, members}
 use Rattle.icl_references.specs.Roles.{seen_body}
-use Rattle.icl_parts.specs.FoundParts.{Found}
-use Rattle.icl_parts.specs.SeenParts.{seen_words}
+use Rattle.icl_elab.specs.FoundParts.{Found}
+use Rattle.icl_elab.specs.SeenParts.{seen_words}
 use Rattle.icl_elab.specs.declared.pass.Placed.{Placed}
 use Rattle.icl_elab.specs.declared.pass.CellParts.{CellParts}
 

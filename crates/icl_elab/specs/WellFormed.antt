@@ -4,7 +4,7 @@ use Rattle.std.specs.Prelude.{◌≡◌, ◌≤◌, ◌<◌, ◌^◌, ℕ, Bool,
 use Rattle.std.specs.List.{AllByRecursion, list_any, enumerate_from}
 use Rattle.ij_bits.specs.Different.{AreDifferent}
 use Rattle.ij_text.specs.Words.{is_name}
-use Rattle.icl_syntax.specs.Values.{SeenModule}
+use Rattle.icl_lexer.specs.Values.{SeenModule}
 use Rattle.icl_frames.specs.Laws.{IsBelow, level_below}
 use Rattle.icl_frames.specs.Written.{AreWritten}
 use Rattle.icl_references.specs.Roles.{Choice, Role, ScanInput, ScanOutput, DataInput, DataOutput, AScanRegister, AScanMux, AnAliasOf, AnInstance, PartOf, CellOf, part_width}

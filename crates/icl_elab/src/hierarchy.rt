@@ -3,10 +3,10 @@ ghost use Rattle.std.specs.Prelude.{◌≡◌, ℕ, ◌+◌, ◌<◌, ◌==◌, 
 ghost use Rattle.std.specs.List.{position_from};
 ghost use Rattle.std.specs.Option.{option_map};
 ghost use Rattle.ij_text.specs.Options.{or_else};
-ghost use Rattle.icl_syntax.specs.Views.{seen_design};
+ghost use Rattle.icl_lexer.specs.Views.{seen_design};
 ghost use Rattle.icl_frames.specs.Written.{AreWritten};
 ghost use Rattle.icl_elab.specs.WellFormed.{IsHierarchy};
-ghost use Rattle.icl_values.specs.Faults.{Gives};
+ghost use Rattle.icl_declarations.specs.Faults.{Gives};
 ghost use Rattle.icl_declarations.specs.Ranges.{width};
 ghost use Rattle.icl_frames.specs.SeenFrames.{seen_frame};
 ghost use Rattle.icl_references.specs.Names.{is_in};
@@ -18,12 +18,12 @@ ghost use Rattle.icl_references.specs.Roles.{seen_body, seen_cell, seen_hier, se
 ghost use Rattle.icl_elab.specs.SeenCells.{heads_of_cells, heads_of_frame, seen_pass};
 ghost use Rattle.icl_references.specs.Tables.{AreTables, frames_of};
 
+use crate::bindings::Bindings;
 use crate::pass::{CellParts, Placed, second_pass};
+use icl_declarations::ElabFault;
 use icl_frames::{Frame, first_pass};
-use icl_parts::Bindings;
+use icl_lexer::Design;
 use icl_references::{Body, Cell, Hier, Part, Ref, Tables};
-use icl_syntax::Design;
-use icl_values::ElabFault;
 use ij_bits::{List, OutOfMemory};
 use ij_text::{Name, name_of};
 use std::alloc::Global;

@@ -1,15 +1,16 @@
 // The second pass: what each part of each cell is.
 ghost use Rattle.std.specs.Prelude.{◌≡◌, [], map, IfOk, IfErr, OnOk};
-ghost use Rattle.icl_values.specs.Faults.{Gives, each};
+ghost use Rattle.icl_declarations.specs.Faults.{Gives, each};
 ghost use Rattle.icl_elab.specs.SecondPass.{cell_found, second_pass};
-ghost use Rattle.icl_parts.specs.FoundParts.{part_found};
+ghost use Rattle.icl_elab.specs.FoundParts.{part_found};
 ghost use Rattle.icl_elab.specs.SeenCells.{head_of_member, head_of_placed, heads_of_cells, heads_of_frame, seen_cell_parts, seen_pass, seen_placed};
-ghost use Rattle.icl_parts.specs.SeenParts.{seen_found};
+ghost use Rattle.icl_elab.specs.SeenParts.{seen_found};
 ghost use Rattle.icl_references.specs.Tables.{AreTables, IsHere, frames_of, here_in, seen_member};
 
-use icl_parts::{Bindings, Found, part_found};
+use crate::bindings::Bindings;
+use crate::parts::{Found, part_found};
+use icl_declarations::ElabFault;
 use icl_references::{Member, Part, Tables};
-use icl_values::ElabFault;
 use ij_text::name_of;
 use std::alloc::Global;
 

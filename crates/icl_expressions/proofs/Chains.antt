@@ -1,8 +1,8 @@
 -- Where the loops that read factors and products begin; each round takes tokens.
 use Rattle.std.proofs.Common.{◌≡◌, ℕ, false, List, Option, Ok, refl}
-use Rattle.grammar.specs.Reading.{read_repeat}
+use Rattle.ij_text.specs.Reading.{read_repeat}
 use Rattle.icl_lexer.specs.Seen.{SeenToken}
-use Rattle.icl_syntax.specs.Grammar.{Counted, Signed, sum_sign, product_sign, factor, term, with_operand}
+use Rattle.icl_lexer.specs.Grammar.{Counted, Signed, sum_sign, product_sign, factor, term, with_operand}
 use Rattle.icl_expressions.specs.declared.stop.Stop.{Stop}
 use Rattle.icl_expressions.specs.Seen.{Fails}
 use Rattle.icl_expressions.specs.Reading.{Reading, Shrinks, is_sign, no_close, read_operand, read_chain, read_factor, read_term}

@@ -1,8 +1,8 @@
 -- How a factor is read.
 use Rattle.std.proofs.Common.{◌≡◌, ℕ, zero, suc, ◌<◌, ◌-◌, Bool, true, false, List, [], ◌∷◌, refl, arith}
-use Rattle.grammar.specs.Reading.{read_barred}
+use Rattle.ij_text.specs.Reading.{read_barred}
 use Rattle.icl_lexer.specs.Seen.{SeenToken, is_mark}
-use Rattle.icl_syntax.specs.Grammar.{too_deep}
+use Rattle.icl_lexer.specs.Grammar.{too_deep}
 use Rattle.icl_expressions.specs.Reading.{begins, read_leaf, read_parentheses, read_sum, read_factor}
 
 pub factor_leaf : (d : ℕ) (alone : Bool) (used : ℕ) (ts : List SeenToken) → begins (is_mark 40) ts ≡ false → read_factor d alone used ts ≡ read_leaf alone used ts

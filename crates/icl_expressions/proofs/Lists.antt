@@ -1,12 +1,12 @@
 -- The readers of lists of parts read their symbols.
 use Rattle.std.proofs.Common.{◌≡◌, ℕ, Bool, true, false, List, [], ◌∷◌, refl}
 use Rattle.std.specs.Prelude.{◌||◌}
-use Rattle.grammar.specs.Symbol.{give, ◌>>=◌, repeat, appended}
-use Rattle.grammar.specs.Reading.{read_repeat, read_in_turn}
-use Rattle.grammar.proofs.Combinators.{Reads, turn_reads, wider_reads}
-use Rattle.grammar.proofs.Laws.{repeat_reads}
+use Rattle.ij_text.specs.Symbol.{give, ◌>>=◌, repeat, appended}
+use Rattle.ij_text.specs.Reading.{read_repeat, read_in_turn}
+use Rattle.ij_text.proofs.Combinators.{Reads, turn_reads, wider_reads}
+use Rattle.ij_text.proofs.Laws.{repeat_reads}
 use Rattle.icl_lexer.specs.Seen.{SeenToken, is_mark}
-use Rattle.icl_syntax.specs.Grammar.{Of, mark, parted, ended_by}
+use Rattle.icl_lexer.specs.Grammar.{Of, mark, parted, ended_by}
 use Rattle.icl_expressions.specs.Reading.{Reading, gives, any, no_close, read_mark, read_after, read_ended, more_parted, read_parted}
 use Rattle.icl_expressions.proofs.Tokens.{nothing}
 use Rattle.icl_expressions.proofs.Symbols.{then_reads, mark_reads, made_reads}

@@ -1,8 +1,8 @@
 -- The operator that a token is.
 use Rattle.std.proofs.Common.{◌≡◌, ℕ, zero, suc, ◌<◌, ◌≤◌, ◌-◌, Bool, true, false, List, Some, None, Ok, Err, refl, arith}
-use Rattle.icl_syntax.specs.declared.words.Limit.TheVariants.{OfExpression}
+use Rattle.icl_lexer.specs.declared.words.Limit.TheVariants.{OfExpression}
 use Rattle.icl_lexer.specs.Seen.{SeenToken}
-use Rattle.icl_syntax.specs.Grammar.{Signed}
+use Rattle.icl_lexer.specs.Grammar.{Signed}
 use Rattle.icl_expressions.specs.Reading.{operator_of}
 
 at_zero : (spare : ℕ) (lone : Bool) (s : Signed) (n : ℕ) (ts : List SeenToken) → spare ≡ 0 → operator_of spare lone (Some s) n ts ≡ Err (n, Some OfExpression)

@@ -1,16 +1,16 @@
 -- The readers of values, ranges and signals read their symbols.
 use Rattle.std.proofs.Common.{◌≡◌, ℕ, Bool, true, false, List, [], ◌∷◌, Some, None, refl, is_some}
 use Rattle.std.specs.Prelude.{◌||◌}
-use Rattle.grammar.specs.Symbol.{one, give, ◌>>=◌, maybe}
-use Rattle.grammar.specs.Reading.{read_one, read_in_turn}
-use Rattle.grammar.proofs.Combinators.{Reads, one_reads, give_reads, turn_reads, either_reads, wider_reads}
+use Rattle.ij_text.specs.Symbol.{one, give, ◌>>=◌, maybe}
+use Rattle.ij_text.specs.Reading.{read_one, read_in_turn}
+use Rattle.ij_text.proofs.Combinators.{Reads, one_reads, give_reads, turn_reads, either_reads, wider_reads}
 use Rattle.icl_lexer.specs.declared.token.TokenKind.{TokenKind}
 use Rattle.icl_lexer.specs.declared.token.TokenKind.TheVariants.{Word, Decimal, Sized, Quoted, Param, Mark}
 use Rattle.ij_text.specs.declared.Place.{Place}
-use Rattle.icl_syntax.specs.declared.words.Limit.{Limit}
+use Rattle.icl_lexer.specs.declared.words.Limit.{Limit}
 use Rattle.icl_lexer.specs.Seen.{SeenToken, if_word, if_mark, is_mark, name_at}
-use Rattle.icl_syntax.specs.Values.{APath}
-use Rattle.icl_syntax.specs.Grammar.{Of, mark, name, expr, value, expr_behind, range, number_of, number_located, number_at, Named, named_at, path_behind, named_sig, plain_sig, sig, sigs}
+use Rattle.icl_lexer.specs.Values.{APath}
+use Rattle.icl_lexer.specs.Grammar.{Of, mark, name, expr, value, expr_behind, range, number_of, number_located, number_at, Named, named_at, path_behind, named_sig, plain_sig, sig, sigs}
 use Rattle.icl_expressions.specs.Reading.{Reading, Shrinks, gives, any, is_name, no_close, read_name, read_maybe, read_expr, read_value, read_expr_behind, read_range, read_number, read_path_behind, read_named_behind, read_named_sig, read_plain_sig, read_inverted, read_straight, read_sig, read_sigs}
 use Rattle.icl_expressions.proofs.Tokens.{nothing, no_mark, marks, marks_apart, no_mark_is, mark_apart}
 use Rattle.icl_expressions.proofs.Symbols.{then_reads, mark_reads, made_reads, sign_marks, expr_reads}

@@ -1,11 +1,11 @@
 -- One round of a loop that reads parts.
 use Rattle.std.proofs.Common.{◌≡◌, ◌<◌, ◌≤◌, ℕ, zero, suc, Bool, true, false, cond, List, [], ◌∷◌, ◌++◌, length, Result, Ok, Err, refl, sym, ap, ◌∙◌, arith, length-append}
-use Rattle.grammar.specs.Reading.{Stop as Unfit, read_on, read_parts, read_repeat}
-use Rattle.grammar.proofs.Combinators.{Reads, ok_is, err_is}
+use Rattle.ij_text.specs.Reading.{Stop as Unfit, read_on, read_parts, read_repeat}
+use Rattle.ij_text.proofs.Combinators.{Reads, ok_is, err_is}
 use Rattle.ij_text.specs.declared.Place.{Place}
-use Rattle.icl_syntax.specs.declared.words.Limit.{Limit}
+use Rattle.icl_lexer.specs.declared.words.Limit.{Limit}
 use Rattle.icl_lexer.specs.Seen.{SeenToken}
-use Rattle.icl_syntax.specs.Grammar.{Of}
+use Rattle.icl_lexer.specs.Grammar.{Of}
 use Rattle.icl_expressions.specs.declared.stop.Stop.{Stop}
 use Rattle.icl_expressions.specs.declared.stop.Stop.TheVariants.{Memory, At}
 use Rattle.icl_expressions.specs.Seen.{Fails}

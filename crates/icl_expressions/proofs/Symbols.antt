@@ -2,17 +2,17 @@
 use Rattle.std.proofs.Common.{◌≡◌, ℕ, zero, suc, ◌+◌, ◌-◌, Bool, true, false, cond, List, [], ◌∷◌, length, Option, Some, None, Err, refl, subst, is_some}
 use Rattle.std.specs.Prelude.{◌||◌}
 use mathlib.Core.Path.{fun_ext}
-use Rattle.grammar.specs.Symbol.{one, give, barred, ◌>>=◌, repeat}
-use Rattle.grammar.specs.Reading.{read_one, read_barred, read_in_turn, read_repeat}
-use Rattle.grammar.proofs.Combinators.{Reads, one_reads, barred_reads, give_reads, none_reads, turn_reads, either_reads, wider_reads}
-use Rattle.grammar.proofs.Laws.{repeat_reads}
+use Rattle.ij_text.specs.Symbol.{one, give, barred, ◌>>=◌, repeat}
+use Rattle.ij_text.specs.Reading.{read_one, read_barred, read_in_turn, read_repeat}
+use Rattle.ij_text.proofs.Combinators.{Reads, one_reads, barred_reads, give_reads, none_reads, turn_reads, either_reads, wider_reads}
+use Rattle.ij_text.proofs.Laws.{repeat_reads}
 use Rattle.icl_lexer.specs.declared.token.TokenKind.{TokenKind}
 use Rattle.icl_lexer.specs.declared.token.TokenKind.TheVariants.{Word, Decimal, Sized, Quoted, Param, Mark}
 use Rattle.ij_text.specs.declared.Place.{Place}
-use Rattle.icl_syntax.specs.declared.words.Limit.{Limit}
-use Rattle.icl_syntax.specs.declared.words.Limit.TheVariants.{OfExpression}
+use Rattle.icl_lexer.specs.declared.words.Limit.{Limit}
+use Rattle.icl_lexer.specs.declared.words.Limit.TheVariants.{OfExpression}
 use Rattle.icl_lexer.specs.Seen.{SeenToken, if_mark, is_mark, mark_at}
-use Rattle.icl_syntax.specs.Grammar.{Of, mark, Counted, leaf_of, leaf_at, Signed, sum_sign, product_sign, too_many, operator, operand, with_operand, chain, in_parentheses, too_deep, factor, term, sum_of, expr}
+use Rattle.icl_lexer.specs.Grammar.{Of, mark, Counted, leaf_of, leaf_at, Signed, sum_sign, product_sign, too_many, operator, operand, with_operand, chain, in_parentheses, too_deep, factor, term, sum_of, expr}
 use Rattle.icl_expressions.specs.Reading.{Reading, gives, is_sign, no_close, read_mark, read_leaf, operator_of, read_operator, read_operand, read_chain, read_parentheses, read_factor, read_term, read_sum, read_expr}
 use Rattle.icl_expressions.proofs.Tokens.{nothing, no_mark, marks, either_true, marks_apart, no_mark_is, no_mark_closes, mark_closes}
 use Rattle.ij_bits.proofs.Tests.{some_cond, or_right_false}

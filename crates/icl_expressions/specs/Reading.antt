@@ -1,13 +1,13 @@
 -- What each function reads: the readers of the productions, put together as the productions are.
 use Rattle.std.specs.Prelude.{◌≡◌, ◌<◌, ℕ, zero, suc, ◌+◌, ◌-◌, Bool, true, false, not, List, [], ◌∷◌, length, Option, Some, None, Result, Ok, Err, is_some}
-use Rattle.grammar.specs.Reading.{Stop as Unfit, Reader, read_barred, read_one, read_in_turn, read_either, read_repeat}
+use Rattle.ij_text.specs.Reading.{Stop as Unfit, Reader, read_barred, read_one, read_in_turn, read_either, read_repeat}
 use Rattle.ij_text.specs.declared.Place.{Place}
-use Rattle.icl_syntax.specs.declared.words.Limit.{Limit}
-use Rattle.icl_syntax.specs.declared.words.Limit.TheVariants.{OfExpression}
+use Rattle.icl_lexer.specs.declared.words.Limit.{Limit}
+use Rattle.icl_lexer.specs.declared.words.Limit.TheVariants.{OfExpression}
 use Rattle.icl_lexer.specs.Seen.{SeenToken, if_word, is_mark, mark_at, word_at, name_at}
-use Rattle.grammar.specs.Symbol.{appended}
-use Rattle.icl_syntax.specs.Values.{SeenExpr, SeenRange, APath, SeenSig}
-use Rattle.icl_syntax.specs.Grammar.{Counted, leaf_at, Signed, sum_sign, product_sign, Operand, with_operand, too_deep, Located, number_at, Named, named_at, decimal_token}
+use Rattle.ij_text.specs.Symbol.{appended}
+use Rattle.icl_lexer.specs.Values.{SeenExpr, SeenRange, APath, SeenSig}
+use Rattle.icl_lexer.specs.Grammar.{Counted, leaf_at, Signed, sum_sign, product_sign, Operand, with_operand, too_deep, Located, number_at, Named, named_at, decimal_token}
 
 abbrev pub Reading : Type 0 → Type 0
 Reading A = Reader SeenToken Limit A

@@ -1,10 +1,10 @@
 -- What the functions take and give, without where it lies in memory.
 use Rattle.std.specs.Prelude.{◌≡◌, List, Result, Ok, Err}
-use Rattle.grammar.specs.Reading.{Stop as Unfit}
-use Rattle.icl_syntax.specs.declared.words.Limit.{Limit}
+use Rattle.ij_text.specs.Reading.{Stop as Unfit}
+use Rattle.icl_lexer.specs.declared.words.Limit.{Limit}
 use Rattle.icl_lexer.specs.Seen.{SeenToken}
-use Rattle.icl_syntax.specs.Grammar.{Counted, Signed}
-use Rattle.icl_syntax.specs.Views.{seen_expr}
+use Rattle.icl_lexer.specs.Grammar.{Counted, Signed}
+use Rattle.icl_lexer.specs.Views.{seen_expr}
 use Rattle.icl_expressions.specs.declared.stop.Stop.{Stop}
 use Rattle.icl_expressions.specs.declared.stop.Stop.TheVariants.{Memory, At}
 use Rattle.icl_expressions.specs.declared.reading.Parsed.{Parsed}

@@ -1,9 +1,9 @@
 // Expressions.
 ghost use Rattle.std.specs.Prelude.{◌≡◌, ◌≤◌, ◌<◌, ◌+◌, true, false, IfOk, length};
-ghost use Rattle.grammar.specs.Reading.{read_barred};
-ghost use Rattle.icl_syntax.specs.Values.{SeenExpr};
-ghost use Rattle.icl_syntax.specs.Grammar.{too_deep, sum_sign, product_sign, with_operand};
-ghost use Rattle.icl_syntax.specs.Views.{seen_expr};
+ghost use Rattle.ij_text.specs.Reading.{read_barred};
+ghost use Rattle.icl_lexer.specs.Values.{SeenExpr};
+ghost use Rattle.icl_lexer.specs.Grammar.{too_deep, sum_sign, product_sign, with_operand};
+ghost use Rattle.icl_lexer.specs.Views.{seen_expr};
 ghost use Rattle.icl_expressions.specs.Seen.{seen_read, seen_counting, seen_sign, Gives};
 ghost use Rattle.icl_expressions.specs.Reading.{read_put, read_operand, read_factor, read_term, read_sum, read_parentheses, read_expr, joined};
 
@@ -14,8 +14,7 @@ use crate::signs::{
     SignAt, begins_product_sign, begins_sum_sign, read_product_sign, read_sum_sign,
 };
 use crate::stop::Stop;
-use icl_lexer::Cursor;
-use icl_syntax::{Expr, Limit};
+use icl_lexer::{Cursor, Expr, Limit};
 use ij_bits::beside;
 use std::alloc::Global;
 

@@ -3,18 +3,17 @@ ghost use Rattle.std.specs.Prelude.{◌≡◌, ◌-◌, ◌<◌, ◌≤◌, ◌+
 ghost use Rattle.std.specs.Option.{option_map};
 ghost use Rattle.ij_text.specs.Options.{same};
 ghost use Rattle.icl_lexer.specs.Lexemes.{tok};
-ghost use Rattle.icl_syntax.specs.Tokens.{decimal_of, decimal_at};
-ghost use Rattle.icl_syntax.specs.Values.{ASized};
-ghost use Rattle.icl_syntax.specs.Grammar.{number_of, leaf_at, with_count};
-ghost use Rattle.icl_syntax.specs.Views.{seen_expr};
+ghost use Rattle.icl_lexer.specs.Tokens.{decimal_of, decimal_at};
+ghost use Rattle.icl_lexer.specs.Values.{ASized};
+ghost use Rattle.icl_lexer.specs.Grammar.{number_of, leaf_at, with_count};
+ghost use Rattle.icl_lexer.specs.Views.{seen_expr};
 ghost use Rattle.icl_expressions.specs.Seen.{seen_read, seen_counting, Gives, IsAtToken};
 ghost use Rattle.icl_expressions.specs.Reading.{read_leaf, read_decimal};
 
 use crate::expressions::Counting;
 use crate::reading::Parsed;
 use crate::stop::Stop;
-use icl_lexer::{Cursor, Lexeme, TokenKind};
-use icl_syntax::{Expr, SmallText};
+use icl_lexer::{Cursor, Expr, Lexeme, SmallText, TokenKind};
 use ij_bits::OutOfMemory;
 use ij_text::behind_first;
 use std::alloc::Global;

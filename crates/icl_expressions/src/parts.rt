@@ -1,16 +1,15 @@
 // Parts with a mark between them.
 ghost use Rattle.std.specs.Prelude.{◌<◌, ◌≤◌, ℕ, List, [], ◌∷◌, IfOk, length};
-ghost use Rattle.grammar.specs.Symbol.{appended};
-ghost use Rattle.icl_syntax.specs.Values.{SeenExpr, SeenSig};
-ghost use Rattle.icl_syntax.specs.Views.{bytes_of, seen_expr, seen_few, seen_sig};
+ghost use Rattle.ij_text.specs.Symbol.{appended};
+ghost use Rattle.icl_lexer.specs.Values.{SeenExpr, SeenSig};
+ghost use Rattle.icl_lexer.specs.Views.{bytes_of, seen_expr, seen_few, seen_sig};
 ghost use Rattle.icl_expressions.specs.Seen.{seen_read, Gives};
 ghost use Rattle.icl_expressions.specs.Reading.{Reading, Shrinks, read_put, read_after, more_parted, read_parted, read_name, read_value, read_sig};
 
 use crate::reading::{Parsed, begins_mark, read_mark, read_name};
 use crate::signals::{read_sig, read_value};
 use crate::stop::Stop;
-use icl_lexer::Cursor;
-use icl_syntax::{Expr, Few, Sig, SmallText};
+use icl_lexer::{Cursor, Expr, Few, Sig, SmallText};
 use std::alloc::Global;
 
 /// A part of a text, several of which may stand with a mark between them.

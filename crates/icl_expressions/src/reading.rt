@@ -2,13 +2,12 @@
 ghost use Rattle.std.specs.Prelude.{◌≡◌, ◌<◌, true, false, length, IfErr, IfOk, Err, Ok, ◌++◌, ◌∷◌, []};
 ghost use Rattle.ij_text.specs.Options.{same};
 ghost use Rattle.icl_lexer.specs.Seen.{is_mark, if_word};
-ghost use Rattle.icl_syntax.specs.Views.{bytes_of};
+ghost use Rattle.icl_lexer.specs.Views.{bytes_of};
 ghost use Rattle.icl_expressions.specs.Seen.{seen_read, Gives, IsAtToken};
 ghost use Rattle.icl_expressions.specs.Reading.{begins, no_close, read_mark, read_word, read_name};
 
 use crate::stop::Stop;
-use icl_lexer::Cursor;
-use icl_syntax::SmallText;
+use icl_lexer::{Cursor, SmallText};
 use ij_bits::{List, OutOfMemory};
 use ij_text::Place;
 use std::alloc::Global;

@@ -2,7 +2,7 @@
 ghost use Rattle.std.specs.Prelude.{◌<◌, ◌≤◌, IfOk, length};
 ghost use Rattle.std.specs.Option.{option_map};
 ghost use Rattle.ij_bits.specs.Room.{seen_list};
-ghost use Rattle.icl_syntax.specs.Views.{bytes_of, seen_expr, seen_few, seen_range, seen_sig};
+ghost use Rattle.icl_lexer.specs.Views.{bytes_of, seen_expr, seen_few, seen_range, seen_sig};
 ghost use Rattle.icl_expressions.specs.Seen.{seen_read, Gives};
 ghost use Rattle.icl_expressions.specs.SeenParts.{seen_located};
 ghost use Rattle.icl_expressions.specs.Reading.{read_value, read_expr_behind, read_maybe, read_range, read_number, read_path_behind, read_named_behind, read_named_sig, read_plain_sig, read_inverted, read_sig, read_sigs};
@@ -11,8 +11,7 @@ use crate::leaves::number_value;
 use crate::parts::{Part, read_behind, read_parted};
 use crate::reading::{Parsed, begins_mark, begins_name, read_mark};
 use crate::stop::Stop;
-use icl_lexer::{Cursor, Lexeme};
-use icl_syntax::{Ends, Expr, Few, Range, Sig, SigWhat, SmallText};
+use icl_lexer::{Cursor, Ends, Expr, Few, Lexeme, Range, Sig, SigWhat, SmallText};
 use ij_bits::{List, beside};
 use ij_text::Place;
 use std::alloc::Global;

@@ -2,14 +2,13 @@
 ghost use Rattle.std.specs.Prelude.{◌≡◌, ◌-◌, ◌<◌, length, IfOk, Option};
 ghost use Rattle.std.specs.Option.{option_map};
 ghost use Rattle.icl_lexer.specs.Lexemes.{tok};
-ghost use Rattle.icl_syntax.specs.Grammar.{sum_sign, product_sign};
+ghost use Rattle.icl_lexer.specs.Grammar.{sum_sign, product_sign};
 ghost use Rattle.icl_expressions.specs.Seen.{seen_read, seen_sign, Gives};
 ghost use Rattle.icl_expressions.specs.Reading.{begins, is_sign, operator_of, read_operator};
 
 use crate::reading::Parsed;
 use crate::stop::Stop;
-use icl_lexer::{Cursor, Lexeme};
-use icl_syntax::{Limit, Sign};
+use icl_lexer::{Cursor, Lexeme, Limit, Sign};
 use ij_text::Place;
 
 /// An operator at its place.

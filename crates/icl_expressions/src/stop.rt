@@ -2,7 +2,7 @@
 ghost use Rattle.std.specs.Prelude.{◌≡◌};
 ghost use Rattle.icl_expressions.specs.declared.stop.Stop.TheVariants as stop;
 
-use icl_syntax::Limit;
+use icl_lexer::Limit;
 use ij_bits::OutOfMemory;
 use std::alloc::{AllocError, AllocFailed};
 

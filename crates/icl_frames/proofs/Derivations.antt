@@ -5,7 +5,7 @@ use Rattle.std.specs.Char.{is_ascii_digit}
 use Rattle.std.specs.List.{AllByRecursion, list_all}
 use Rattle.ij_text.specs.Bytes.{is_blank}
 use Rattle.ij_text.specs.Words.{begins_name, in_name, is_name}
-use Rattle.grammar.specs.Symbol.{Parts, IsOne, ◌>>=◌, appended}
+use Rattle.ij_text.specs.Symbol.{Parts, IsOne, ◌>>=◌, appended}
 use Rattle.icl_lexer.specs.Token.{Token}
 use Rattle.icl_lexer.specs.declared.token.TokenKind.{TokenKind}
 use Rattle.icl_lexer.specs.declared.token.TokenKind.TheVariants.{Word, Decimal, Sized, Quoted, Param, Mark}
@@ -14,12 +14,12 @@ use Rattle.icl_lexer.specs.declared.token.PieceKind.TheVariants.{Gap, Is}
 use Rattle.icl_lexer.specs.Pieces.{kind_of, ends, run, in_digits, is_digit_x, digits, is_base, base, size, in_decimal, decimal, parameter, dollar, quoted, block, slash, in_line, is_mark}
 use Rattle.icl_lexer.specs.Laws.{AreInText}
 use Rattle.icl_lexer.proofs.Total.{tokens_in_text}
-use Rattle.icl_syntax.specs.declared.words.ItemKeyword.{ItemKeyword}
-use Rattle.icl_syntax.specs.declared.words.ItemKeyword.TheVariants.{OfPort, OfRegister, OfMux, OfChild, OfAlias, OfEnum, OfParameter, OfAttribute, OfInterface, OfLink}
+use Rattle.icl_lexer.specs.declared.words.ItemKeyword.{ItemKeyword}
+use Rattle.icl_lexer.specs.declared.words.ItemKeyword.TheVariants.{OfPort, OfRegister, OfMux, OfChild, OfAlias, OfEnum, OfParameter, OfAttribute, OfInterface, OfLink}
 use Rattle.icl_lexer.specs.Seen.{SeenToken, if_word, name_at, mark_at, seen_tokens}
-use Rattle.icl_syntax.specs.Values.{SeenRow, SeenEnumWord, SeenWhat, SeenItem, SeenModule}
-use Rattle.icl_syntax.specs.Grammar.{Of, name, mark, value, sig, sigs, parted}
-use Rattle.icl_syntax.specs.Modules.{port, register, alias, parameter as a_parameter, attribute, row, rows, mux, braced, child, enum_word, words, interface, link, meaning_behind, item, module_of, design}
+use Rattle.icl_lexer.specs.Values.{SeenRow, SeenEnumWord, SeenWhat, SeenItem, SeenModule}
+use Rattle.icl_lexer.specs.Grammar.{Of, name, mark, value, sig, sigs, parted}
+use Rattle.icl_lexer.specs.Modules.{port, register, alias, parameter as a_parameter, attribute, row, rows, mux, braced, child, enum_word, words, interface, link, meaning_behind, item, module_of, design}
 use Rattle.icl_frames.specs.Written.{IsWrittenWhat, IsWrittenItem, IsWritten, DesignsAreWritten}
 use Rattle.ij_bits.proofs.Everywhere.{all_front, all_back, all_both}
 use Rattle.icl_lexer.proofs.Fronts.{seen_count}

@@ -4,9 +4,9 @@ use Rattle.std.specs.Prelude.{nat_le}
 use Rattle.std.specs.List.{list_any, cons_option}
 use Rattle.std.specs.Str.{bytes_eq}
 use Rattle.ij_text.specs.declared.Which.TheVariants.{Cells}
-use Rattle.icl_syntax.specs.Values.{SeenWhat, APort, ARegister, AMux, AChild, AnAlias, SomeWords, AParameter, AnInterface, ALink, AnAttribute, SeenItem, SeenModule}
-use Rattle.icl_values.specs.Faults.{Answer, refuse_if, over, InstanceLoop, Limit}
-use Rattle.icl_values.specs.Values.{Params}
+use Rattle.icl_lexer.specs.Values.{SeenWhat, APort, ARegister, AMux, AChild, AnAlias, SomeWords, AParameter, AnInterface, ALink, AnAttribute, SeenItem, SeenModule}
+use Rattle.icl_declarations.specs.Faults.{Answer, refuse_if, over, InstanceLoop, Limit}
+use Rattle.icl_declarations.specs.Values.{Params}
 use Rattle.icl_declarations.specs.Parts.{block_named, range_in}
 use Rattle.icl_declarations.specs.Ranges.{declared}
 use Rattle.icl_declarations.specs.declared.counts.Counts.{Counts}

@@ -8,9 +8,9 @@ use Rattle.std.proofs.lemmas.List.Elements.{filter-append}
 use Rattle.ij_bits.specs.Different.{AreDifferent}
 use Rattle.ij_text.specs.declared.Place.{Place}
 use Rattle.ij_text.specs.declared.Which.TheVariants.{ScanBits, Muxes, Width}
-use Rattle.icl_syntax.specs.Values.{SeenRange, SeenWhat, APort, ARegister, AMux, AChild, AnAlias, SomeWords, AParameter, AnInterface, ALink, AnAttribute, SeenItem, SeenModule}
-use Rattle.icl_values.specs.Faults.{Answer, ◌>>=◌, refuse_if, each, over, DoubleName, Limit}
-use Rattle.icl_values.specs.Values.{Params}
+use Rattle.icl_lexer.specs.Values.{SeenRange, SeenWhat, APort, ARegister, AMux, AChild, AnAlias, SomeWords, AParameter, AnInterface, ALink, AnAttribute, SeenItem, SeenModule}
+use Rattle.icl_declarations.specs.Faults.{Answer, ◌>>=◌, refuse_if, each, over, DoubleName, Limit}
+use Rattle.icl_declarations.specs.Values.{Params}
 use Rattle.icl_declarations.specs.declared.counts.Counts.{Counts}
 use Rattle.icl_declarations.specs.declared.ranges.Bounds.{Bounds}
 use Rattle.icl_declarations.specs.Ranges.{width, one_bit, few_enough, indices, declared}

@@ -4,8 +4,8 @@ use Rattle.std.specs.List.{AllByRecursion, list_any}
 use Rattle.std.proofs.lemmas.Bool.{ltb-false, leb-false}
 use Rattle.std.proofs.lemmas.List.Sums.{sum_by_push}
 use Rattle.ij_text.specs.declared.Which.TheVariants.{Cells, Instruments, Ports, PortBits}
-use Rattle.icl_syntax.specs.Values.{SeenItem, SeenModule}
-use Rattle.icl_values.specs.Faults.{refuse_if, over, Limit}
+use Rattle.icl_lexer.specs.Values.{SeenItem, SeenModule}
+use Rattle.icl_declarations.specs.Faults.{refuse_if, over, Limit}
 use Rattle.icl_declarations.specs.declared.counts.Counts.{Counts}
 use Rattle.icl_declarations.specs.declared.ranges.Bounds.{Bounds}
 use Rattle.icl_declarations.specs.Ranges.{width}

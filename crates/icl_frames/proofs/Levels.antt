@@ -2,8 +2,8 @@
 use Rattle.std.proofs.Common.{◌≡◌, ◌<◌, ◌-◌, ◌++◌, ℕ, zero, suc, Bool, true, false, List, [], ◌∷◌, length, Option, Some, None, Ok, Err, refl, sym, ap, ◌∙◌, arith}
 use Rattle.std.specs.Prelude.{nat_le}
 use Rattle.ij_text.specs.declared.Which.TheVariants.{Hierarchy, Cells}
-use Rattle.icl_syntax.specs.Values.{SeenModule}
-use Rattle.icl_values.specs.Faults.{Answer, Fault, Fails, ◌>>=◌, refuse_if, over, Limit}
+use Rattle.icl_lexer.specs.Values.{SeenModule}
+use Rattle.icl_declarations.specs.Faults.{Answer, Fault, Fails, ◌>>=◌, refuse_if, over, Limit}
 use Rattle.icl_frames.specs.FirstPass.{Request, Progress, Entered, enter_one, enter}
 use Rattle.icl_frames.specs.SeenFrames.{Stepped, with_cell}
 

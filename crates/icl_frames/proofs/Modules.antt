@@ -2,11 +2,11 @@
 use Rattle.std.proofs.Common.{◌≡◌, ◌+◌, ◌<◌, ℕ, Bool, true, false, cond, List, [], ◌∷◌, ◌++◌, length, map, get_or, take, drop, Some, None, Ok, refl, ap, ◌∙◌}
 use Rattle.std.specs.Prelude.{is_some, ◌||◌}
 use Rattle.std.specs.Str.{bytes_eq}
-use Rattle.icl_syntax.specs.declared.tree.Module.{Module}
-use Rattle.icl_syntax.specs.Values.{SeenModule}
-use Rattle.icl_syntax.specs.Views.{seen_module}
-use Rattle.icl_values.specs.Faults.{over}
-use Rattle.icl_values.proofs.Each.{over_goes}
+use Rattle.icl_lexer.specs.declared.tree.Module.{Module}
+use Rattle.icl_lexer.specs.Values.{SeenModule}
+use Rattle.icl_lexer.specs.Views.{seen_module}
+use Rattle.icl_declarations.specs.Faults.{over}
+use Rattle.icl_declarations.proofs.Each.{over_goes}
 use Rattle.icl_declarations.specs.Parts.{block_named}
 use Rattle.icl_frames.specs.FirstPass.{with_block}
 use Rattle.icl_frames.proofs.Passing.{taken_more}

@@ -2,8 +2,8 @@
 use Rattle.std.proofs.Common.{◌≡◌, ◌+◌, ◌<◌, ◌≤◌, ◌++◌, ℕ, zero, suc, List, [], ◌∷◌, length, get_or, slice_get, Contains, Option, Some, None, IfSome, IsSomeAnd, refl, sym, ap, subst, ◌∙◌, arith, append_assoc, append-nil, length-append}
 use Rattle.std.specs.List.{AllByRecursion, enumerate_from}
 use Rattle.std.proofs.lemmas.List.{get_or_append_left, map-append, length-map}
-use Rattle.icl_syntax.specs.Values.{SeenModule}
-use Rattle.icl_values.specs.Values.{Params}
+use Rattle.icl_lexer.specs.Values.{SeenModule}
+use Rattle.icl_declarations.specs.Values.{Params}
 use Rattle.icl_frames.specs.FirstPass.{Frame}
 use Rattle.icl_frames.specs.Preorder.{Declared, children_of, AreOfChildren, AreOfInstance}
 use Rattle.icl_frames.specs.Laws.{parents_of, IsBelow, AreBelow, level_below, levels_from, child_names, IsDeclaredIn}

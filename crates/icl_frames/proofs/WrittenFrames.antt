@@ -2,7 +2,7 @@
 use Rattle.std.proofs.Common.{◌≡◌, ℕ, List, [], ◌∷◌, map, slice_get, Contains, Option, Some, None, IfSome, IsSomeAnd, IsTrue, refl}
 use Rattle.std.specs.List.{AllByRecursion, cons_option}
 use Rattle.ij_text.specs.Words.{is_name}
-use Rattle.icl_syntax.specs.Values.{SeenWhat, APort, ARegister, AMux, AChild, AnAlias, SomeWords, AParameter, AnInterface, ALink, AnAttribute, SeenItem}
+use Rattle.icl_lexer.specs.Values.{SeenWhat, APort, ARegister, AMux, AChild, AnAlias, SomeWords, AParameter, AnInterface, ALink, AnAttribute, SeenItem}
 use Rattle.icl_frames.specs.FirstPass.{Frame}
 use Rattle.icl_frames.specs.Preorder.{Declared, declared_by, children_of}
 use Rattle.icl_frames.specs.Laws.{child_names, IsDeclaredIn}

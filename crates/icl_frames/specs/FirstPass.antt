@@ -5,10 +5,10 @@ use Rattle.std.specs.List.{list_any}
 use Rattle.std.specs.Str.{bytes_eq}
 use Rattle.ij_text.specs.declared.Place.{Place}
 use Rattle.ij_text.specs.declared.Which.TheVariants.{Hierarchy, Cells}
-use Rattle.icl_syntax.specs.Values.{SeenExpr, SeenBind, ABoundPort, ABoundParameter, ABoundAttribute, SeenWhat, AChild, AParameter, SeenItem, SeenModule}
-use Rattle.icl_values.specs.Faults.{Answer, ◌>>=◌, refuse_if, over, NoModule, NoName, DoubleName, InstanceLoop, Limit}
-use Rattle.icl_values.specs.Values.{Worth, Params, worth_of, with_worth}
-use Rattle.icl_values.specs.Expressions.{evaluate}
+use Rattle.icl_lexer.specs.Values.{SeenExpr, SeenBind, ABoundPort, ABoundParameter, ABoundAttribute, SeenWhat, AChild, AParameter, SeenItem, SeenModule}
+use Rattle.icl_declarations.specs.Faults.{Answer, ◌>>=◌, refuse_if, over, NoModule, NoName, DoubleName, InstanceLoop, Limit}
+use Rattle.icl_declarations.specs.Values.{Worth, Params, worth_of, with_worth}
+use Rattle.icl_declarations.specs.Expressions.{evaluate}
 use Rattle.icl_declarations.specs.declared.counts.Counts.{Counts}
 use Rattle.icl_declarations.specs.Parts.{is_part, range_in, block_named, is_open, is_instrument}
 use Rattle.icl_declarations.specs.declared.ranges.Bounds.{Bounds}

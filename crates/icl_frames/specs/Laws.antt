@@ -3,8 +3,8 @@
 use Rattle.std.specs.Prelude.{◌≡◌, ◌≤◌, ◌<◌, ℕ, suc, Bool, true, ◌&&◌, cond, List, [], ◌∷◌, ◌++◌, map, filter, zip, length, get_or, sum_by, count_by, Contains, slice_get, Option, Some, None, Ok, is_some, IfSome, IsSomeAnd}
 use Rattle.std.specs.List.{AllByRecursion, enumerate_from}
 use Rattle.ij_bits.specs.Different.{AreDifferent}
-use Rattle.icl_syntax.specs.Values.{SeenItem, SeenModule}
-use Rattle.icl_values.specs.Faults.{each}
+use Rattle.icl_lexer.specs.Values.{SeenItem, SeenModule}
+use Rattle.icl_declarations.specs.Faults.{each}
 use Rattle.icl_declarations.specs.declared.ranges.Bounds.{Bounds}
 use Rattle.icl_declarations.specs.Ranges.{width, declared}
 use Rattle.icl_declarations.specs.Parts.{is_register, is_mux, is_signal, port_that, is_data_in, is_data_out, is_data_port, is_instrument, inner_names, range_in, parts_of}

@@ -2,9 +2,9 @@
 -- these one after another, as the module's text has them. Each has the parameters that its module evaluates to, with those
 -- that its instance binds, which are evaluated in the parent.
 use Rattle.std.specs.Prelude.{◌≡◌, ◌+◌, ℕ, zero, suc, List, [], ◌∷◌, ◌++◌, filter_map, length, Option, Some, None, Ok}
-use Rattle.icl_syntax.specs.Values.{SeenBind, SeenWhat, AChild, SeenItem, SeenModule}
-use Rattle.icl_values.specs.Faults.{over}
-use Rattle.icl_values.specs.Values.{Params}
+use Rattle.icl_lexer.specs.Values.{SeenBind, SeenWhat, AChild, SeenItem, SeenModule}
+use Rattle.icl_declarations.specs.Faults.{over}
+use Rattle.icl_declarations.specs.Values.{Params}
 use Rattle.icl_declarations.specs.Parts.{block_named}
 use Rattle.icl_frames.specs.FirstPass.{Frame, parameters, with_binding, first_pass}
 

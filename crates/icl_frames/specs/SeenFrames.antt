@@ -1,12 +1,12 @@
 -- What the functions of the first pass take and give, without where it lies in memory.
 use Rattle.std.specs.Prelude.{ℕ, nat_le, List, [], ◌∷◌, ◌++◌, map, length, Option, Some, None, Ok}
 use Rattle.std.specs.Borrow.{Bor}
-use Rattle.icl_syntax.specs.declared.tree.Module.{Module}
-use Rattle.icl_syntax.specs.Values.{SeenItem, SeenModule}
-use Rattle.icl_syntax.specs.Views.{seen_module}
-use Rattle.icl_values.specs.Values.{Params}
-use Rattle.icl_values.specs.Tables.{seen_table}
-use Rattle.icl_values.specs.Faults.{Answer, ◌>>=◌, refuse_if, Limit}
+use Rattle.icl_lexer.specs.declared.tree.Module.{Module}
+use Rattle.icl_lexer.specs.Values.{SeenItem, SeenModule}
+use Rattle.icl_lexer.specs.Views.{seen_module}
+use Rattle.icl_declarations.specs.Values.{Params}
+use Rattle.icl_declarations.specs.Tables.{seen_table}
+use Rattle.icl_declarations.specs.Faults.{Answer, ◌>>=◌, refuse_if, Limit}
 use Rattle.ij_text.specs.declared.Which.TheVariants.{Cells}
 use Rattle.icl_frames.specs.declared.frames.Request.{Request as RequestAt}
 use Rattle.icl_frames.specs.declared.frames.Passed.{Passed as PassedAt}

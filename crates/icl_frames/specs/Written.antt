@@ -6,8 +6,8 @@ use Rattle.ij_text.specs.Words.{is_name}
 use Rattle.icl_lexer.specs.Token.{Token}
 use Rattle.icl_lexer.specs.Cutting.{AreTokens}
 use Rattle.icl_lexer.specs.Seen.{seen_tokens}
-use Rattle.icl_syntax.specs.Values.{SeenSig, SeenRow, SeenEnumWord, SeenWhat, AMux, SomeWords, SeenItem, SeenModule}
-use Rattle.icl_syntax.specs.Modules.{design}
+use Rattle.icl_lexer.specs.Values.{SeenSig, SeenRow, SeenEnumWord, SeenWhat, AMux, SomeWords, SeenItem, SeenModule}
+use Rattle.icl_lexer.specs.Modules.{design}
 use Rattle.icl_frames.specs.FirstPass.{Frame, first_pass}
 
 -- a multiplexer has a select and rows, with values

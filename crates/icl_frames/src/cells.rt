@@ -1,11 +1,11 @@
 // The cells of a design in preorder: each instance before those in it.
 ghost use Rattle.std.specs.Prelude.{◌≡◌, ◌≤◌, ◌∷◌, ◌++◌, ℕ, List, [], None, map, length, nat_le, IfOk, IfErr, OnOk};
 ghost use Rattle.ij_text.specs.Options.{same};
-ghost use Rattle.icl_syntax.specs.Views.{seen_item, seen_module};
-ghost use Rattle.icl_values.specs.Faults.{Gives, refuse_if, over, Limit};
+ghost use Rattle.icl_lexer.specs.Views.{seen_item, seen_module};
+ghost use Rattle.icl_declarations.specs.Faults.{Gives, refuse_if, over, Limit};
 ghost use Rattle.icl_declarations.specs.Scopes.{entry_of};
 ghost use Rattle.ij_text.specs.declared.Which.TheVariants.{Cells};
-ghost use Rattle.icl_values.specs.Tables.{seen_table};
+ghost use Rattle.icl_declarations.specs.Tables.{seen_table};
 ghost use Rattle.icl_frames.specs.FirstPass.{with_block, parameters, pass_items, finish, enter_one, enter, first_pass};
 ghost use Rattle.icl_frames.specs.SeenFrames.{names_of, seen_passed, seen_request, seen_frame, seen_entered, seen_progress, seen_stepped, finished, entered_next, with_cell};
 
@@ -13,9 +13,8 @@ use crate::ElabFault;
 use crate::frames::{Passed, Request, pass_items};
 use crate::instances::known_block;
 use crate::params::parameters;
-use icl_declarations::{Bounds, Counts, Scope, count_instrument, is_instrument};
-use icl_syntax::Module;
-use icl_values::ParamTable;
+use icl_declarations::{Bounds, Counts, ParamTable, Scope, count_instrument, is_instrument};
+use icl_lexer::Module;
 use ij_text::{Which, name_of};
 use std::alloc::Global;
 
@@ -371,7 +370,7 @@ fn distinct_modules(alloc: Global, modules: &[Module]) -> Result<(), ElabFault>
 ///
 /// The first fault on the way is the answer. Two modules of one name are `DoubleName` at the second word `Module`; a top that is
 /// no module is `NoModule`. Then each cell, before those in it: `Limit` of `Hierarchy` where it stands inside 64 others below the
-/// top, or of `Cells` where 8192 cells stand before it; its parameters (what `evaluate` of `icl_values` tells);
+/// top, or of `Cells` where 8192 cells stand before it; its parameters (what `evaluate` of `icl_declarations` tells);
 /// its items in the order of the text (`DoubleName` of a name in the module, the faults of its range, `NoModule` of an instance,
 /// `InstanceLoop` where a module would stand in itself, `NoName` and `DoubleName` of a parameter that is bound, and `Limit` of
 /// register bits and multiplexers); and `Limit` of instruments, their ports and the ports' bits. `OutOfMemory` may come at any

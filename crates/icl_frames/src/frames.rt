@@ -3,10 +3,10 @@ ghost use Rattle.std.specs.Prelude.{◌≡◌, ◌≤◌, ◌++◌, ◌∷◌, L
 ghost use Rattle.std.specs.List.{list_any};
 ghost use Rattle.std.specs.Str.{bytes_eq};
 ghost use Rattle.ij_text.specs.Options.{same};
-ghost use Rattle.icl_syntax.specs.Values.{SeenItem, AChild};
-ghost use Rattle.icl_syntax.specs.Views.{seen_what, seen_item, seen_module, seen_bind};
-ghost use Rattle.icl_values.specs.Faults.{Gives, over};
-ghost use Rattle.icl_values.specs.Tables.{seen_table};
+ghost use Rattle.icl_lexer.specs.Values.{SeenItem, AChild};
+ghost use Rattle.icl_lexer.specs.Views.{seen_what, seen_item, seen_module, seen_bind};
+ghost use Rattle.icl_declarations.specs.Faults.{Gives, over};
+ghost use Rattle.icl_declarations.specs.Tables.{seen_table};
 ghost use Rattle.icl_frames.specs.FirstPass.{request, bounds_of, look_at, with_added, pass_item, nothing_passed};
 ghost use Rattle.icl_declarations.specs.Parts.{range_in};
 ghost use Rattle.icl_declarations.specs.Ranges.{declared};
@@ -15,9 +15,10 @@ ghost use Rattle.icl_frames.specs.SeenFrames.{seen_request, seen_wanted, names_o
 
 use crate::ElabFault;
 use crate::instances::{bound_parameters, known_block};
-use icl_declarations::{Bounds, Counts, Taken, count_part, declared, is_part, new_names};
-use icl_syntax::{Bind, Item, Module, SmallText, What};
-use icl_values::ParamTable;
+use icl_declarations::{
+    Bounds, Counts, ParamTable, Taken, count_part, declared, is_part, new_names,
+};
+use icl_lexer::{Bind, Item, Module, SmallText, What};
 use std::alloc::Global;
 
 /// An instance that is wanted.

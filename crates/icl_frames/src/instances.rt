@@ -3,16 +3,16 @@ ghost use Rattle.std.specs.Prelude.{◌≡◌, [], ◌&&◌, map};
 ghost use Rattle.std.specs.Option.{option_map};
 ghost use Rattle.std.specs.Str.{bytes_eq};
 ghost use Rattle.ij_bits.specs.BitLists.{same_bit};
-ghost use Rattle.icl_syntax.specs.Values.{ABoundParameter};
-ghost use Rattle.icl_syntax.specs.Views.{seen_expr, seen_what, seen_bind, seen_module};
-ghost use Rattle.icl_values.specs.Faults.{Gives, over};
-ghost use Rattle.icl_values.specs.Tables.{seen_table};
+ghost use Rattle.icl_lexer.specs.Values.{ABoundParameter};
+ghost use Rattle.icl_lexer.specs.Views.{seen_expr, seen_what, seen_bind, seen_module};
+ghost use Rattle.icl_declarations.specs.Faults.{Gives, over};
+ghost use Rattle.icl_declarations.specs.Tables.{seen_table};
 ghost use Rattle.icl_declarations.specs.Parts.{block_named, is_parameter_that, has_parameter, is_open};
 ghost use Rattle.icl_frames.specs.FirstPass.{known_block, with_binding};
 
 use crate::ElabFault;
-use icl_syntax::{Bind, Expr, Item, Module, SmallText, What};
-use icl_values::{ParamTable, evaluate};
+use icl_declarations::{ParamTable, evaluate};
+use icl_lexer::{Bind, Expr, Item, Module, SmallText, What};
 use ij_text::{Place, name_of};
 use std::alloc::Global;
 

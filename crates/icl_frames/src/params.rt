@@ -1,16 +1,16 @@
 // The parameters of a cell.
 ghost use Rattle.std.specs.Prelude.{◌≡◌, [], map};
 ghost use Rattle.std.specs.Option.{option_map};
-ghost use Rattle.icl_syntax.specs.Values.{AParameter};
-ghost use Rattle.icl_syntax.specs.Views.{seen_expr, seen_what, seen_item};
-ghost use Rattle.icl_values.specs.Faults.{Gives, over};
-ghost use Rattle.icl_values.specs.Values.{seen_value};
-ghost use Rattle.icl_values.specs.Tables.{seen_table};
+ghost use Rattle.icl_lexer.specs.Values.{AParameter};
+ghost use Rattle.icl_lexer.specs.Views.{seen_expr, seen_what, seen_item};
+ghost use Rattle.icl_declarations.specs.Faults.{Gives, over};
+ghost use Rattle.icl_declarations.specs.Values.{seen_value};
+ghost use Rattle.icl_declarations.specs.Tables.{seen_table};
 ghost use Rattle.icl_frames.specs.FirstPass.{bound_worth, worth_in, with_parameter};
 
 use crate::ElabFault;
-use icl_syntax::{Expr, Item, SmallText, What};
-use icl_values::{ParamTable, Value, evaluate};
+use icl_declarations::{ParamTable, Value, evaluate};
+use icl_lexer::{Expr, Item, SmallText, What};
 use ij_text::Place;
 use std::alloc::Global;
 

@@ -5,4 +5,4 @@ pub mod Unique
 pub mod Total
 pub mod Fronts
 pub mod Cursors
-pub mod Few
+pub mod FewTokens

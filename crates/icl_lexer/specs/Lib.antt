@@ -8,3 +8,10 @@ pub mod Laws
 pub mod Examples
 pub mod Seen
 pub mod Lexemes
+pub mod Held
+pub mod Tokens
+pub mod Words
+pub mod Values
+pub mod Grammar
+pub mod Modules
+pub mod Views

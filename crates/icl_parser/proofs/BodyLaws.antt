@@ -1,19 +1,19 @@
 -- The readers of properties and bodies read their symbols.
 use Rattle.std.proofs.Common.{◌≡◌, ℕ, Bool, true, false, cond, List, [], ◌∷◌, Option, Some, None, refl, is_some}
 use Rattle.std.specs.Prelude.{◌||◌}
-use Rattle.grammar.specs.Symbol.{one, give, none, ◌>>=◌, repeat, maybe}
-use Rattle.grammar.specs.Reading.{read_in_turn}
-use Rattle.grammar.proofs.Combinators.{Reads, one_reads, give_reads, none_reads, turn_reads, either_reads, wider_reads}
+use Rattle.ij_text.specs.Symbol.{one, give, none, ◌>>=◌, repeat, maybe}
+use Rattle.ij_text.specs.Reading.{read_in_turn}
+use Rattle.ij_text.proofs.Combinators.{Reads, one_reads, give_reads, none_reads, turn_reads, either_reads, wider_reads}
 use Rattle.icl_lexer.specs.declared.token.TokenKind.{TokenKind}
 use Rattle.icl_lexer.specs.declared.token.TokenKind.TheVariants.{Word, Decimal, Sized, Quoted, Param, Mark}
-use Rattle.icl_syntax.specs.declared.words.Limit.{Limit}
-use Rattle.icl_syntax.specs.declared.words.BodyKind.{BodyKind}
-use Rattle.icl_syntax.specs.declared.words.BodyKind.TheVariants.{ScanIn, ScanOut, DataIn, DataOut, Control, Register, Alias}
-use Rattle.icl_syntax.specs.declared.words.PropKeyword.{PropKeyword}
-use Rattle.icl_syntax.specs.declared.words.PropKeyword.TheVariants.{Source, LaunchEdge, DefaultLoadValue, RefEnum, ActivePolarity, ScanInSource, CaptureSource, ResetValue, AccessTogether, Attribute}
+use Rattle.icl_lexer.specs.declared.words.Limit.{Limit}
+use Rattle.icl_lexer.specs.declared.words.BodyKind.{BodyKind}
+use Rattle.icl_lexer.specs.declared.words.BodyKind.TheVariants.{ScanIn, ScanOut, DataIn, DataOut, Control, Register, Alias}
+use Rattle.icl_lexer.specs.declared.words.PropKeyword.{PropKeyword}
+use Rattle.icl_lexer.specs.declared.words.PropKeyword.TheVariants.{Source, LaunchEdge, DefaultLoadValue, RefEnum, ActivePolarity, ScanInSource, CaptureSource, ResetValue, AccessTogether, Attribute}
 use Rattle.icl_lexer.specs.Seen.{SeenToken, if_word, if_mark, is_mark}
-use Rattle.icl_syntax.specs.Values.{SeenProp, ASource, ALaunchEdge, ALoadValue, ARefEnum, APolarity, AScanInSource, ACaptureSource, AResetValue, ATogether}
-use Rattle.icl_syntax.specs.Grammar.{Of, mark, expr_behind, ended_by, sources, free_word, free_prop_at, attribute_said, decimal_token, prop_behind, property, with_property, lacks, body_end, body}
+use Rattle.icl_lexer.specs.Values.{SeenProp, ASource, ALaunchEdge, ALoadValue, ARefEnum, APolarity, AScanInSource, ACaptureSource, AResetValue, ATogether}
+use Rattle.icl_lexer.specs.Grammar.{Of, mark, expr_behind, ended_by, sources, free_word, free_prop_at, attribute_said, decimal_token, prop_behind, property, with_property, lacks, body_end, body}
 use Rattle.icl_expressions.specs.Reading.{Reading, gives, any, is_name, no_close, read_mark, read_maybe, read_ended, read_expr_behind}
 use Rattle.icl_parser.specs.Reading.{read_attribute_said, read_sources, read_prop_behind, read_free_prop, read_property, read_properties, read_unless, read_body_end, read_braced_body, read_body}
 use Rattle.icl_expressions.proofs.Tokens.{nothing, marks, marks_apart, mark_apart, no_mark_closes}

@@ -1,22 +1,22 @@
 -- The readers of enumerations, interfaces, access links, items and modules read their symbols.
 use Rattle.std.proofs.Common.{◌≡◌, ℕ, true, false, List, [], ◌∷◌, Option, Some, None, refl, is_some}
 use Rattle.std.specs.Prelude.{codes}
-use Rattle.grammar.specs.Symbol.{one, give, ◌>>=◌, repeat, many, appended}
-use Rattle.grammar.specs.Reading.{read_in_turn}
-use Rattle.grammar.proofs.Combinators.{Reads, one_reads, wider_reads}
-use Rattle.grammar.proofs.Laws.{repeat_reads}
+use Rattle.ij_text.specs.Symbol.{one, give, ◌>>=◌, repeat, many, appended}
+use Rattle.ij_text.specs.Reading.{read_in_turn}
+use Rattle.ij_text.proofs.Combinators.{Reads, one_reads, wider_reads}
+use Rattle.ij_text.proofs.Laws.{repeat_reads}
 use Rattle.icl_lexer.specs.declared.token.TokenKind.{TokenKind}
 use Rattle.icl_lexer.specs.declared.token.TokenKind.TheVariants.{Word, Decimal, Sized, Quoted, Param, Mark}
 use Rattle.ij_text.specs.declared.Place.{Place}
-use Rattle.icl_syntax.specs.declared.words.Limit.{Limit}
-use Rattle.icl_syntax.specs.declared.words.ItemKeyword.{ItemKeyword}
-use Rattle.icl_syntax.specs.declared.words.ItemKeyword.TheVariants.{OfPort, OfRegister, OfMux, OfChild, OfAlias, OfEnum, OfParameter, OfAttribute, OfInterface, OfLink}
-use Rattle.icl_syntax.specs.declared.words.MemberKeyword.{MemberKeyword}
-use Rattle.icl_syntax.specs.declared.words.MemberKeyword.TheVariants.{MemberPort, MemberAttribute}
+use Rattle.icl_lexer.specs.declared.words.Limit.{Limit}
+use Rattle.icl_lexer.specs.declared.words.ItemKeyword.{ItemKeyword}
+use Rattle.icl_lexer.specs.declared.words.ItemKeyword.TheVariants.{OfPort, OfRegister, OfMux, OfChild, OfAlias, OfEnum, OfParameter, OfAttribute, OfInterface, OfLink}
+use Rattle.icl_lexer.specs.declared.words.MemberKeyword.{MemberKeyword}
+use Rattle.icl_lexer.specs.declared.words.MemberKeyword.TheVariants.{MemberPort, MemberAttribute}
 use Rattle.icl_lexer.specs.Seen.{SeenToken, if_word, if_mark, is_mark}
-use Rattle.icl_syntax.specs.Values.{SeenLinkInstr, SomeWords, AnInterface, ALink, SeenModule}
-use Rattle.icl_syntax.specs.Grammar.{mark, name, value, ended_by}
-use Rattle.icl_syntax.specs.Modules.{braced, enum_word, words, member_word_at, member_behind, member, with_member, interface, selected, selecting, instruction, link_kind_at, entity, link, item_begun, item_begin_at, meaning_behind, item, module_of, design}
+use Rattle.icl_lexer.specs.Values.{SeenLinkInstr, SomeWords, AnInterface, ALink, SeenModule}
+use Rattle.icl_lexer.specs.Grammar.{mark, name, value, ended_by}
+use Rattle.icl_lexer.specs.Modules.{braced, enum_word, words, member_word_at, member_behind, member, with_member, interface, selected, selecting, instruction, link_kind_at, entity, link, item_begun, item_begin_at, meaning_behind, item, module_of, design}
 use Rattle.icl_expressions.specs.Reading.{Shrinks, gives, any, is_name, no_close, read_mark, read_ended}
 use Rattle.icl_parser.specs.Reading.{read_enum_word, read_many_words, read_words, read_member_word, read_member_behind, read_member, read_members, read_interface, read_selected, read_selecting, read_instruction, read_instructions, read_entity, read_link_kind, read_link, read_item_begin, read_meaning_behind, read_item, read_items, read_module, read_design}
 use Rattle.icl_expressions.proofs.Tokens.{nothing, marks_apart, no_mark_closes}

@@ -1,22 +1,22 @@
 -- The readers of ports, registers, multiplexers and instances read their symbols.
 use Rattle.std.proofs.Common.{◌≡◌, ℕ, Bool, true, false, List, [], ◌∷◌, Option, None, refl, is_some}
 use Rattle.std.specs.Prelude.{◌||◌, codes}
-use Rattle.grammar.specs.Symbol.{one, give, ◌>>=◌, repeat, many, appended, maybe}
-use Rattle.grammar.specs.Reading.{read_in_turn}
-use Rattle.grammar.proofs.Combinators.{Reads, one_reads, give_reads, turn_reads, either_reads, wider_reads}
+use Rattle.ij_text.specs.Symbol.{one, give, ◌>>=◌, repeat, many, appended, maybe}
+use Rattle.ij_text.specs.Reading.{read_in_turn}
+use Rattle.ij_text.proofs.Combinators.{Reads, one_reads, give_reads, turn_reads, either_reads, wider_reads}
 use Rattle.icl_lexer.specs.declared.token.TokenKind.{TokenKind}
 use Rattle.icl_lexer.specs.declared.token.TokenKind.TheVariants.{Word, Decimal, Sized, Quoted, Param, Mark}
 use Rattle.ij_text.specs.declared.Place.{Place}
-use Rattle.icl_syntax.specs.declared.tree.PortKind.{PortKind}
-use Rattle.icl_syntax.specs.declared.words.Limit.{Limit}
-use Rattle.icl_syntax.specs.declared.words.BindKeyword.{BindKeyword}
-use Rattle.icl_syntax.specs.declared.words.BindKeyword.TheVariants.{BindsPort, BindsParameter, BindsAttribute}
-use Rattle.icl_syntax.specs.declared.words.BodyKind.{BodyKind}
-use Rattle.icl_syntax.specs.declared.words.BodyKind.TheVariants.{ScanIn, ScanOut, DataIn, DataOut, Control, Register, Alias}
+use Rattle.icl_lexer.specs.declared.tree.PortKind.{PortKind}
+use Rattle.icl_lexer.specs.declared.words.Limit.{Limit}
+use Rattle.icl_lexer.specs.declared.words.BindKeyword.{BindKeyword}
+use Rattle.icl_lexer.specs.declared.words.BindKeyword.TheVariants.{BindsPort, BindsParameter, BindsAttribute}
+use Rattle.icl_lexer.specs.declared.words.BodyKind.{BodyKind}
+use Rattle.icl_lexer.specs.declared.words.BodyKind.TheVariants.{ScanIn, ScanOut, DataIn, DataOut, Control, Register, Alias}
 use Rattle.icl_lexer.specs.Seen.{SeenToken, if_word, if_mark, is_mark, word_at}
-use Rattle.icl_syntax.specs.Values.{SeenRow, ABoundPort, ABoundParameter, ABoundAttribute, APort, ARegister, AMux, AChild, AnAlias, AParameter, AnAttribute}
-use Rattle.icl_syntax.specs.Grammar.{Of, mark, word, name, value, expr_behind, ended_by, parted, range, sig, sigs, body}
-use Rattle.icl_syntax.specs.Modules.{owner_of, port_range, port, register, alias, parameter, attribute, row, rows, mux, begun_by, bind_begin_at, bound_port, bound_parameter, bound_attribute, bind_behind, bind, braced, binds, child}
+use Rattle.icl_lexer.specs.Values.{SeenRow, ABoundPort, ABoundParameter, ABoundAttribute, APort, ARegister, AMux, AChild, AnAlias, AParameter, AnAttribute}
+use Rattle.icl_lexer.specs.Grammar.{Of, mark, word, name, value, expr_behind, ended_by, parted, range, sig, sigs, body}
+use Rattle.icl_lexer.specs.Modules.{owner_of, port_range, port, register, alias, parameter, attribute, row, rows, mux, begun_by, bind_begin_at, bound_port, bound_parameter, bound_attribute, bind_behind, bind, braced, binds, child}
 use Rattle.icl_expressions.specs.Reading.{Reading, Shrinks, gives, any, is_name, no_close, read_mark, read_word, read_maybe, read_ended, read_many, read_braced, read_expr_behind, read_range}
 use Rattle.icl_parser.specs.Reading.{read_port_range, read_port, read_register, read_alias, read_parameter, read_attribute, read_values, read_row, read_rows, read_mux, read_bind_begin, read_bound_port, read_bound_parameter, read_bound_attribute, read_bind_behind, read_bind, read_many_binds, read_braced_binds, read_binds, read_child}
 use Rattle.icl_expressions.proofs.Tokens.{nothing, marks, marks_apart, mark_apart, no_mark_closes}

@@ -1,10 +1,10 @@
 -- What is read behind some members or modules.
 use Rattle.std.proofs.Common.{ℕ, List}
-use Rattle.grammar.specs.Reading.{read_repeat}
+use Rattle.ij_text.specs.Reading.{read_repeat}
 use Rattle.icl_lexer.specs.Seen.{SeenToken}
-use Rattle.grammar.specs.Symbol.{appended}
-use Rattle.icl_syntax.specs.Values.{SeenModule}
-use Rattle.icl_syntax.specs.Modules.{with_member}
+use Rattle.ij_text.specs.Symbol.{appended}
+use Rattle.icl_lexer.specs.Values.{SeenModule}
+use Rattle.icl_lexer.specs.Modules.{with_member}
 use Rattle.icl_expressions.specs.Reading.{any, no_close}
 use Rattle.icl_parser.specs.Reading.{read_member, read_module}
 use Rattle.icl_expressions.proofs.Steps.{Outcome}

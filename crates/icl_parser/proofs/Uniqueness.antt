@@ -1,14 +1,14 @@
 -- A text has one design or one fault at most.
 use Rattle.std.proofs.Common.{◌≡◌, ℕ, cond, List, [], ◌∷◌, length, Option, Some, None, refl, sym, ap, ◌∙◌}
-use Rattle.grammar.specs.Reading.{Stop as Unfit}
-use Rattle.grammar.specs.Refusal.{Refused}
-use Rattle.grammar.proofs.Verdicts.{refusals_are_one, derived_not_refused}
+use Rattle.ij_text.specs.Reading.{Stop as Unfit}
+use Rattle.ij_text.specs.Refusal.{Refused}
+use Rattle.ij_text.proofs.Verdicts.{refusals_are_one, derived_not_refused}
 use Rattle.ij_text.specs.declared.Place.{Place}
 use Rattle.ij_text.specs.Places.{end_of}
-use Rattle.icl_syntax.specs.declared.words.Limit.{Limit}
+use Rattle.icl_lexer.specs.declared.words.Limit.{Limit}
 use Rattle.icl_lexer.specs.Seen.{SeenToken}
-use Rattle.icl_syntax.specs.Values.{SeenModule}
-use Rattle.icl_syntax.specs.Modules.{design}
+use Rattle.icl_lexer.specs.Values.{SeenModule}
+use Rattle.icl_lexer.specs.Modules.{design}
 use Rattle.icl_parser.specs.declared.fault.ParseFault.{ParseFault}
 use Rattle.icl_parser.specs.declared.fault.ParseFault.TheVariants.{OutOfMemory, LeftOut, ExprLimit, Syntax}
 use Rattle.icl_parser.specs.Refusals.{left_out_at, IsFaultOf, IsRefused}

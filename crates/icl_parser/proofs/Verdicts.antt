@@ -2,15 +2,15 @@
 use Rattle.std.proofs.Common.{◌≡◌, ◌↔◌, ℕ, suc, Bool, ◌<◌, ◌-◌, true, false, List, [], ◌∷◌, ◌++◌, length, drop, Ok, Err, refl, sym, ap, subst, ◌∙◌, arith, length-append}
 use Rattle.std.proofs.Math.Seq.{drop-append_seam}
 use Rattle.ij_text.specs.Places.{end_of}
-use Rattle.grammar.specs.Reading.{Stop as Unfit, ended}
-use Rattle.grammar.specs.Refusal.{Refused}
-use Rattle.grammar.proofs.Combinators.{ok_is}
-use Rattle.grammar.proofs.Verdicts.{found, only, refused}
-use Rattle.icl_syntax.specs.declared.words.Limit.{Limit}
+use Rattle.ij_text.specs.Reading.{Stop as Unfit, ended}
+use Rattle.ij_text.specs.Refusal.{Refused}
+use Rattle.ij_text.proofs.Combinators.{ok_is}
+use Rattle.ij_text.proofs.Verdicts.{found, only, refused}
+use Rattle.icl_lexer.specs.declared.words.Limit.{Limit}
 use Rattle.icl_lexer.specs.Seen.{SeenToken}
-use Rattle.grammar.specs.Symbol.{appended}
-use Rattle.icl_syntax.specs.Values.{SeenModule}
-use Rattle.icl_syntax.specs.Modules.{design}
+use Rattle.ij_text.specs.Symbol.{appended}
+use Rattle.icl_lexer.specs.Values.{SeenModule}
+use Rattle.icl_lexer.specs.Modules.{design}
 use Rattle.icl_parser.specs.declared.fault.ParseFault.{ParseFault}
 use Rattle.icl_parser.specs.declared.fault.ParseFault.TheVariants.{OutOfMemory, LeftOut, ExprLimit, Syntax}
 use Rattle.icl_expressions.specs.declared.stop.Stop.{Stop}

@@ -2,8 +2,8 @@
 use Rattle.std.specs.Prelude.{◌≡◌, ℕ, List}
 use Rattle.ij_text.specs.declared.Place.{Place}
 use Rattle.icl_lexer.specs.Seen.{SeenToken}
-use Rattle.icl_syntax.specs.Values.{SeenModule}
-use Rattle.icl_syntax.specs.Modules.{design}
+use Rattle.icl_lexer.specs.Values.{SeenModule}
+use Rattle.icl_lexer.specs.Modules.{design}
 use Rattle.icl_parser.specs.declared.fault.ParseFault.{ParseFault}
 use Rattle.icl_parser.specs.declared.fault.ParseFault.TheVariants.{OutOfMemory, LeftOut, ExprLimit, Syntax}
 use Rattle.icl_parser.specs.Refusals.{IsRefused}

@@ -1,25 +1,25 @@
 -- What each function of the parser reads: the readers of the productions, put together as the productions are.
 use Rattle.std.specs.Prelude.{ℕ, Bool, true, false, List, [], ◌∷◌, length, Option, Some, None, Result, Err, codes}
-use Rattle.grammar.specs.Reading.{Stop as Unfit, ended, read_one, read_in_turn, read_either, read_repeat}
+use Rattle.ij_text.specs.Reading.{Stop as Unfit, ended, read_one, read_in_turn, read_either, read_repeat}
 use Rattle.ij_text.specs.declared.Place.{Place}
-use Rattle.icl_syntax.specs.declared.tree.LinkKind.{LinkKind}
-use Rattle.icl_syntax.specs.declared.tree.PortKind.{PortKind}
-use Rattle.icl_syntax.specs.declared.words.Limit.{Limit}
-use Rattle.icl_syntax.specs.declared.words.ItemKeyword.{ItemKeyword}
-use Rattle.icl_syntax.specs.declared.words.ItemKeyword.TheVariants.{OfPort, OfRegister, OfMux, OfChild, OfAlias, OfEnum, OfParameter, OfAttribute, OfInterface, OfLink}
-use Rattle.icl_syntax.specs.declared.words.BindKeyword.{BindKeyword}
-use Rattle.icl_syntax.specs.declared.words.BindKeyword.TheVariants.{BindsPort, BindsParameter, BindsAttribute}
-use Rattle.icl_syntax.specs.declared.words.MemberKeyword.{MemberKeyword}
-use Rattle.icl_syntax.specs.declared.words.MemberKeyword.TheVariants.{MemberPort, MemberAttribute}
-use Rattle.icl_syntax.specs.declared.words.BodyKind.{BodyKind}
-use Rattle.icl_syntax.specs.declared.words.BodyKind.TheVariants.{ScanIn, ScanOut, DataIn, DataOut, Control, Register, Alias}
-use Rattle.icl_syntax.specs.declared.words.PropKeyword.{PropKeyword}
-use Rattle.icl_syntax.specs.declared.words.PropKeyword.TheVariants.{Source, LaunchEdge, DefaultLoadValue, RefEnum, ActivePolarity, ScanInSource, CaptureSource, ResetValue, AccessTogether, Attribute}
+use Rattle.icl_lexer.specs.declared.tree.LinkKind.{LinkKind}
+use Rattle.icl_lexer.specs.declared.tree.PortKind.{PortKind}
+use Rattle.icl_lexer.specs.declared.words.Limit.{Limit}
+use Rattle.icl_lexer.specs.declared.words.ItemKeyword.{ItemKeyword}
+use Rattle.icl_lexer.specs.declared.words.ItemKeyword.TheVariants.{OfPort, OfRegister, OfMux, OfChild, OfAlias, OfEnum, OfParameter, OfAttribute, OfInterface, OfLink}
+use Rattle.icl_lexer.specs.declared.words.BindKeyword.{BindKeyword}
+use Rattle.icl_lexer.specs.declared.words.BindKeyword.TheVariants.{BindsPort, BindsParameter, BindsAttribute}
+use Rattle.icl_lexer.specs.declared.words.MemberKeyword.{MemberKeyword}
+use Rattle.icl_lexer.specs.declared.words.MemberKeyword.TheVariants.{MemberPort, MemberAttribute}
+use Rattle.icl_lexer.specs.declared.words.BodyKind.{BodyKind}
+use Rattle.icl_lexer.specs.declared.words.BodyKind.TheVariants.{ScanIn, ScanOut, DataIn, DataOut, Control, Register, Alias}
+use Rattle.icl_lexer.specs.declared.words.PropKeyword.{PropKeyword}
+use Rattle.icl_lexer.specs.declared.words.PropKeyword.TheVariants.{Source, LaunchEdge, DefaultLoadValue, RefEnum, ActivePolarity, ScanInSource, CaptureSource, ResetValue, AccessTogether, Attribute}
 use Rattle.icl_lexer.specs.Seen.{SeenToken, is_mark}
-use Rattle.grammar.specs.Symbol.{appended}
-use Rattle.icl_syntax.specs.Values.{SeenExpr, SeenRange, SeenSig, SeenProp, ASource, ALaunchEdge, ALoadValue, ARefEnum, APolarity, AScanInSource, ACaptureSource, AResetValue, ATogether, SeenRow, SeenBind, ABoundPort, ABoundParameter, ABoundAttribute, SeenEnumWord, SeenLinkInstr, SeenWhat, APort, ARegister, AMux, AChild, AnAlias, SomeWords, AParameter, AnInterface, ALink, AnAttribute, SeenItem, SeenModule}
-use Rattle.icl_syntax.specs.Grammar.{free_prop_at, AttributeSaid, with_property, lacks}
-use Rattle.icl_syntax.specs.Modules.{owner_of, BindBegin, bind_begin_at, member_word_at, with_member, Selected, link_kind_at, ItemBegin, item_begin_at}
+use Rattle.ij_text.specs.Symbol.{appended}
+use Rattle.icl_lexer.specs.Values.{SeenExpr, SeenRange, SeenSig, SeenProp, ASource, ALaunchEdge, ALoadValue, ARefEnum, APolarity, AScanInSource, ACaptureSource, AResetValue, ATogether, SeenRow, SeenBind, ABoundPort, ABoundParameter, ABoundAttribute, SeenEnumWord, SeenLinkInstr, SeenWhat, APort, ARegister, AMux, AChild, AnAlias, SomeWords, AParameter, AnInterface, ALink, AnAttribute, SeenItem, SeenModule}
+use Rattle.icl_lexer.specs.Grammar.{free_prop_at, AttributeSaid, with_property, lacks}
+use Rattle.icl_lexer.specs.Modules.{owner_of, BindBegin, bind_begin_at, member_word_at, with_member, Selected, link_kind_at, ItemBegin, item_begin_at}
 use Rattle.icl_expressions.specs.Reading.{Reading, no_close, any, gives, read_mark, read_word, read_name, read_ended, read_maybe, read_parted, read_many, read_braced, read_value, read_expr_behind, read_range, read_sig, read_sigs, read_decimal}
 
 -- ---- properties and bodies

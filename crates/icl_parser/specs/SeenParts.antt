@@ -1,8 +1,8 @@
 -- What the functions that read bodies and items give, without where it lies in memory.
 use Rattle.std.specs.Option.{option_map}
-use Rattle.icl_syntax.specs.Grammar.{AttributeSaid}
-use Rattle.icl_syntax.specs.Modules.{BindBegin, ItemBegin, Selected}
-use Rattle.icl_syntax.specs.Views.{seen_expr}
+use Rattle.icl_lexer.specs.Grammar.{AttributeSaid}
+use Rattle.icl_lexer.specs.Modules.{BindBegin, ItemBegin, Selected}
+use Rattle.icl_lexer.specs.Views.{seen_expr}
 use Rattle.icl_parser.specs.declared.bodies.Said.{Said}
 use Rattle.icl_parser.specs.declared.items.BindBegin.{BindBegin as BindStart}
 use Rattle.icl_parser.specs.declared.links.Selected.{Selected as SelectedNames}

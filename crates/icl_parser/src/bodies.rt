@@ -4,8 +4,8 @@ ghost use Rattle.std.specs.Option.{option_map};
 ghost use Rattle.ij_text.specs.Options.{same};
 ghost use Rattle.ij_bits.specs.Room.{seen_list};
 ghost use Rattle.icl_lexer.specs.Lexemes.{tok};
-ghost use Rattle.icl_syntax.specs.Views.{seen_prop, seen_sig};
-ghost use Rattle.icl_syntax.specs.Grammar.{is_prop, stands, takes, lacks, with_property, free_prop_at};
+ghost use Rattle.icl_lexer.specs.Views.{seen_prop, seen_sig};
+ghost use Rattle.icl_lexer.specs.Grammar.{is_prop, stands, takes, lacks, with_property, free_prop_at};
 ghost use Rattle.icl_expressions.specs.Seen.{seen_read, Gives};
 ghost use Rattle.icl_parser.specs.SeenParts.{seen_said};
 ghost use Rattle.icl_expressions.specs.Reading.{read_put};
@@ -16,8 +16,7 @@ use icl_expressions::{
     Parsed, Stop, before_close, begins_mark, maybe_expr_behind, pushed, read_decimal, read_mark,
     read_name, read_sig, read_sigs, read_value,
 };
-use icl_lexer::{Cursor, Lexeme};
-use icl_syntax::{BodyKind, Expr, Prop, PropKeyword, Sig, SmallText};
+use icl_lexer::{BodyKind, Cursor, Expr, Lexeme, Prop, PropKeyword, Sig, SmallText};
 use ij_bits::{List, OutOfMemory, beside};
 use std::alloc::Global;
 

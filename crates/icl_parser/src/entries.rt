@@ -1,7 +1,7 @@
 // What stands behind others of its kind.
 ghost use Rattle.std.specs.Prelude.{◌<◌, ◌≤◌, IfOk, length};
 ghost use Rattle.ij_bits.specs.Room.{seen_list};
-ghost use Rattle.grammar.specs.Symbol.{appended};
+ghost use Rattle.ij_text.specs.Symbol.{appended};
 ghost use Rattle.icl_expressions.specs.Seen.{seen_read, Gives};
 ghost use Rattle.icl_expressions.specs.Reading.{Reading, Shrinks, read_put, more, read_many, read_braced};
 

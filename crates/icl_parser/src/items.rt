@@ -2,9 +2,9 @@
 ghost use Rattle.std.specs.Prelude.{◌≡◌, ◌<◌, ◌≤◌, IfOk, length};
 ghost use Rattle.std.specs.Option.{option_map};
 ghost use Rattle.ij_bits.specs.Room.{seen_list};
-ghost use Rattle.icl_syntax.specs.Values.{SeenRow, SeenBind};
-ghost use Rattle.icl_syntax.specs.Views.{seen_range, seen_row, seen_bind, seen_what};
-ghost use Rattle.icl_syntax.specs.Modules.{owner_of};
+ghost use Rattle.icl_lexer.specs.Values.{SeenRow, SeenBind};
+ghost use Rattle.icl_lexer.specs.Views.{seen_range, seen_row, seen_bind, seen_what};
+ghost use Rattle.icl_lexer.specs.Modules.{owner_of};
 ghost use Rattle.icl_expressions.specs.Seen.{seen_read, Gives};
 ghost use Rattle.icl_parser.specs.SeenParts.{seen_bind_begin};
 ghost use Rattle.icl_parser.specs.Reading.{read_port_range, read_port, read_register, read_alias, read_parameter, read_attribute, read_row, read_rows, read_mux, read_bound_port, read_bound_parameter, read_bound_attribute, read_bind_behind, read_bind_begin, read_bind, read_binds, read_child};
@@ -16,8 +16,7 @@ use icl_expressions::{
     Parsed, Stop, begins_mark, maybe_expr_behind, maybe_range, pushed, read_expr_behind, read_mark,
     read_name, read_parted, read_sig, read_sigs, read_word,
 };
-use icl_lexer::Cursor;
-use icl_syntax::{Bind, BindKeyword, BodyKind, MuxRow, PortKind, Range, What};
+use icl_lexer::{Bind, BindKeyword, BodyKind, Cursor, MuxRow, PortKind, Range, What};
 use ij_bits::{List, beside};
 use ij_text::Place;
 use std::alloc::Global;

@@ -3,9 +3,9 @@ ghost use Rattle.std.specs.Prelude.{◌≡◌, ◌<◌, ◌≤◌, IfOk, length}
 ghost use Rattle.std.specs.Option.{option_map};
 ghost use Rattle.ij_text.specs.Options.{same};
 ghost use Rattle.ij_bits.specs.Room.{seen_list};
-ghost use Rattle.icl_syntax.specs.Values.{SeenEnumWord, SeenLinkInstr};
-ghost use Rattle.icl_syntax.specs.Views.{bytes_of, seen_instr, seen_enum_word, seen_what};
-ghost use Rattle.icl_syntax.specs.Modules.{with_member};
+ghost use Rattle.icl_lexer.specs.Values.{SeenEnumWord, SeenLinkInstr};
+ghost use Rattle.icl_lexer.specs.Views.{bytes_of, seen_instr, seen_enum_word, seen_what};
+ghost use Rattle.icl_lexer.specs.Modules.{with_member};
 ghost use Rattle.icl_expressions.specs.Seen.{seen_read, Gives};
 ghost use Rattle.icl_parser.specs.SeenParts.{seen_selected};
 ghost use Rattle.icl_expressions.specs.Reading.{read_put};
@@ -17,8 +17,7 @@ use crate::words::{link_kind, member_word};
 use icl_expressions::{
     Parsed, Stop, before_close, pushed, read_mark, read_name, read_value, read_word,
 };
-use icl_lexer::Cursor;
-use icl_syntax::{EnumWord, LinkInstr, LinkKind, MemberKeyword, SmallText, What};
+use icl_lexer::{Cursor, EnumWord, LinkInstr, LinkKind, MemberKeyword, SmallText, What};
 use ij_bits::{List, OutOfMemory, beside};
 use std::alloc::Global;
 

@@ -1,8 +1,8 @@
 // Items, modules and designs.
 ghost use Rattle.std.specs.Prelude.{◌<◌, IfOk, length};
 ghost use Rattle.ij_bits.specs.Room.{seen_list};
-ghost use Rattle.icl_syntax.specs.Values.{SeenItem, SeenModule};
-ghost use Rattle.icl_syntax.specs.Views.{seen_item, seen_module, seen_what};
+ghost use Rattle.icl_lexer.specs.Values.{SeenItem, SeenModule};
+ghost use Rattle.icl_lexer.specs.Views.{seen_item, seen_module, seen_what};
 ghost use Rattle.icl_expressions.specs.Seen.{seen_read, Gives};
 ghost use Rattle.icl_parser.specs.SeenParts.{seen_item_begin};
 ghost use Rattle.icl_parser.specs.Reading.{read_item_begin, read_meaning_behind, read_item, read_module, whole_design};
@@ -14,8 +14,7 @@ use crate::items::{
 use crate::links::{read_interface, read_link, read_words};
 use crate::words::item_word;
 use icl_expressions::{Parsed, Stop, read_name, read_word};
-use icl_lexer::Cursor;
-use icl_syntax::{Item, ItemKeyword, Module, What};
+use icl_lexer::{Cursor, Item, ItemKeyword, Module, What};
 use ij_bits::{List, beside};
 use ij_text::Place;
 use std::alloc::Global;

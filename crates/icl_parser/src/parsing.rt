@@ -2,16 +2,15 @@
 ghost use Rattle.std.specs.Prelude.{◌≡◌, ◌≤◌, ◌-◌, IfOk, IfErr, OnErr, IsErrOf, drop, length};
 ghost use Rattle.ij_text.specs.Places.{end_of};
 ghost use Rattle.icl_lexer.specs.Lexemes.{tok};
-ghost use Rattle.icl_syntax.specs.Modules.{design};
-ghost use Rattle.icl_syntax.specs.Views.{seen_design};
+ghost use Rattle.icl_lexer.specs.Modules.{design};
+ghost use Rattle.icl_lexer.specs.Views.{seen_design};
 ghost use Rattle.icl_parser.specs.Refusals.{Blocks, IsFaultAt, IsFaultOf, OnRefusal};
 
 use crate::fault::ParseFault;
 use crate::modules::read_design;
 use crate::words::is_left_out;
 use icl_expressions::Stop;
-use icl_lexer::{Cursor, Lexeme};
-use icl_syntax::{Design, Limit};
+use icl_lexer::{Cursor, Design, Lexeme, Limit};
 use ij_bits::OutOfMemory;
 use ij_text::{end_of, name_of};
 use std::alloc::Global;

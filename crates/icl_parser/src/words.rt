@@ -2,13 +2,12 @@
 ghost use Rattle.std.specs.Prelude.{◌≡◌, Option};
 ghost use Rattle.std.specs.Str.{bytes_eq};
 ghost use Rattle.icl_lexer.specs.Lexemes.{tok};
-ghost use Rattle.icl_syntax.specs.Tokens.{is_left_out};
-ghost use Rattle.icl_syntax.specs.Words.{data_port_named, control_port_named, to_port_named, port_named, other_item_named, item_named, prop_named, bind_named, member_named, link_named};
-ghost use Rattle.icl_syntax.specs.Grammar.{prop_word_at};
-ghost use Rattle.icl_syntax.specs.Modules.{item_word_at, bind_word_at, member_word_at, link_kind_at};
+ghost use Rattle.icl_lexer.specs.Tokens.{is_left_out};
+ghost use Rattle.icl_lexer.specs.Words.{data_port_named, control_port_named, to_port_named, port_named, other_item_named, item_named, prop_named, bind_named, member_named, link_named};
+ghost use Rattle.icl_lexer.specs.Grammar.{prop_word_at};
+ghost use Rattle.icl_lexer.specs.Modules.{item_word_at, bind_word_at, member_word_at, link_kind_at};
 
-use icl_lexer::Lexeme;
-use icl_syntax::{BindKeyword, ItemKeyword, LinkKind, MemberKeyword, PortKind, PropKeyword};
+use icl_lexer::{BindKeyword, ItemKeyword, Lexeme, LinkKind, MemberKeyword, PortKind, PropKeyword};
 
 /// Whether a text is a word.
 fn is(text: &[u8], word: &[u8]) -> bool
@@ -18,7 +17,7 @@ fn is(text: &[u8], word: &[u8]) -> bool
 }
 
 /// Scan ports and data ports.
-#[tactic(auto, unfolding(icl_syntax::specs::Words::data_port_named))]
+#[tactic(auto, unfolding(icl_lexer::specs::Words::data_port_named))]
 fn data_port(text: &[u8]) -> Option<PortKind>
     ensures { result ≡ data_port_named text.now }
 {
@@ -36,7 +35,7 @@ fn data_port(text: &[u8]) -> Option<PortKind>
 }
 
 /// Control ports.
-#[tactic(auto, unfolding(icl_syntax::specs::Words::control_port_named))]
+#[tactic(auto, unfolding(icl_lexer::specs::Words::control_port_named))]
 fn control_port(text: &[u8]) -> Option<PortKind>
     ensures { result ≡ control_port_named text.now }
 {
@@ -64,7 +63,7 @@ fn control_port(text: &[u8]) -> Option<PortKind>
 }
 
 /// Control ports that go on to other modules.
-#[tactic(auto, unfolding(icl_syntax::specs::Words::to_port_named))]
+#[tactic(auto, unfolding(icl_lexer::specs::Words::to_port_named))]
 fn to_port(text: &[u8]) -> Option<PortKind>
     ensures { result ≡ to_port_named text.now }
 {
@@ -94,7 +93,7 @@ fn to_port(text: &[u8]) -> Option<PortKind>
 }
 
 /// The kind of port with this word.
-#[tactic(auto, unfolding(icl_syntax::specs::Words::port_named))]
+#[tactic(auto, unfolding(icl_lexer::specs::Words::port_named))]
 fn port(text: &[u8]) -> Option<PortKind>
     ensures { result ≡ port_named text.now }
 {
@@ -108,7 +107,7 @@ fn port(text: &[u8]) -> Option<PortKind>
 }
 
 /// Items that are no ports.
-#[tactic(auto, unfolding(icl_syntax::specs::Words::other_item_named))]
+#[tactic(auto, unfolding(icl_lexer::specs::Words::other_item_named))]
 fn other_item(text: &[u8]) -> Option<ItemKeyword>
     ensures { result ≡ other_item_named text.now }
 {
@@ -137,7 +136,7 @@ fn other_item(text: &[u8]) -> Option<ItemKeyword>
     }
 }
 
-#[tactic(auto, unfolding(icl_syntax::specs::Words::item_named))]
+#[tactic(auto, unfolding(icl_lexer::specs::Words::item_named))]
 fn item(text: &[u8]) -> Option<ItemKeyword>
     ensures { result ≡ item_named text.now }
 {
@@ -154,7 +153,7 @@ pub(crate) fn item_word(t: &Lexeme) -> Option<ItemKeyword>
     if t.is_name() { item(t.text) } else { None }
 }
 
-#[tactic(auto, unfolding(icl_syntax::specs::Words::prop_named))]
+#[tactic(auto, unfolding(icl_lexer::specs::Words::prop_named))]
 fn prop(text: &[u8]) -> Option<PropKeyword>
     ensures { result ≡ prop_named text.now }
 {
@@ -190,7 +189,7 @@ pub(crate) fn prop_word(t: &Lexeme) -> Option<PropKeyword>
     if t.is_name() { prop(t.text) } else { None }
 }
 
-#[tactic(auto, unfolding(icl_syntax::specs::Words::bind_named))]
+#[tactic(auto, unfolding(icl_lexer::specs::Words::bind_named))]
 fn bind(text: &[u8]) -> Option<BindKeyword>
     ensures { result ≡ bind_named text.now }
 {
@@ -212,7 +211,7 @@ pub(crate) fn bind_word(t: &Lexeme) -> Option<BindKeyword>
     if t.is_name() { bind(t.text) } else { None }
 }
 
-#[tactic(auto, unfolding(icl_syntax::specs::Words::member_named))]
+#[tactic(auto, unfolding(icl_lexer::specs::Words::member_named))]
 fn member(text: &[u8]) -> Option<MemberKeyword>
     ensures { result ≡ member_named text.now }
 {
@@ -232,7 +231,7 @@ pub(crate) fn member_word(t: &Lexeme) -> Option<MemberKeyword>
     if t.is_name() { member(t.text) } else { None }
 }
 
-#[tactic(auto, unfolding(icl_syntax::specs::Words::link_named))]
+#[tactic(auto, unfolding(icl_lexer::specs::Words::link_named))]
 fn link(text: &[u8]) -> Option<LinkKind>
     ensures { result ≡ link_named text.now }
 {
@@ -253,7 +252,7 @@ pub(crate) fn link_kind(t: &Lexeme) -> Option<LinkKind>
 }
 
 /// Whether a word of ICL is left out.
-#[tactic(auto, unfolding(icl_syntax::specs::Tokens::is_left_out))]
+#[tactic(auto, unfolding(icl_lexer::specs::Tokens::is_left_out))]
 pub(crate) fn is_left_out(text: &[u8]) -> bool
     ensures { result ≡ is_left_out text.now }
 {

@@ -2,19 +2,19 @@
 use Rattle.std.proofs.Common.{◌≡◌, ◌==◌, ◌≤◌, ℕ, Bool, true, false, not, cond, List, [], ◌∷◌, ◌++◌, map, Option, Some, None, refl, sym, ap, ◌∙◌, subst, append-nil, inl, inr, decimal}
 use Rattle.std.specs.Prelude.{◌&&◌}
 use Rattle.std.specs.Option.{option_map}
-use Rattle.grammar.specs.Symbol.{one, ◌>>=◌, give, none, repeat}
+use Rattle.ij_text.specs.Symbol.{one, ◌>>=◌, give, none, repeat}
 use Rattle.icl_lexer.specs.declared.token.TokenKind.{TokenKind}
 use Rattle.icl_lexer.specs.declared.token.TokenKind.TheVariants.{Word, Decimal, Sized, Quoted, Param, Mark}
-use Rattle.icl_syntax.specs.declared.words.BodyKind.{BodyKind}
-use Rattle.icl_syntax.specs.declared.words.BodyKind.TheVariants.{ScanIn, ScanOut, DataIn, DataOut, Control, Register, Alias}
-use Rattle.icl_syntax.specs.declared.words.PropKeyword.{PropKeyword}
-use Rattle.icl_syntax.specs.declared.words.PropKeyword.TheVariants.{Source, LaunchEdge, DefaultLoadValue, RefEnum, ActivePolarity, ScanInSource, CaptureSource, ResetValue, AccessTogether, Attribute}
+use Rattle.icl_lexer.specs.declared.words.BodyKind.{BodyKind}
+use Rattle.icl_lexer.specs.declared.words.BodyKind.TheVariants.{ScanIn, ScanOut, DataIn, DataOut, Control, Register, Alias}
+use Rattle.icl_lexer.specs.declared.words.PropKeyword.{PropKeyword}
+use Rattle.icl_lexer.specs.declared.words.PropKeyword.TheVariants.{Source, LaunchEdge, DefaultLoadValue, RefEnum, ActivePolarity, ScanInSource, CaptureSource, ResetValue, AccessTogether, Attribute}
 use Rattle.ij_text.specs.Numbers.{decimal_from}
 use Rattle.icl_lexer.specs.Seen.{SeenToken}
-use Rattle.icl_syntax.specs.Tokens.{decimal_at}
-use Rattle.icl_syntax.specs.Words.{prop_word, prop_named}
-use Rattle.icl_syntax.specs.Values.{SeenProp, ASource, ALaunchEdge, ALoadValue, ARefEnum, APolarity, AScanInSource, ACaptureSource, AResetValue, ATogether}
-use Rattle.icl_syntax.specs.Grammar.{Of, name, value, sig, sigs, sources, prop_behind, property, with_property, body, body_end, lacks, takes, stands, is_prop, free_word, free_prop_at, prop_word_at, decimal_token, mark as a_mark}
+use Rattle.icl_lexer.specs.Tokens.{decimal_at}
+use Rattle.icl_lexer.specs.Words.{prop_word, prop_named}
+use Rattle.icl_lexer.specs.Values.{SeenProp, ASource, ALaunchEdge, ALoadValue, ARefEnum, APolarity, AScanInSource, ACaptureSource, AResetValue, ATogether}
+use Rattle.icl_lexer.specs.Grammar.{Of, name, value, sig, sigs, sources, prop_behind, property, with_property, body, body_end, lacks, takes, stands, is_prop, free_word, free_prop_at, prop_word_at, decimal_token, mark as a_mark}
 use Rattle.icl_printer.specs.Layout.{Spelling, word, mark}
 use Rattle.icl_printer.specs.Canonical.{in_turn, braced, value_tokens, signal_tokens, signals_tokens, name_tokens, property_tokens}
 use Rattle.icl_printer.specs.Again.{spellings, IsSpelled, AllSpelled, placeless_value, placeless_signal, placeless_signals, placeless_property}

@@ -13,7 +13,7 @@ use Rattle.icl_lexer.specs.Pieces.{kind_of, size, in_decimal, in_digits, in_line
 use Rattle.ij_text.specs.Numbers.{decimal_from, small}
 use Rattle.ij_text.specs.Words.{in_name, begins_name}
 use Rattle.ij_text.specs.Bytes.{is_blank}
-use Rattle.icl_syntax.specs.Tokens.{decimal_of}
+use Rattle.icl_lexer.specs.Tokens.{decimal_of}
 
 -- ---- decimals
 

@@ -3,12 +3,12 @@ use Rattle.std.proofs.Common.{◌≡◌, ◌<◌, ◌≤◌, ◌+◌, ◌-◌, �
 use Rattle.std.specs.Prelude.{max}
 use Rattle.std.proofs.lemmas.Bool.{ltb-true, ltb-false, le-ltb}
 use Rattle.ij_text.specs.declared.Place.{Place}
-use Rattle.grammar.specs.Symbol.{Parts, IsOne, ◌>>=◌, give, repeat}
-use Rattle.icl_syntax.specs.declared.tree.Sign.{Sign}
-use Rattle.icl_syntax.specs.declared.tree.Sign.TheVariants.{Plus, Minus, Times, Over, Rest}
+use Rattle.ij_text.specs.Symbol.{Parts, IsOne, ◌>>=◌, give, repeat}
+use Rattle.icl_lexer.specs.declared.tree.Sign.{Sign}
+use Rattle.icl_lexer.specs.declared.tree.Sign.TheVariants.{Plus, Minus, Times, Over, Rest}
 use Rattle.icl_lexer.specs.Seen.{SeenToken, is_mark}
-use Rattle.icl_syntax.specs.Values.{SeenExpr, ADecimal, ASized, AQuoted, AParam, AnOp}
-use Rattle.icl_syntax.specs.Grammar.{Of, Counted, Signed, Operand, operator, operand, with_operand, chain, sum_sign, product_sign, in_parentheses, factor, term, sum_of, leaf_at, expr, mark as a_mark}
+use Rattle.icl_lexer.specs.Values.{SeenExpr, ADecimal, ASized, AQuoted, AParam, AnOp}
+use Rattle.icl_lexer.specs.Grammar.{Of, Counted, Signed, Operand, operator, operand, with_operand, chain, sum_sign, product_sign, in_parentheses, factor, term, sum_of, leaf_at, expr, mark as a_mark}
 use Rattle.icl_printer.specs.Canonical.{binding, binding_of, formula_tokens}
 use Rattle.icl_printer.specs.Again.{spellings, AllSpelled, placeless_formula}
 use Rattle.icl_printer.proofs.Printed.{Printed, Law, p_last, turned, all_front, all_back, single}

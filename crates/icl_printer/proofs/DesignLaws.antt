@@ -1,14 +1,14 @@
 -- Items, modules and designs that are printed, derived again.
 use Rattle.std.proofs.Common.{◌≡◌, ℕ, true, false, List, [], ◌∷◌, Some, refl, sym, ap, subst}
 use Rattle.std.specs.Prelude.{codes}
-use Rattle.grammar.specs.Symbol.{one, ◌>>=◌, give}
-use Rattle.icl_syntax.specs.declared.tree.PortKind.TheVariants.{ScanInPort, ScanOutPort, DataInPort, DataOutPort, SelectPort, CaptureEnPort, ShiftEnPort, UpdateEnPort, ResetPort, TCKPort, TMSPort, TRSTPort, ClockPort, ToSelectPort, ToCaptureEnPort, ToShiftEnPort, ToUpdateEnPort, ToResetPort, ToTCKPort, ToTMSPort, ToTRSTPort, ToClockPort, ToIRSelectPort}
-use Rattle.icl_syntax.specs.declared.words.ItemKeyword.{ItemKeyword}
-use Rattle.icl_syntax.specs.declared.words.ItemKeyword.TheVariants.{OfPort, OfRegister, OfMux, OfChild, OfAlias, OfEnum, OfParameter, OfAttribute, OfInterface, OfLink}
+use Rattle.ij_text.specs.Symbol.{one, ◌>>=◌, give}
+use Rattle.icl_lexer.specs.declared.tree.PortKind.TheVariants.{ScanInPort, ScanOutPort, DataInPort, DataOutPort, SelectPort, CaptureEnPort, ShiftEnPort, UpdateEnPort, ResetPort, TCKPort, TMSPort, TRSTPort, ClockPort, ToSelectPort, ToCaptureEnPort, ToShiftEnPort, ToUpdateEnPort, ToResetPort, ToTCKPort, ToTMSPort, ToTRSTPort, ToClockPort, ToIRSelectPort}
+use Rattle.icl_lexer.specs.declared.words.ItemKeyword.{ItemKeyword}
+use Rattle.icl_lexer.specs.declared.words.ItemKeyword.TheVariants.{OfPort, OfRegister, OfMux, OfChild, OfAlias, OfEnum, OfParameter, OfAttribute, OfInterface, OfLink}
 use Rattle.icl_lexer.specs.Seen.{SeenToken}
-use Rattle.icl_syntax.specs.Words.{port_word, port_named, data_port_named, control_port_named, to_port_named, other_item_named, item_named}
-use Rattle.icl_syntax.specs.Values.{SeenWhat, APort, ARegister, AMux, AChild, AnAlias, SomeWords, AParameter, AnInterface, ALink, AnAttribute, SeenItem, SeenModule}
-use Rattle.icl_syntax.specs.Modules.{ItemBegin, item_begun, item_begin_at, meaning_behind, item, module_of, design}
+use Rattle.icl_lexer.specs.Words.{port_word, port_named, data_port_named, control_port_named, to_port_named, other_item_named, item_named}
+use Rattle.icl_lexer.specs.Values.{SeenWhat, APort, ARegister, AMux, AChild, AnAlias, SomeWords, AParameter, AnInterface, ALink, AnAttribute, SeenItem, SeenModule}
+use Rattle.icl_lexer.specs.Modules.{ItemBegin, item_begun, item_begin_at, meaning_behind, item, module_of, design}
 use Rattle.icl_printer.specs.Layout.{Spelling, word}
 use Rattle.icl_printer.specs.Canonical.{parameter_word, item_tokens, thing_tokens, module_tokens, tokens_of}
 use Rattle.icl_printer.specs.Again.{spellings, IsSpelled, AllSpelled, placeless_meaning, placeless_thing, placeless_block, placeless_design, PrintedTokensDeriveIt}

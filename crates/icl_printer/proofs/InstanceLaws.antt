@@ -3,19 +3,19 @@ use Rattle.std.proofs.Common.{◌≡◌, ℕ, List, [], ◌∷◌, ◌++◌, map
 use Rattle.std.specs.Prelude.{codes}
 use Rattle.std.specs.Option.{option_map}
 use Rattle.ij_text.specs.declared.Place.{Place}
-use Rattle.grammar.specs.Symbol.{one}
+use Rattle.ij_text.specs.Symbol.{one}
 use Rattle.icl_lexer.specs.declared.token.TokenKind.TheVariants.{Word}
-use Rattle.icl_syntax.specs.declared.tree.LinkKind.{LinkKind}
-use Rattle.icl_syntax.specs.declared.tree.LinkKind.TheVariants.{Std2001, Std2013}
-use Rattle.icl_syntax.specs.declared.words.BindKeyword.{BindKeyword}
-use Rattle.icl_syntax.specs.declared.words.BindKeyword.TheVariants.{BindsPort, BindsParameter, BindsAttribute}
-use Rattle.icl_syntax.specs.declared.words.MemberKeyword.{MemberKeyword}
-use Rattle.icl_syntax.specs.declared.words.MemberKeyword.TheVariants.{MemberPort, MemberAttribute}
+use Rattle.icl_lexer.specs.declared.tree.LinkKind.{LinkKind}
+use Rattle.icl_lexer.specs.declared.tree.LinkKind.TheVariants.{Std2001, Std2013}
+use Rattle.icl_lexer.specs.declared.words.BindKeyword.{BindKeyword}
+use Rattle.icl_lexer.specs.declared.words.BindKeyword.TheVariants.{BindsPort, BindsParameter, BindsAttribute}
+use Rattle.icl_lexer.specs.declared.words.MemberKeyword.{MemberKeyword}
+use Rattle.icl_lexer.specs.declared.words.MemberKeyword.TheVariants.{MemberPort, MemberAttribute}
 use Rattle.icl_lexer.specs.Seen.{SeenToken}
-use Rattle.icl_syntax.specs.Words.{link_word, link_named, bind_named, member_named}
-use Rattle.icl_syntax.specs.Values.{SeenBind, ABoundPort, ABoundParameter, ABoundAttribute, SeenEnumWord, SeenLinkInstr, SeenWhat, AChild, SomeWords, AnInterface, ALink}
-use Rattle.icl_syntax.specs.Grammar.{Of, ended_by, AttributeSaid}
-use Rattle.icl_syntax.specs.Modules.{BindBegin, begun_by, bind_begin_at, bound_port, bound_parameter, bound_attribute, bind_behind, bind, binds, braced as a_braced, child, enum_word, words, member_word_at, member_behind, member, with_member, interface, Selected, selected, selecting, instruction, link_kind_at, entity, link}
+use Rattle.icl_lexer.specs.Words.{link_word, link_named, bind_named, member_named}
+use Rattle.icl_lexer.specs.Values.{SeenBind, ABoundPort, ABoundParameter, ABoundAttribute, SeenEnumWord, SeenLinkInstr, SeenWhat, AChild, SomeWords, AnInterface, ALink}
+use Rattle.icl_lexer.specs.Grammar.{Of, ended_by, AttributeSaid}
+use Rattle.icl_lexer.specs.Modules.{BindBegin, begun_by, bind_begin_at, bound_port, bound_parameter, bound_attribute, bind_behind, bind, binds, braced as a_braced, child, enum_word, words, member_word_at, member_behind, member, with_member, interface, Selected, selected, selecting, instruction, link_kind_at, entity, link}
 use Rattle.icl_printer.specs.Layout.{Spelling, word, mark}
 use Rattle.icl_printer.specs.Canonical.{in_turn, behind, braced, if_there, name_tokens, formula_tokens, range_tokens, signals_tokens, binding_tokens, enum_tokens, member_tokens, instruction_tokens}
 use Rattle.icl_printer.specs.Again.{spellings, IsSpelled, AllSpelled, placeless_binding, placeless_word, placeless_meaning}

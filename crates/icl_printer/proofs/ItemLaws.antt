@@ -2,13 +2,13 @@
 use Rattle.std.proofs.Common.{◌≡◌, Bool, List, [], ◌∷◌, ◌++◌, map, Option, None, refl, sym, ap, subst}
 use Rattle.std.specs.Prelude.{codes}
 use Rattle.std.specs.Option.{option_map}
-use Rattle.icl_syntax.specs.declared.tree.PortKind.{PortKind}
-use Rattle.icl_syntax.specs.declared.words.BodyKind.{BodyKind}
-use Rattle.icl_syntax.specs.declared.words.BodyKind.TheVariants.{ScanIn, ScanOut, DataIn, DataOut, Control, Register, Alias}
+use Rattle.icl_lexer.specs.declared.tree.PortKind.{PortKind}
+use Rattle.icl_lexer.specs.declared.words.BodyKind.{BodyKind}
+use Rattle.icl_lexer.specs.declared.words.BodyKind.TheVariants.{ScanIn, ScanOut, DataIn, DataOut, Control, Register, Alias}
 use Rattle.icl_lexer.specs.Seen.{SeenToken}
-use Rattle.icl_syntax.specs.Values.{SeenExpr, SeenRange, SeenSig, SeenProp, SeenRow, SeenWhat, APort, ARegister, AMux, AnAlias, AParameter, AnAttribute}
-use Rattle.icl_syntax.specs.Grammar.{value, AttributeSaid, attribute_said}
-use Rattle.icl_syntax.specs.Modules.{owner_of, port_range, port, register, alias, parameter, attribute, row, rows, mux}
+use Rattle.icl_lexer.specs.Values.{SeenExpr, SeenRange, SeenSig, SeenProp, SeenRow, SeenWhat, APort, ARegister, AMux, AnAlias, AParameter, AnAttribute}
+use Rattle.icl_lexer.specs.Grammar.{value, AttributeSaid, attribute_said}
+use Rattle.icl_lexer.specs.Modules.{owner_of, port_range, port, register, alias, parameter, attribute, row, rows, mux}
 use Rattle.icl_printer.specs.Layout.{word, mark}
 use Rattle.icl_printer.specs.Canonical.{in_turn, behind, braced, if_there, formula_tokens, value_tokens, range_tokens, signals_tokens, property_tokens, row_tokens}
 use Rattle.icl_printer.specs.Again.{spellings, AllSpelled, placeless_formula, placeless_value, placeless_span, placeless_row, placeless_meaning}

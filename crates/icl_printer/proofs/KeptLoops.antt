@@ -1,9 +1,9 @@
 -- Lists that a loop makes of what it keeps, printed and derived again.
 use Rattle.std.proofs.Common.{◌≡◌, ℕ, zero, suc, List, [], ◌∷◌, ◌++◌, map, Option, Some, None, refl, sym, ap, ◌∙◌, subst, append_assoc, append-nil}
 use Rattle.std.specs.Option.{option_map}
-use Rattle.grammar.specs.Symbol.{repeat, Parts}
+use Rattle.ij_text.specs.Symbol.{repeat, Parts}
 use Rattle.icl_lexer.specs.Seen.{SeenToken}
-use Rattle.icl_syntax.specs.Grammar.{Of}
+use Rattle.icl_lexer.specs.Grammar.{Of}
 use Rattle.icl_printer.specs.Layout.{Spelling}
 use Rattle.icl_printer.specs.Canonical.{in_turn}
 use Rattle.icl_printer.specs.Again.{spellings, AllSpelled}

@@ -2,15 +2,15 @@
 use Rattle.std.proofs.Common.{◌≡◌, ◌≤◌, ◌-◌, ℕ, Bool, true, false, List, [], ◌∷◌, ◌++◌, length, drop, Option, Some, None, refl, sym, ap, ◌∙◌, subst, decimal}
 use Rattle.std.specs.Prelude.{slice_range}
 use Rattle.ij_text.specs.declared.Place.{Place}
-use Rattle.grammar.specs.Symbol.{one}
+use Rattle.ij_text.specs.Symbol.{one}
 use Rattle.icl_lexer.specs.declared.token.TokenKind.{TokenKind}
 use Rattle.icl_lexer.specs.declared.token.TokenKind.TheVariants.{Word, Decimal, Sized, Quoted, Param, Mark}
 use Rattle.icl_lexer.specs.declared.token.PieceKind.TheVariants.{Is}
 use Rattle.icl_lexer.specs.Pieces.{kind_of}
 use Rattle.ij_text.specs.Numbers.{decimal_from}
-use Rattle.icl_syntax.specs.Tokens.{decimal_of}
-use Rattle.icl_syntax.specs.Values.{SeenExpr, ADecimal, ASized, AQuoted, AParam, AnOp}
-use Rattle.icl_syntax.specs.Grammar.{Counted, leaf_of, leaf_at, with_count, as_decimal}
+use Rattle.icl_lexer.specs.Tokens.{decimal_of}
+use Rattle.icl_lexer.specs.Values.{SeenExpr, ADecimal, ASized, AQuoted, AParam, AnOp}
+use Rattle.icl_lexer.specs.Grammar.{Counted, leaf_of, leaf_at, with_count, as_decimal}
 use Rattle.icl_printer.specs.Canonical.{formula_tokens}
 use Rattle.icl_printer.proofs.Printed.{Printed, p_token}
 use Rattle.icl_printer.proofs.Bytes.{decimal_kind, decimal_again, small_is, inside_quotes, quoted_text, param_text}

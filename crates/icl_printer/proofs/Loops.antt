@@ -1,9 +1,9 @@
 -- Lists of parts, printed and derived again.
 use Rattle.std.proofs.Common.{◌≡◌, ◌==◌, ℕ, zero, suc, true, List, [], ◌∷◌, ◌++◌, map, Some, None, refl, sym, ap, ◌∙◌, subst, append_assoc, append-nil, inl, inr}
 use Rattle.std.specs.Option.{option_map}
-use Rattle.grammar.specs.Symbol.{give, ◌>>=◌, repeat, many, Parts, appended, maybe}
+use Rattle.ij_text.specs.Symbol.{give, ◌>>=◌, repeat, many, Parts, appended, maybe}
 use Rattle.icl_lexer.specs.Seen.{SeenToken}
-use Rattle.icl_syntax.specs.Grammar.{Of, mark as a_mark, parted}
+use Rattle.icl_lexer.specs.Grammar.{Of, mark as a_mark, parted}
 use Rattle.icl_printer.specs.Layout.{Spelling, mark}
 use Rattle.icl_printer.specs.Canonical.{in_turn, behind, separated, if_there}
 use Rattle.icl_printer.specs.Again.{spellings, IsSpelled, AllSpelled}

@@ -1,8 +1,8 @@
 -- The tokens of an operation, part by part.
 use Rattle.std.proofs.Common.{◌≡◌, ◌+◌, ℕ, Bool, List, ◌∷◌, ◌++◌, sym, ap, ◌∙◌, nat_lt}
 use Rattle.ij_text.specs.declared.Place.{Place}
-use Rattle.icl_syntax.specs.declared.tree.Sign.{Sign}
-use Rattle.icl_syntax.specs.Values.{SeenExpr, AnOp}
+use Rattle.icl_lexer.specs.declared.tree.Sign.{Sign}
+use Rattle.icl_lexer.specs.Values.{SeenExpr, AnOp}
 use Rattle.icl_printer.specs.Layout.{Spelling, mark}
 use Rattle.icl_printer.specs.Canonical.{binding, binding_of, sign_mark, in_parentheses, formula_tokens}
 

@@ -2,11 +2,11 @@
 use Rattle.std.proofs.Common.{◌≡◌, ◌==◌, ℕ, true, false, cond, List, [], ◌∷◌, ◌++◌, Option, Some, None, refl, ap, ◌∙◌, subst, append-nil, inl, inr}
 use Rattle.std.specs.Str.{bytes_eq}
 use Rattle.ij_text.specs.declared.Place.{Place}
-use Rattle.grammar.specs.Symbol.{one, give, ◌>>=◌, ◌<|>◌, IsOne}
+use Rattle.ij_text.specs.Symbol.{one, give, ◌>>=◌, ◌<|>◌, IsOne}
 use Rattle.icl_lexer.specs.declared.token.TokenKind.{TokenKind}
 use Rattle.icl_lexer.specs.declared.token.TokenKind.TheVariants.{Word, Decimal, Sized, Quoted, Param, Mark}
 use Rattle.icl_lexer.specs.Seen.{SeenToken, if_word, if_mark, is_byte, name_at}
-use Rattle.icl_syntax.specs.Grammar.{Of, name, mark as a_mark, word as a_word}
+use Rattle.icl_lexer.specs.Grammar.{Of, name, mark as a_mark, word as a_word}
 use Rattle.icl_printer.specs.Layout.{Spelling, word, mark}
 use Rattle.icl_printer.specs.Again.{spelling_of, spellings, IsSpelled, AllSpelled}
 

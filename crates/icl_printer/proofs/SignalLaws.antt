@@ -2,16 +2,16 @@
 use Rattle.std.proofs.Common.{◌≡◌, ◌==◌, ◌≤◌, ℕ, true, false, List, [], ◌∷◌, map, drop, Option, Some, None, refl, sym, ap, ◌∙◌, subst, inl, inr, decimal}
 use Rattle.std.specs.Option.{option_map}
 use Rattle.ij_text.specs.declared.Place.{Place}
-use Rattle.grammar.specs.Symbol.{one, ◌>>=◌, maybe}
+use Rattle.ij_text.specs.Symbol.{one, ◌>>=◌, maybe}
 use Rattle.icl_lexer.specs.declared.token.TokenKind.{TokenKind}
 use Rattle.icl_lexer.specs.declared.token.TokenKind.TheVariants.{Word, Decimal, Sized, Quoted, Param, Mark}
 use Rattle.icl_lexer.specs.declared.token.PieceKind.TheVariants.{Is}
 use Rattle.icl_lexer.specs.Pieces.{kind_of}
 use Rattle.ij_text.specs.Numbers.{decimal_from}
 use Rattle.icl_lexer.specs.Seen.{SeenToken, if_word}
-use Rattle.icl_syntax.specs.Tokens.{decimal_of}
-use Rattle.icl_syntax.specs.Values.{ADecimal, ASized, AParam, ANumber, APath}
-use Rattle.icl_syntax.specs.Grammar.{expr, value, range, expr_behind, Located, number_located, number_of, number_at, as_decimal, Named, named_at, name, path_behind, named_sig, plain_sig, sig, sigs, mark as a_mark}
+use Rattle.icl_lexer.specs.Tokens.{decimal_of}
+use Rattle.icl_lexer.specs.Values.{ADecimal, ASized, AParam, ANumber, APath}
+use Rattle.icl_lexer.specs.Grammar.{expr, value, range, expr_behind, Located, number_located, number_of, number_at, as_decimal, Named, named_at, name, path_behind, named_sig, plain_sig, sig, sigs, mark as a_mark}
 use Rattle.icl_printer.specs.Layout.{Spelling, word, mark}
 use Rattle.icl_printer.specs.Canonical.{behind, if_there, formula_tokens, value_tokens, range_tokens, name_tokens, meant_tokens, signal_tokens, signals_tokens}
 use Rattle.icl_printer.specs.Again.{spellings, IsSpelled, AllSpelled, placeless_formula, placeless_value, placeless_span, placeless_meant, placeless_signal, placeless_signals}

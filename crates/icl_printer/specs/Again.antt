@@ -6,8 +6,8 @@ use Rattle.icl_lexer.specs.declared.token.PieceKind.TheVariants.{Is}
 use Rattle.icl_lexer.specs.Pieces.{kind_of}
 use Rattle.icl_lexer.specs.Cutting.{AreTokens}
 use Rattle.icl_lexer.specs.Seen.{SeenToken, seen_tokens}
-use Rattle.icl_syntax.specs.Values.{SeenExpr, ADecimal, ASized, AQuoted, AParam, AnOp, SeenRange, SeenSigWhat, ANumber, APath, SeenSig, SeenProp, ASource, ALaunchEdge, ALoadValue, ARefEnum, APolarity, AScanInSource, ACaptureSource, AResetValue, ATogether, SeenRow, SeenBind, ABoundPort, ABoundParameter, ABoundAttribute, SeenEnumWord, SeenWhat, APort, ARegister, AMux, AChild, AnAlias, SomeWords, AParameter, AnInterface, ALink, AnAttribute, SeenItem, SeenModule}
-use Rattle.icl_syntax.specs.Modules.{design}
+use Rattle.icl_lexer.specs.Values.{SeenExpr, ADecimal, ASized, AQuoted, AParam, AnOp, SeenRange, SeenSigWhat, ANumber, APath, SeenSig, SeenProp, ASource, ALaunchEdge, ALoadValue, ARefEnum, APolarity, AScanInSource, ACaptureSource, AResetValue, ATogether, SeenRow, SeenBind, ABoundPort, ABoundParameter, ABoundAttribute, SeenEnumWord, SeenWhat, APort, ARegister, AMux, AChild, AnAlias, SomeWords, AParameter, AnInterface, ALink, AnAttribute, SeenItem, SeenModule}
+use Rattle.icl_lexer.specs.Modules.{design}
 use Rattle.icl_printer.specs.Layout.{Spelling}
 use Rattle.icl_printer.specs.Canonical.{tokens_of, design_text}
 use Rattle.ij_text.specs.Places.{no_place}

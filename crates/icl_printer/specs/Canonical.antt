@@ -1,12 +1,12 @@
 -- The tokens of a design, as it is printed.
 use Rattle.std.specs.Prelude.{ℕ, ◌+◌, nat_lt, Bool, true, false, List, [], ◌∷◌, ◌++◌, Option, Some, None, codes, decimal}
 use Rattle.icl_lexer.specs.declared.token.TokenKind.TheVariants as kind
-use Rattle.icl_syntax.specs.declared.tree.Sign.{Sign}
-use Rattle.icl_syntax.specs.declared.tree.Sign.TheVariants.{Plus, Minus, Times, Over, Rest}
-use Rattle.icl_syntax.specs.declared.tree.LinkKind.{LinkKind}
-use Rattle.icl_syntax.specs.declared.tree.PortKind.{PortKind}
-use Rattle.icl_syntax.specs.Words.{port_word, link_word}
-use Rattle.icl_syntax.specs.Values.{SeenExpr, ADecimal, ASized, AQuoted, AParam, AnOp, SeenRange, SeenSigWhat, ANumber, APath, SeenSig, SeenProp, ASource, ALaunchEdge, ALoadValue, ARefEnum, APolarity, AScanInSource, ACaptureSource, AResetValue, ATogether, SeenRow, SeenBind, ABoundPort, ABoundParameter, ABoundAttribute, SeenEnumWord, SeenLinkInstr, SeenWhat, APort, ARegister, AMux, AChild, AnAlias, SomeWords, AParameter, AnInterface, ALink, AnAttribute, SeenItem, SeenModule}
+use Rattle.icl_lexer.specs.declared.tree.Sign.{Sign}
+use Rattle.icl_lexer.specs.declared.tree.Sign.TheVariants.{Plus, Minus, Times, Over, Rest}
+use Rattle.icl_lexer.specs.declared.tree.LinkKind.{LinkKind}
+use Rattle.icl_lexer.specs.declared.tree.PortKind.{PortKind}
+use Rattle.icl_lexer.specs.Words.{port_word, link_word}
+use Rattle.icl_lexer.specs.Values.{SeenExpr, ADecimal, ASized, AQuoted, AParam, AnOp, SeenRange, SeenSigWhat, ANumber, APath, SeenSig, SeenProp, ASource, ALaunchEdge, ALoadValue, ARefEnum, APolarity, AScanInSource, ACaptureSource, AResetValue, ATogether, SeenRow, SeenBind, ABoundPort, ABoundParameter, ABoundAttribute, SeenEnumWord, SeenLinkInstr, SeenWhat, APort, ARegister, AMux, AChild, AnAlias, SomeWords, AParameter, AnInterface, ALink, AnAttribute, SeenItem, SeenModule}
 use Rattle.icl_printer.specs.Layout.{Spelling, word, mark, layout}
 
 -- ---- lists of parts

@@ -1,8 +1,8 @@
 -- Designs and their texts.
 use Rattle.std.specs.Prelude.{◌≡◌, true, false, [], ◌∷◌, ◌++◌, Some, None, codes, refl}
-use Rattle.icl_syntax.specs.declared.tree.PortKind.TheVariants.{ScanInPort}
-use Rattle.icl_syntax.specs.declared.tree.Sign.TheVariants.{Plus, Minus, Times}
-use Rattle.icl_syntax.specs.Values.{SeenExpr, ASized, AParam, AnOp, APath, SeenSig, AScanInSource, ACaptureSource, APort, ARegister, AChild, AnInterface}
+use Rattle.icl_lexer.specs.declared.tree.PortKind.TheVariants.{ScanInPort}
+use Rattle.icl_lexer.specs.declared.tree.Sign.TheVariants.{Plus, Minus, Times}
+use Rattle.icl_lexer.specs.Values.{SeenExpr, ASized, AParam, AnOp, APath, SeenSig, AScanInSource, ACaptureSource, APort, ARegister, AChild, AnInterface}
 use Rattle.icl_printer.specs.Layout.{layout}
 use Rattle.icl_printer.specs.Canonical.{formula_tokens, item_tokens, tokens_of, design_text}
 use Rattle.ij_text.specs.Places.{no_place}

@@ -4,14 +4,14 @@ ghost use Rattle.std.specs.Option.{option_map};
 ghost use Rattle.ij_bits.specs.Room.{seen_list};
 ghost use Rattle.ij_io.specs.Bytes.{Adds, AddsPart};
 ghost use Rattle.ij_io.specs.Causes.{HasCause};
-ghost use Rattle.icl_syntax.specs.Words.{port_word};
+ghost use Rattle.icl_lexer.specs.Words.{port_word};
 ghost use Rattle.icl_printer.specs.Layout.{word, layout};
 ghost use Rattle.icl_printer.specs.Canonical.{port_tokens, register_tokens, alias_tokens};
-ghost use Rattle.icl_syntax.specs.Views.{seen_prop, seen_range, seen_sig};
+ghost use Rattle.icl_lexer.specs.Views.{seen_prop, seen_range, seen_sig};
 
 use crate::put::{Put, put_braced};
 use crate::token::{Piece, put_tokens};
-use icl_syntax::{PortKind, Prop, Range, Sig, SmallText};
+use icl_lexer::{PortKind, Prop, Range, Sig, SmallText};
 use ij_bits::List;
 use ij_io::{Sink, StoreFault};
 

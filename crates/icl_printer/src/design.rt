@@ -2,18 +2,18 @@
 ghost use Rattle.std.specs.Prelude.{OnOk, OnErr};
 ghost use Rattle.ij_io.specs.Bytes.{Adds, AddsPart};
 ghost use Rattle.ij_io.specs.Causes.{HasCause};
-ghost use Rattle.icl_syntax.specs.Views.{seen_design};
+ghost use Rattle.icl_lexer.specs.Views.{seen_design};
 ghost use Rattle.icl_printer.specs.Canonical.{design_text};
 
 use crate::put::{Put, put_all};
 use crate::token::{Piece, put_tokens};
-use icl_syntax::{Design, Module};
+use icl_lexer::{Design, Module};
 use ij_io::{Sink, StoreFault};
 
 /// A module.
 impl Put for Module {
-    ghost use Rattle.icl_syntax.specs.Values.{SeenModule};
-    ghost use Rattle.icl_syntax.specs.Views.{seen_module};
+    ghost use Rattle.icl_lexer.specs.Values.{SeenModule};
+    ghost use Rattle.icl_lexer.specs.Views.{seen_module};
     ghost use Rattle.icl_printer.specs.Canonical.{module_tokens};
 
     ghost Plain = { SeenModule };

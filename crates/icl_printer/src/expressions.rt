@@ -4,11 +4,11 @@ ghost use Rattle.ij_io.specs.Bytes.{Adds, AddsPart};
 ghost use Rattle.ij_io.specs.Causes.{HasCause};
 ghost use Rattle.icl_printer.specs.Layout.{layout};
 ghost use Rattle.icl_printer.specs.Canonical.{sign_mark, binding_of, binding, formula_tokens};
-ghost use Rattle.icl_syntax.specs.Views.{seen_expr};
+ghost use Rattle.icl_lexer.specs.Views.{seen_expr};
 
 use crate::put::{Put, put_if_there_behind, put_mark_if, put_separated};
 use crate::token::{Piece, put_tokens};
-use icl_syntax::{Expr, Few, Range, Sign};
+use icl_lexer::{Expr, Few, Range, Sign};
 use ij_io::{Sink, StoreFault};
 
 /// The mark of an operator.
@@ -81,8 +81,8 @@ fn put_expr<K: Sink>(expr: &Expr, k: &mut K) -> Result<(), StoreFault>
 
 /// An expression.
 impl Put for Expr {
-    ghost use Rattle.icl_syntax.specs.Values.{SeenExpr};
-    ghost use Rattle.icl_syntax.specs.Views.{seen_expr};
+    ghost use Rattle.icl_lexer.specs.Values.{SeenExpr};
+    ghost use Rattle.icl_lexer.specs.Views.{seen_expr};
     ghost use Rattle.icl_printer.specs.Canonical.{formula_tokens};
 
     ghost Plain = { SeenExpr };
@@ -100,8 +100,8 @@ impl Put for Expr {
 /// The numbers of a concatenation.
 impl Put for Few<Expr> {
     ghost use Rattle.std.specs.Prelude.{List};
-    ghost use Rattle.icl_syntax.specs.Values.{SeenExpr};
-    ghost use Rattle.icl_syntax.specs.Views.{seen_expr, seen_few};
+    ghost use Rattle.icl_lexer.specs.Values.{SeenExpr};
+    ghost use Rattle.icl_lexer.specs.Views.{seen_expr, seen_few};
     ghost use Rattle.icl_printer.specs.Canonical.{value_tokens};
 
     ghost Plain = { List SeenExpr };
@@ -118,8 +118,8 @@ impl Put for Few<Expr> {
 
 /// A range.
 impl Put for Range {
-    ghost use Rattle.icl_syntax.specs.Values.{SeenRange};
-    ghost use Rattle.icl_syntax.specs.Views.{seen_range};
+    ghost use Rattle.icl_lexer.specs.Values.{SeenRange};
+    ghost use Rattle.icl_lexer.specs.Views.{seen_range};
     ghost use Rattle.icl_printer.specs.Canonical.{range_tokens};
 
     ghost Plain = { SeenRange };

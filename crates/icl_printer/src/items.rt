@@ -3,16 +3,16 @@ ghost use Rattle.std.specs.Prelude.{◌≡◌, OnOk, OnErr};
 ghost use Rattle.ij_bits.specs.Room.{seen_list};
 ghost use Rattle.ij_io.specs.Bytes.{Adds, AddsPart};
 ghost use Rattle.ij_io.specs.Causes.{HasCause};
-ghost use Rattle.icl_syntax.specs.Words.{link_word};
+ghost use Rattle.icl_lexer.specs.Words.{link_word};
 ghost use Rattle.icl_printer.specs.Layout.{layout};
 ghost use Rattle.icl_printer.specs.Canonical.{mux_tokens, child_tokens, words_tokens, parameter_tokens, parameter_word, interface_tokens, in_turn, member_tokens, link_tokens};
-ghost use Rattle.icl_syntax.specs.Views.{bytes_of, seen_bind, seen_enum_word, seen_expr, seen_instr, seen_row, seen_sig};
+ghost use Rattle.icl_lexer.specs.Views.{bytes_of, seen_bind, seen_enum_word, seen_expr, seen_instr, seen_row, seen_sig};
 
 use crate::bodies::{put_alias, put_named, put_port, put_register};
 use crate::parts::put_attribute;
 use crate::put::{Put, put_all, put_braced};
 use crate::token::{Piece, put_tokens};
-use icl_syntax::{Bind, EnumWord, Expr, Item, LinkInstr, LinkKind, MuxRow, Sig, SmallText, What};
+use icl_lexer::{Bind, EnumWord, Expr, Item, LinkInstr, LinkKind, MuxRow, Sig, SmallText, What};
 use ij_bits::List;
 use ij_io::{Sink, StoreFault};
 
@@ -181,8 +181,8 @@ fn put_link<K: Sink>(
 
 /// An item.
 impl Put for Item {
-    ghost use Rattle.icl_syntax.specs.Values.{SeenItem};
-    ghost use Rattle.icl_syntax.specs.Views.{seen_item};
+    ghost use Rattle.icl_lexer.specs.Values.{SeenItem};
+    ghost use Rattle.icl_lexer.specs.Views.{seen_item};
     ghost use Rattle.icl_printer.specs.Canonical.{thing_tokens};
 
     ghost Plain = { SeenItem };

@@ -6,19 +6,19 @@ ghost use Rattle.std.specs.Option.{option_map};
 ghost use Rattle.ij_bits.specs.Room.{seen_list};
 ghost use Rattle.icl_printer.specs.Layout.{layout};
 ghost use Rattle.icl_printer.specs.Canonical.{attribute_tokens, port_binding_tokens, parameter_binding_tokens};
-ghost use Rattle.icl_syntax.specs.Views.{seen_expr, seen_range, seen_sig};
+ghost use Rattle.icl_lexer.specs.Views.{seen_expr, seen_range, seen_sig};
 
 use crate::put::{Put, put_if_there_behind, put_separated};
 use crate::token::{Piece, put_tokens};
-use icl_syntax::{Bind, EnumWord, Expr, Few, LinkInstr, MuxRow, Range, Sig, SmallText};
+use icl_lexer::{Bind, EnumWord, Expr, Few, LinkInstr, MuxRow, Range, Sig, SmallText};
 use ij_bits::List;
 use ij_io::{Sink, StoreFault};
 
 /// The values that select a row.
 impl Put for Few<Few<Expr>> {
     ghost use Rattle.std.specs.Prelude.{List};
-    ghost use Rattle.icl_syntax.specs.Values.{SeenExpr};
-    ghost use Rattle.icl_syntax.specs.Views.{seen_expr, seen_few};
+    ghost use Rattle.icl_lexer.specs.Values.{SeenExpr};
+    ghost use Rattle.icl_lexer.specs.Views.{seen_expr, seen_few};
     ghost use Rattle.icl_printer.specs.Canonical.{separated, value_tokens};
 
     ghost Plain = { List (List SeenExpr) };
@@ -35,8 +35,8 @@ impl Put for Few<Few<Expr>> {
 
 /// A row of a multiplexer.
 impl Put for MuxRow {
-    ghost use Rattle.icl_syntax.specs.Values.{SeenRow};
-    ghost use Rattle.icl_syntax.specs.Views.{seen_row};
+    ghost use Rattle.icl_lexer.specs.Values.{SeenRow};
+    ghost use Rattle.icl_lexer.specs.Views.{seen_row};
     ghost use Rattle.icl_printer.specs.Canonical.{row_tokens};
 
     ghost Plain = { SeenRow };
@@ -114,8 +114,8 @@ fn put_parameter_binding<K: Sink>(
 
 /// What an instance binds.
 impl Put for Bind {
-    ghost use Rattle.icl_syntax.specs.Values.{SeenBind};
-    ghost use Rattle.icl_syntax.specs.Views.{seen_bind};
+    ghost use Rattle.icl_lexer.specs.Values.{SeenBind};
+    ghost use Rattle.icl_lexer.specs.Views.{seen_bind};
     ghost use Rattle.icl_printer.specs.Canonical.{binding_tokens};
 
     ghost Plain = { SeenBind };
@@ -141,8 +141,8 @@ impl Put for Bind {
 
 /// A word of an `Enum`.
 impl Put for EnumWord {
-    ghost use Rattle.icl_syntax.specs.Values.{SeenEnumWord};
-    ghost use Rattle.icl_syntax.specs.Views.{seen_enum_word};
+    ghost use Rattle.icl_lexer.specs.Values.{SeenEnumWord};
+    ghost use Rattle.icl_lexer.specs.Views.{seen_enum_word};
     ghost use Rattle.icl_printer.specs.Canonical.{enum_tokens};
 
     ghost Plain = { SeenEnumWord };
@@ -162,8 +162,8 @@ impl Put for EnumWord {
 
 /// An instruction of a link.
 impl Put for LinkInstr {
-    ghost use Rattle.icl_syntax.specs.Values.{SeenLinkInstr};
-    ghost use Rattle.icl_syntax.specs.Views.{seen_instr};
+    ghost use Rattle.icl_lexer.specs.Values.{SeenLinkInstr};
+    ghost use Rattle.icl_lexer.specs.Views.{seen_instr};
     ghost use Rattle.icl_printer.specs.Canonical.{instruction_tokens};
 
     ghost Plain = { SeenLinkInstr };

@@ -6,7 +6,7 @@ ghost use Rattle.icl_printer.specs.Layout.{word, mark, layout};
 
 use crate::put::{Put, put_word};
 use crate::token::{Piece, put_tokens};
-use icl_syntax::Prop;
+use icl_lexer::Prop;
 use ij_io::{Sink, StoreFault};
 
 /// Writes a property's word, what stands behind it, and `;`.
@@ -23,8 +23,8 @@ fn put_property<T: Put, K: Sink>(name: &[u8], part: &T, k: &mut K) -> Result<(),
 
 /// A property.
 impl Put for Prop {
-    ghost use Rattle.icl_syntax.specs.Values.{SeenProp};
-    ghost use Rattle.icl_syntax.specs.Views.{seen_prop};
+    ghost use Rattle.icl_lexer.specs.Values.{SeenProp};
+    ghost use Rattle.icl_lexer.specs.Views.{seen_prop};
     ghost use Rattle.icl_printer.specs.Canonical.{property_tokens};
 
     ghost Plain = { SeenProp };

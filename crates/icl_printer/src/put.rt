@@ -28,7 +28,7 @@ pub(crate) trait Put {
 }
 
 /// Writes parts one after the other.
-pub(crate) fn put_all<T: Put + Drop, K: Sink>(parts: &List<T>, k: &mut K) -> Result<(), StoreFault>
+pub(crate) fn put_all<T: Put, K: Sink>(parts: &List<T>, k: &mut K) -> Result<(), StoreFault>
     ensures whole { OnOk result (Adds (K.taken k.old) (K.taken k.new) (layout (in_turn T.tokens (map T.view parts.now.items)))) }
     ensures part { OnErr result (AddsPart (K.taken k.old) (K.taken k.new) (layout (in_turn T.tokens (map T.view parts.now.items)))) }
     ensures cause { HasCause (K.faults k.old) (K.faults k.new) result StoreFault.Failed }
@@ -40,11 +40,7 @@ pub(crate) fn put_all<T: Put + Drop, K: Sink>(parts: &List<T>, k: &mut K) -> Res
 }
 
 /// Writes parts, each behind a mark.
-fn put_each_behind<T: Put + Drop, K: Sink>(
-    mark: u8,
-    parts: &[T],
-    k: &mut K,
-) -> Result<(), StoreFault>
+fn put_each_behind<T: Put, K: Sink>(mark: u8, parts: &[T], k: &mut K) -> Result<(), StoreFault>
     ensures whole { OnOk result (Adds (K.taken k.old) (K.taken k.new) (layout (in_turn (behind mark T.tokens) (map T.view parts.now)))) }
     ensures part { OnErr result (AddsPart (K.taken k.old) (K.taken k.new) (layout (in_turn (behind mark T.tokens) (map T.view parts.now)))) }
     ensures cause { HasCause (K.faults k.old) (K.faults k.new) result StoreFault.Failed }
@@ -67,7 +63,7 @@ pub(crate) fn put_behind<T: Put, K: Sink>(mark: u8, part: &T, k: &mut K) -> Resu
 }
 
 /// Writes parts with a mark between two.
-pub(crate) fn put_separated<T: Put + Drop, K: Sink>(
+pub(crate) fn put_separated<T: Put, K: Sink>(
     mark: u8,
     parts: &[T],
     k: &mut K,
@@ -84,10 +80,7 @@ pub(crate) fn put_separated<T: Put + Drop, K: Sink>(
 }
 
 /// Writes parts in braces, or `;` where there is none.
-pub(crate) fn put_braced<T: Put + Drop, K: Sink>(
-    parts: &List<T>,
-    k: &mut K,
-) -> Result<(), StoreFault>
+pub(crate) fn put_braced<T: Put, K: Sink>(parts: &List<T>, k: &mut K) -> Result<(), StoreFault>
     ensures whole { OnOk result (Adds (K.taken k.old) (K.taken k.new) (layout (braced T.tokens (map T.view parts.now.items)))) }
     ensures part { OnErr result (AddsPart (K.taken k.old) (K.taken k.new) (layout (braced T.tokens (map T.view parts.now.items)))) }
     ensures cause { HasCause (K.faults k.old) (K.faults k.new) result StoreFault.Failed }

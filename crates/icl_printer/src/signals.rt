@@ -1,14 +1,14 @@
 // Names and signals.
 use crate::put::{Put, put_mark_if, put_separated};
 use crate::token::{Piece, put_tokens};
-use icl_syntax::{Few, Sig, SigWhat, SmallText};
+use icl_lexer::{Few, Sig, SigWhat, SmallText};
 use ij_bits::List;
 use ij_io::{Sink, StoreFault};
 
 /// A name.
 impl Put for SmallText {
     ghost use Rattle.std.specs.Prelude.{ℕ, List};
-    ghost use Rattle.icl_syntax.specs.Views.{bytes_of};
+    ghost use Rattle.icl_lexer.specs.Views.{bytes_of};
     ghost use Rattle.icl_printer.specs.Canonical.{name_tokens};
 
     ghost Plain = { List ℕ };
@@ -26,7 +26,7 @@ impl Put for SmallText {
 /// A path.
 impl Put for Few<SmallText> {
     ghost use Rattle.std.specs.Prelude.{ℕ, List};
-    ghost use Rattle.icl_syntax.specs.Views.{bytes_of, seen_few};
+    ghost use Rattle.icl_lexer.specs.Views.{bytes_of, seen_few};
     ghost use Rattle.icl_printer.specs.Canonical.{name_tokens, separated};
 
     ghost Plain = { List (List ℕ) };
@@ -43,8 +43,8 @@ impl Put for Few<SmallText> {
 
 /// A number, or a path.
 impl Put for SigWhat {
-    ghost use Rattle.icl_syntax.specs.Values.{SeenSigWhat};
-    ghost use Rattle.icl_syntax.specs.Views.{seen_sig_what};
+    ghost use Rattle.icl_lexer.specs.Values.{SeenSigWhat};
+    ghost use Rattle.icl_lexer.specs.Views.{seen_sig_what};
     ghost use Rattle.icl_printer.specs.Canonical.{meant_tokens};
 
     ghost Plain = { SeenSigWhat };
@@ -67,8 +67,8 @@ impl Put for SigWhat {
 
 /// A signal.
 impl Put for Sig {
-    ghost use Rattle.icl_syntax.specs.Values.{SeenSig};
-    ghost use Rattle.icl_syntax.specs.Views.{seen_sig};
+    ghost use Rattle.icl_lexer.specs.Values.{SeenSig};
+    ghost use Rattle.icl_lexer.specs.Views.{seen_sig};
     ghost use Rattle.icl_printer.specs.Canonical.{signal_tokens};
 
     ghost Plain = { SeenSig };
@@ -87,9 +87,9 @@ impl Put for Sig {
 /// Signals, the leftmost first.
 impl Put for List<Sig> {
     ghost use Rattle.std.specs.Prelude.{List};
-    ghost use Rattle.icl_syntax.specs.Values.{SeenSig};
+    ghost use Rattle.icl_lexer.specs.Values.{SeenSig};
     ghost use Rattle.ij_bits.specs.Room.{seen_list};
-    ghost use Rattle.icl_syntax.specs.Views.{seen_sig};
+    ghost use Rattle.icl_lexer.specs.Views.{seen_sig};
     ghost use Rattle.icl_printer.specs.Canonical.{signals_tokens};
 
     ghost Plain = { List SeenSig };

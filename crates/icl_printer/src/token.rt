@@ -5,7 +5,7 @@ ghost use Rattle.ij_io.specs.Causes.{HasCause};
 ghost use Rattle.icl_printer.specs.Layout.{layout, gap_behind, with_blank};
 ghost use Rattle.icl_printer.specs.Pieces.{spelled};
 
-use icl_syntax::SmallText;
+use icl_lexer::SmallText;
 use ij_io::{Sink, StoreFault, Word, put_words};
 
 /// A token to be written.

@@ -6,7 +6,7 @@ use Rattle.std.specs.Option.{option_map}
 use Rattle.std.specs.Str.{bytes_eq}
 use Rattle.ij_text.specs.declared.Place.{Place}
 use Rattle.ij_text.specs.Options.{or_else}
-use Rattle.icl_values.specs.Faults.{Answer, WrongKind}
+use Rattle.icl_declarations.specs.Faults.{Answer, WrongKind}
 use Rattle.icl_frames.specs.FirstPass.{Frame}
 use Rattle.icl_declarations.specs.declared.scope.Scope.{Scope}
 use Rattle.icl_references.specs.Names.{Here, is_in, is_child_cell, child_cell, known_cell}

@@ -1,7 +1,7 @@
 -- The digits of numbers, one after another.
 use Rattle.std.proofs.Common.{◌≡◌, ◌+◌, ◌<◌, ◌≤◌, ℕ, zero, suc, Bool, true, false, List, [], ◌∷◌, ◌++◌, length, map, min, get_or, take, drop, Option, Some, refl, ◌∙◌, arith}
 use Rattle.std.specs.Prelude.{◌&&◌}
-use Rattle.icl_values.specs.Values.{OpenBits}
+use Rattle.icl_declarations.specs.Values.{OpenBits}
 use Rattle.icl_frames.proofs.Passing.{taken_more}
 use Rattle.icl_references.specs.Muxes.{meet, meet_at}
 use Rattle.std.proofs.lemmas.List.{get_or_default}

@@ -2,7 +2,7 @@
 use Rattle.std.proofs.Common.{◌≡◌, ◌+◌, ◌<◌, ℕ, zero, suc, Bool, true, false, cond, List, [], ◌∷◌, length, get_or, drop, Option, Some, None, refl, sym, subst, arith}
 use Rattle.std.specs.Prelude.{◌&&◌, filter, find}
 use Rattle.std.specs.Str.{bytes_eq}
-use Rattle.icl_syntax.specs.Values.{SeenItem}
+use Rattle.icl_lexer.specs.Values.{SeenItem}
 use Rattle.icl_declarations.specs.declared.ranges.Bounds.{Bounds}
 use Rattle.icl_declarations.specs.Parts.{is_part, is_signal}
 use Rattle.icl_declarations.specs.Ranges.{one_bit}

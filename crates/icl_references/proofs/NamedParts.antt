@@ -2,9 +2,9 @@
 use Rattle.std.proofs.Common.{◌≡◌, ◌<◌, ℕ, List, length, map, get_or, Option, Some, None, Ok, Err, sym, ap, subst, ◌∙◌, arith}
 use Rattle.std.proofs.lemmas.List.{get_or-map, length-map}
 use Rattle.ij_text.specs.declared.Place.{Place}
-use Rattle.icl_syntax.specs.Values.{SeenItem}
-use Rattle.icl_syntax.specs.Views.{seen_item}
-use Rattle.icl_values.specs.Faults.{NoName}
+use Rattle.icl_lexer.specs.Values.{SeenItem}
+use Rattle.icl_lexer.specs.Views.{seen_item}
+use Rattle.icl_declarations.specs.Faults.{NoName}
 use Rattle.icl_frames.specs.FirstPass.{Frame}
 use Rattle.icl_declarations.specs.Parts.{is_signal}
 use Rattle.icl_declarations.specs.Scopes.{entry_of}

@@ -3,7 +3,7 @@ use Rattle.std.proofs.Common.{◌≡◌, Bool, true, false, cond, List, [], ◌�
 use Rattle.std.specs.Prelude.{not, ◌&&◌, ◌||◌, filter}
 use Rattle.std.specs.List.{list_any}
 use Rattle.std.specs.Str.{bytes_eq}
-use Rattle.icl_values.specs.Values.{OpenBits}
+use Rattle.icl_declarations.specs.Values.{OpenBits}
 use Rattle.icl_references.specs.Muxes.{meet, rows_meet, some_meet}
 use Rattle.icl_references.specs.Overlaps.{AreRowsAlike, AreWide, from_left, has_key, is_closed, key_of, values_meet}
 use Rattle.icl_references.specs.Roles.{Choice}

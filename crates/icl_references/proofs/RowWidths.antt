@@ -1,11 +1,11 @@
 -- The values of rows are as wide as the select.
 use Rattle.std.proofs.Common.{◌≡◌, ℕ, List, [], length, Ok, subst}
 use Rattle.ij_text.specs.declared.Place.{Place}
-use Rattle.icl_syntax.specs.Values.{SeenRow}
-use Rattle.icl_values.specs.Faults.{each}
-use Rattle.icl_values.specs.Values.{OpenBits}
-use Rattle.icl_values.specs.Widths.{value_in}
-use Rattle.icl_values.proofs.ValueWidths.{value_wide}
+use Rattle.icl_lexer.specs.Values.{SeenRow}
+use Rattle.icl_declarations.specs.Faults.{each}
+use Rattle.icl_declarations.specs.Values.{OpenBits}
+use Rattle.icl_declarations.specs.Widths.{value_in}
+use Rattle.icl_declarations.proofs.ValueWidths.{value_wide}
 use Rattle.icl_frames.proofs.Answering.{both, each_all, ok_is}
 use Rattle.icl_frames.specs.FirstPass.{Frame}
 use Rattle.icl_references.specs.Muxes.{row_in}

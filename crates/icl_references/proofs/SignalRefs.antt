@@ -2,11 +2,11 @@
 use Rattle.std.proofs.Common.{◌≡◌, ◌==◌, ℕ, Bool, true, false, not, cond, ◌||◌, List, length, Option, None, Ok, Err, refl, sym, ap, subst, ◌∙◌, arith}
 use Rattle.std.specs.List.{AllByRecursion}
 use Rattle.ij_text.specs.declared.Place.{Place}
-use Rattle.icl_syntax.specs.Values.{SeenRange, SeenSigWhat, ANumber, APath, SeenSig}
-use Rattle.icl_values.specs.Faults.{Answer, refuse_if, each, WidthDiffers, WrongKind}
-use Rattle.icl_values.specs.Values.{OpenBits}
-use Rattle.icl_values.specs.Expressions.{evaluate, place_in}
-use Rattle.icl_values.specs.Widths.{joined}
+use Rattle.icl_lexer.specs.Values.{SeenRange, SeenSigWhat, ANumber, APath, SeenSig}
+use Rattle.icl_declarations.specs.Faults.{Answer, refuse_if, each, WidthDiffers, WrongKind}
+use Rattle.icl_declarations.specs.Values.{OpenBits}
+use Rattle.icl_declarations.specs.Expressions.{evaluate, place_in}
+use Rattle.icl_declarations.specs.Widths.{joined}
 use Rattle.icl_references.specs.declared.hier.Ref.{Ref}
 use Rattle.icl_declarations.specs.Parts.{is_register, is_data_port}
 use Rattle.std.proofs.lemmas.Bool.{eqb-true}

@@ -1,10 +1,10 @@
 -- Paths, one name after another.
 use Rattle.std.proofs.Common.{◌≡◌, ◌+◌, ◌<◌, ℕ, List, [], ◌∷◌, ◌++◌, length, map, get_or, drop, Option, Some, None, Result, Ok, Err, refl, sym, ap, ◌∙◌}
-use Rattle.icl_syntax.specs.Held.{Items}
-use Rattle.icl_syntax.specs.Views.{bytes_of}
+use Rattle.icl_lexer.specs.Held.{Items}
+use Rattle.icl_lexer.specs.Views.{bytes_of}
 use Rattle.ij_text.specs.declared.Place.{Place}
-use Rattle.icl_values.specs.Faults.{Answer, Fault, Fails, ◌>>=◌}
-use Rattle.icl_values.proofs.Each.{fails_along}
+use Rattle.icl_declarations.specs.Faults.{Answer, Fault, Fails, ◌>>=◌}
+use Rattle.icl_declarations.proofs.Each.{fails_along}
 use Rattle.icl_frames.specs.FirstPass.{Frame}
 use Rattle.icl_references.specs.Names.{Here, Target, named, inside, path_from}
 use Rattle.icl_references.specs.Targets.{child_named}

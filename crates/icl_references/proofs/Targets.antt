@@ -5,9 +5,9 @@ use Rattle.std.specs.List.{AllByRecursion, enumerate_from, range_with_len}
 use Rattle.std.proofs.lemmas.Bool.{leb-true, and_parts, or_cases}
 use Rattle.std.proofs.lemmas.Bool.Decides.{leb_tells}
 use Rattle.ij_text.specs.declared.Place.{Place}
-use Rattle.icl_syntax.specs.Values.{SeenRange, SeenWhat, APort, ARegister, AMux, AChild, AnAlias, SomeWords, AParameter, AnInterface, ALink, AnAttribute, SeenItem}
-use Rattle.icl_values.specs.Faults.{Answer, BadRange}
-use Rattle.icl_values.specs.Values.{Params}
+use Rattle.icl_lexer.specs.Values.{SeenRange, SeenWhat, APort, ARegister, AMux, AChild, AnAlias, SomeWords, AParameter, AnInterface, ALink, AnAttribute, SeenItem}
+use Rattle.icl_declarations.specs.Faults.{Answer, BadRange}
+use Rattle.icl_declarations.specs.Values.{Params}
 use Rattle.icl_declarations.specs.declared.ranges.Bounds.{Bounds}
 use Rattle.icl_declarations.specs.declared.ranges.Stretch.{Stretch}
 use Rattle.icl_references.specs.declared.hier.Ref.{Ref}

@@ -3,10 +3,10 @@ use Rattle.std.specs.Prelude.{ℕ, Bool, true, false, ◌&&◌, ◌||◌, List, 
 use Rattle.std.specs.List.{list_any}
 use Rattle.ij_bits.specs.BitLists.{same_bit}
 use Rattle.ij_text.specs.declared.Place.{Place}
-use Rattle.icl_syntax.specs.Values.{SeenSig, SeenRow}
-use Rattle.icl_values.specs.Faults.{Answer, ◌>>=◌, refuse_if, each, RowsOverlap}
-use Rattle.icl_values.specs.Values.{OpenBits}
-use Rattle.icl_values.specs.Widths.{value_in}
+use Rattle.icl_lexer.specs.Values.{SeenSig, SeenRow}
+use Rattle.icl_declarations.specs.Faults.{Answer, ◌>>=◌, refuse_if, each, RowsOverlap}
+use Rattle.icl_declarations.specs.Values.{OpenBits}
+use Rattle.icl_declarations.specs.Widths.{value_in}
 use Rattle.icl_frames.specs.FirstPass.{Frame}
 use Rattle.icl_references.specs.Names.{Here}
 use Rattle.icl_references.specs.Signals.{scan_signal, select_signals}

@@ -5,7 +5,7 @@ use Rattle.ij_bits.specs.Room.{Listed}
 use Rattle.ij_bits.specs.declared.tern.Tern.{Tern}
 use Rattle.ij_text.specs.declared.Place.{Place}
 use Rattle.ij_text.specs.Numbers.{tern_bits}
-use Rattle.icl_values.specs.Values.{OpenBits}
+use Rattle.icl_declarations.specs.Values.{OpenBits}
 use Rattle.icl_references.specs.declared.hier.Ref.{Ref}
 use Rattle.icl_references.specs.declared.hier.Body.{Body}
 use Rattle.icl_references.specs.declared.hier.Body.TheVariants.{ScanIn, ScanOut, DataIn, DataOut, Control, Register, Mux, Alias, Child, Interface, Link}

@@ -4,11 +4,11 @@ use Rattle.std.specs.Prelude.{ℕ, ◌==◌, Bool, true, false, not, ◌&&◌, �
 use Rattle.std.specs.List.{list_all}
 use Rattle.ij_bits.specs.BitLists.{flip_if}
 use Rattle.ij_text.specs.declared.Place.{Place}
-use Rattle.icl_syntax.specs.Values.{SeenRange, SeenSigWhat, ANumber, APath, SeenSig, SeenWhat}
-use Rattle.icl_values.specs.Faults.{Answer, ◌>>=◌, refuse_if, each, over, BadNumber, WidthDiffers, WrongKind}
-use Rattle.icl_values.specs.Values.{OpenBits, Worth, AnInteger, SomeBits, AText, Params, integer_bits}
-use Rattle.icl_values.specs.Expressions.{evaluate, place_in}
-use Rattle.icl_values.specs.Widths.{free_in, sized_in, joined}
+use Rattle.icl_lexer.specs.Values.{SeenRange, SeenSigWhat, ANumber, APath, SeenSig, SeenWhat}
+use Rattle.icl_declarations.specs.Faults.{Answer, ◌>>=◌, refuse_if, each, over, BadNumber, WidthDiffers, WrongKind}
+use Rattle.icl_declarations.specs.Values.{OpenBits, Worth, AnInteger, SomeBits, AText, Params, integer_bits}
+use Rattle.icl_declarations.specs.Expressions.{evaluate, place_in}
+use Rattle.icl_declarations.specs.Widths.{free_in, sized_in, joined}
 use Rattle.icl_references.specs.declared.hier.Ref.{Ref}
 use Rattle.icl_references.specs.declared.hier.Ref.TheVariants.{Fixed, Bit}
 use Rattle.icl_declarations.specs.Parts.{is_scan_in, is_scan_out, is_data_in, is_data_out, port_that, is_register, is_mux, is_data_port}

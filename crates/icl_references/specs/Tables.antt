@@ -4,7 +4,7 @@ use Rattle.std.specs.Prelude.{◌≡◌, ℕ, ◌<◌, ◌^◌, ◌==◌, ◌&&�
 use Rattle.std.specs.Str.{bytes_eq}
 use Rattle.std.specs.Option.{option_map}
 use Rattle.ij_text.specs.Options.{or_else}
-use Rattle.icl_syntax.specs.Views.{seen_item}
+use Rattle.icl_lexer.specs.Views.{seen_item}
 use Rattle.icl_frames.specs.FirstPass.{Frame}
 use Rattle.icl_declarations.specs.Scopes.{IsScopeOf, entry_of}
 use Rattle.icl_frames.specs.SeenFrames.{seen_frame}

@@ -1,7 +1,7 @@
 -- Where a path of names leads to, name by name, and without where it lies in memory.
 use Rattle.std.specs.Prelude.{ℕ, List, Ok}
 use Rattle.ij_text.specs.declared.Place.{Place}
-use Rattle.icl_values.specs.Faults.{Answer, ◌>>=◌}
+use Rattle.icl_declarations.specs.Faults.{Answer, ◌>>=◌}
 use Rattle.icl_frames.specs.FirstPass.{Frame}
 use Rattle.icl_references.specs.declared.paths.Target.{Target as TargetAt}
 use Rattle.icl_references.specs.declared.tables.Tables.{Tables}

@@ -2,7 +2,7 @@
 ghost use Rattle.std.specs.Prelude.{◌≡◌, ◌++◌, map, IfOk, OnOk};
 ghost use Rattle.ij_bits.specs.BitLists.{flip_if};
 ghost use Rattle.ij_text.specs.Numbers.{tern_bits};
-ghost use Rattle.icl_values.specs.Widths.{joined};
+ghost use Rattle.icl_declarations.specs.Widths.{joined};
 ghost use Rattle.icl_declarations.specs.Ranges.{positions};
 ghost use Rattle.icl_references.specs.Roles.{seen_refs};
 ghost use Rattle.icl_references.specs.Signals.{constants};

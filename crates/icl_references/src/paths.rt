@@ -1,14 +1,14 @@
 // Paths of names.
 ghost use Rattle.std.specs.Prelude.{map, IfOk};
-ghost use Rattle.icl_syntax.specs.Views.{bytes_of};
-ghost use Rattle.icl_values.specs.Faults.{Gives};
+ghost use Rattle.icl_lexer.specs.Views.{bytes_of};
+ghost use Rattle.icl_declarations.specs.Faults.{Gives};
 ghost use Rattle.icl_references.specs.Names.{path_from};
 ghost use Rattle.icl_references.specs.Tables.{IsHere, frames_of, here_in};
 ghost use Rattle.icl_references.specs.Targets.{child_named, seen_target, target_named};
 
 use crate::tables::{Member, Tables};
-use icl_syntax::SmallText;
-use icl_values::ElabFault;
+use icl_declarations::ElabFault;
+use icl_lexer::SmallText;
 use ij_text::Place;
 use std::alloc::Global;
 

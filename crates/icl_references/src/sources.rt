@@ -1,6 +1,6 @@
 // What signals may name.
 ghost use Rattle.std.specs.Prelude.{◌≡◌, ◌||◌, map};
-ghost use Rattle.icl_syntax.specs.Views.{bytes_of, seen_what};
+ghost use Rattle.icl_lexer.specs.Views.{bytes_of, seen_what};
 ghost use Rattle.icl_declarations.specs.Parts.{is_data_port, is_register, is_scan_out, port_that};
 ghost use Rattle.icl_references.specs.Signals.{is_data_source, is_of_child, is_own, is_scan_source};
 
@@ -8,7 +8,7 @@ use icl_frames::{
     is_data_in_port, is_data_out_port, is_data_port, is_mux, is_register, is_scan_in_port,
     is_scan_out,
 };
-use icl_syntax::{SmallText, What};
+use icl_lexer::{SmallText, What};
 
 fn is_scan_out_port(what: &What) -> bool
     ensures { result ≡ port_that is_scan_out (seen_what what.now) }

@@ -1,17 +1,17 @@
 // The cells of a design, with tables of their parts.
 ghost use Rattle.std.specs.Prelude.{◌≡◌, ◌<◌, ◌^◌, None, map, length, get_or, IfOk, OnOk};
 ghost use Rattle.ij_text.specs.Options.{same};
-ghost use Rattle.icl_syntax.specs.Views.{seen_what};
-ghost use Rattle.icl_values.specs.Faults.{Gives};
-ghost use Rattle.icl_values.specs.Tables.{seen_table};
+ghost use Rattle.icl_lexer.specs.Views.{seen_what};
+ghost use Rattle.icl_declarations.specs.Faults.{Gives};
+ghost use Rattle.icl_declarations.specs.Tables.{seen_table};
 ghost use Rattle.icl_declarations.specs.Ranges.{one_bit, width};
 ghost use Rattle.icl_frames.specs.SeenFrames.{seen_frame};
 ghost use Rattle.icl_references.specs.Names.{child_cell, inside, known_cell, members, named};
 ghost use Rattle.icl_references.specs.Tables.{AreAllChildren, AreCellTables, AreEmpty, AreTables, IsCellTable, IsChildAdded, IsFrameAdded, IsHere, frames_in, frames_of, here_in, seen_member};
 
+use icl_declarations::{ElabFault, ParamTable};
 use icl_frames::{Bounds, Frame, Scope, is_part};
-use icl_syntax::{Item, What};
-use icl_values::{ElabFault, ParamTable};
+use icl_lexer::{Item, What};
 use ij_bits::OutOfMemory;
 use ij_text::{Place, name_of};
 use std::alloc::Global;

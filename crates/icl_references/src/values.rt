@@ -3,11 +3,11 @@ ghost use Rattle.std.specs.Prelude.{◌≡◌};
 ghost use Rattle.std.specs.List.{list_all};
 ghost use Rattle.std.specs.Prelude.{is_some};
 ghost use Rattle.ij_text.specs.Numbers.{tern_bits};
-ghost use Rattle.icl_values.specs.Faults.{Gives};
-ghost use Rattle.icl_values.specs.Values.{seen_value};
+ghost use Rattle.icl_declarations.specs.Faults.{Gives};
+ghost use Rattle.icl_declarations.specs.Values.{seen_value};
 ghost use Rattle.icl_references.specs.Signals.{free_number, number_bits, sized_number};
 
-use icl_values::{ElabFault, Value, free_in, integer_bits, sized_in};
+use icl_declarations::{ElabFault, Value, free_in, integer_bits, sized_in};
 use ij_bits::Tern;
 use ij_text::{Place, bit_at};
 use std::alloc::Global;

@@ -1,13 +1,14 @@
 -- The multiplexers of the network of a hierarchy are well formed.
 use Rattle.std.proofs.Common.{◌≡◌, ◌≤◌, ℕ, List, map, length, Ok, sym, ap, subst, ◌∙◌, arith}
-use Rattle.std.specs.Prelude.{All}
+use Rattle.std.specs.Prelude.{All, IsTrue}
 use Rattle.std.specs.List.{AllByRecursion}
 use Rattle.std.proofs.lemmas.List.{length-map}
 use Rattle.std.proofs.lemmas.List.Elements.{All-from_recursion}
 use Rattle.ij_bits.specs.declared.tern.Tern.{Tern}
 use Rattle.ij_text.specs.declared.Place.{Place}
 use Rattle.ij_text.specs.Numbers.{tern_bits}
-use Rattle.icl_values.specs.Values.{OpenBits}
+use Rattle.ij_text.specs.Words.{is_name}
+use Rattle.icl_declarations.specs.Values.{OpenBits}
 use Rattle.icl_elab.specs.WellFormed.{is_mux, HasRows, IsCell}
 use Rattle.icl_references.specs.declared.hier.Ref.{Ref}
 use Rattle.icl_references.specs.Roles.{Choice, AScanMux, CellOf, part_width}
@@ -75,6 +76,7 @@ module _ (cells : List CellOf) (entry : Wire) (net : Net) (shaped : IsShaped cel
       let values = paired_maps S (λ (c : Choice). c.values) (λ (row : Row). map tern_bits row.values.items)
       (λ c row g. (row_is cells entry e.what.at c row g).values) m.rows mux.rows.items rows in
       record {
+        named = subst (λ (n : List ℕ). IsTrue (is_name n)) m.name names.name;
         at_least_one_bit = omega (arith, at_least_one_bit, width);
         select = All-from_recursion (IsBitOf net) mux.select.items
             (paired_all (IsRefOf cells) R (IsBitOf net) (λ r b g d. select_there cells entry net shaped wired e.what.at r b g d) m.select mux.select.items role.0 bits);

@@ -2,8 +2,8 @@
 use Rattle.std.proofs.Common.{◌≡◌, ℕ, List, map, Option, Ok, refl, ap, ◌∙◌}
 use Rattle.ij_text.specs.declared.Place.{Place}
 use Rattle.ij_text.specs.Numbers.{tern_bits}
-use Rattle.icl_values.specs.Faults.{each}
-use Rattle.icl_values.specs.Values.{OpenBits}
+use Rattle.icl_declarations.specs.Faults.{each}
+use Rattle.icl_declarations.specs.Values.{OpenBits}
 use Rattle.icl_elab.specs.WellFormed.{is_register, is_mux, is_thing, is_data_in, is_data_out}
 use Rattle.icl_references.specs.declared.hier.Ref.{Ref}
 use Rattle.icl_references.specs.Roles.{Choice, Role, AScanRegister, AScanMux, PartOf, CellOf, part_width, seen_word}
@@ -98,6 +98,7 @@ module _ (cells : List CellOf) (entry : Wire) where
     pub bits : each (select_from cells entry e.what.at) select ≡ Ok mux.select.items
     pub sources : each (row_from cells entry e.what.at) rows ≡ Ok (map seen_row mux.rows.items)
     pub node : e.cell ≡ mux.node
+    pub name : e.what.name ≡ mux.name.items
 
   pub mux_is : (e : Entry) (mux : Mux) → mux_of cells entry e ≡ Ok (seen_mux mux) → IsMuxOf e mux
   unfolding mux_of
@@ -116,6 +117,7 @@ module _ (cells : List CellOf) (entry : Wire) where
             bits = bits.is ∙ ap (λ (x : MuxOf). Ok x.select) same;
             sources = sources.is ∙ ap (λ (x : MuxOf). Ok x.rows) same;
             node = ap (λ (x : MuxOf). x.node) same;
+            name = ap (λ (x : MuxOf). x.name) same;
           }
       by_role role r g = absurd cc
 

@@ -2,7 +2,7 @@
 use Rattle.std.proofs.Common.{◌≡◌, ℕ, zero, suc, ◌<◌, Bool, true, false, List, [], ◌∷◌, map, length, filter, Some, Result, Ok, refl, ap, subst, ◌∙◌, arith}
 use Rattle.std.specs.Prelude.{slice_get}
 use Rattle.std.specs.List.{AllByRecursion}
-use Rattle.icl_values.specs.Faults.{◌>>=◌, each}
+use Rattle.icl_declarations.specs.Faults.{◌>>=◌, each}
 use Rattle.icl_frames.proofs.Answering.{both, ok_is}
 use Rattle.std.proofs.lemmas.Option.{same_Some}
 use Rattle.ij_bits.proofs.Lists.{head_same, tail_same}

@@ -5,7 +5,7 @@ use Rattle.std.proofs.lemmas.Bool.{true≢false, and_parts, or_parts}
 use Rattle.ij_bits.specs.BitLists.{same_bit}
 use Rattle.ij_bits.specs.declared.tern.Tern.{Tern}
 use Rattle.ij_text.specs.Numbers.{open_bits, tern_bits}
-use Rattle.icl_values.specs.Values.{OpenBits}
+use Rattle.icl_declarations.specs.Values.{OpenBits}
 use Rattle.icl_references.specs.Muxes.{meet_at, meet, rows_meet, some_meet}
 use Rattle.icl_references.specs.Roles.{Choice}
 use Rattle.net_graph.specs.declared.net.Row.{Row}

@@ -1,7 +1,7 @@
 // The network of a hierarchy.
 ghost use Rattle.std.specs.Prelude.{◌≡◌, map, IfOk};
 ghost use Rattle.icl_references.specs.Roles.{seen_hier};
-ghost use Rattle.icl_values.specs.Faults.{each};
+ghost use Rattle.icl_declarations.specs.Faults.{each};
 ghost use Rattle.icl_elab.specs.WellFormed.{IsHierarchy, is_mux, is_register, is_thing};
 ghost use Rattle.net_graph.specs.Nets.{IsNet};
 ghost use Rattle.icl_signals.specs.Refusals.{Gives};

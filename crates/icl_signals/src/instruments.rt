@@ -1,6 +1,6 @@
 // The instruments of a network.
 ghost use Rattle.std.specs.Prelude.{◌≡◌, ◌∷◌, [], map, filter, IfOk};
-ghost use Rattle.icl_values.specs.Faults.{each};
+ghost use Rattle.icl_declarations.specs.Faults.{each};
 ghost use Rattle.icl_elab.specs.WellFormed.{is_data_out, is_instrument};
 ghost use Rattle.icl_references.specs.Roles.{seen_cell};
 ghost use Rattle.icl_signals.specs.Refusals.{Gives, behind};

@@ -1,6 +1,6 @@
 // The multiplexers of a network.
 ghost use Rattle.std.specs.Prelude.{map};
-ghost use Rattle.icl_values.specs.Faults.{each};
+ghost use Rattle.icl_declarations.specs.Faults.{each};
 ghost use Rattle.icl_references.specs.Roles.{seen_row as seen_choice};
 ghost use Rattle.icl_signals.specs.Refusals.{Gives};
 ghost use Rattle.icl_signals.specs.Wirings.{IsWiring, cells_of};

@@ -3,7 +3,7 @@ ghost use Rattle.std.specs.Prelude.{◌≡◌, map, replicate, true, IfOk};
 ghost use Rattle.std.specs.Option.{option_map};
 ghost use Rattle.ij_text.specs.Options.{same};
 ghost use Rattle.net_graph.specs.declared.net.Sig.TheVariants.{Absent};
-ghost use Rattle.icl_values.specs.Faults.{each};
+ghost use Rattle.icl_declarations.specs.Faults.{each};
 ghost use Rattle.icl_elab.specs.WellFormed.{is_thing};
 ghost use Rattle.icl_references.specs.Roles.{seen_part, seen_refs};
 ghost use Rattle.icl_signals.specs.Refusals.{Gives};

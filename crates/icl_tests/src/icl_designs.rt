@@ -1,7 +1,7 @@
 // ICL texts, and the designs that they have.
 
 use crate::texts::read;
-use icl_syntax::{Design, Expr, What};
+use icl_lexer::{Design, Expr, What};
 use std::alloc::Global;
 use std::test::Fail;
 

@@ -1,4 +1,5 @@
-//! Tests of the readers of ICL and of what prints it again, on texts that stand in tables.
+//! Tests of the readers of ICL, of what prints it again, and of the calls over scan networks, on networks of ICL texts that
+//! stand in tables.
 #![tactic(auto)]
 
 #[cfg(test)]
@@ -12,4 +13,11 @@ mod icl_printed;
 #[cfg(test)]
 mod icl_tokens;
 #[cfg(test)]
+mod nested_forms;
+mod network_texts;
+#[cfg(test)]
 mod texts;
+#[cfg(test)]
+mod trimmed_nets;
+#[cfg(test)]
+mod update_stages;

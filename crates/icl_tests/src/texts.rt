@@ -1,7 +1,6 @@
 // ICL texts and names, as the tests read them.
-use icl_lexer::lex;
+use icl_lexer::{Design, lex};
 use icl_parser::parse;
-use icl_syntax::Design;
 use ij_text::Name;
 use std::alloc::{AllocError, Global};
 use std::test::Fail;

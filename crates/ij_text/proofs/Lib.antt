@@ -4,3 +4,6 @@ pub mod Widths
 pub mod Behind
 pub mod OpenDigits
 pub mod EqualTexts
+pub mod Combinators
+pub mod Laws
+pub mod Verdicts

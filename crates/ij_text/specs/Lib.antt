@@ -7,3 +7,6 @@ pub mod Options
 pub mod Numbers
 pub mod Answers
 pub mod Examples
+pub mod Symbol
+pub mod Reading
+pub mod Refusal

@@ -10,15 +10,15 @@ ghost use Rattle.ijtag_work.specs.Runs.{AreKept, IsDone, IsPartDone, IsRunStop, 
 ghost use Rattle.ijtag_work.specs.Seen.{seen_stop, differing};
 ghost use Rattle.ijtag_work.specs.Stops.{IsEarly};
 
-use audit_command::audit;
-use compile_command::compile;
-use direct_command::direct;
+use crate::audit_command::audit;
+use crate::compile_command::compile;
+use crate::direct_command::direct;
+use crate::make_command::make;
+use crate::migrate_command::migrate;
+use crate::play_command::play;
+use crate::run_command::run as run_procedure;
 use ij_io::{Shelf, Sink};
 use ijtag_work::{CommandWords, Stop, Verdict, read_words};
-use make_command::make;
-use migrate_command::migrate;
-use play_command::play;
-use run_command::run as run_procedure;
 use std::alloc::Global;
 
 /// Does what the words say: without a command nothing, and no file changes.

@@ -16,8 +16,8 @@ use Rattle.svf_reader.specs.Meaning.{svf, Cause, LeftOut as CauseLeftOut, SvfSyn
 use Rattle.svf_reader.specs.declared.fault.SvfFault.{SvfFault}
 use Rattle.svf_reader.specs.declared.fault.SvfFault.TheVariants.{LeftOut, SvfSyntax, SvfLimit, HexWide, TdiMissing, OutOfMemory}
 use Rattle.svf_writer.specs.SeenCommands.{SeenCommand}
-use Rattle.icl_syntax.specs.Values.{SeenModule}
-use Rattle.icl_values.specs.Faults.{Fault}
+use Rattle.icl_lexer.specs.Values.{SeenModule}
+use Rattle.icl_declarations.specs.Faults.{Fault}
 use Rattle.icl_references.specs.Roles.{CellOf}
 use Rattle.icl_elab.specs.Hierarchy.{hierarchy}
 use Rattle.bench_file.specs.Device.{SeenDevice, device}
@@ -40,7 +40,7 @@ use Rattle.nest_check.specs.declared.fault.NestFault.TheVariants.{OutOfMemory as
 use Rattle.pdl_parser.specs.Laws.{ProceduresAreOne, ProceduresAreNotRefused, RefusalsAreOne as PdlRefusalsAreOne}
 use Rattle.pdl_parser.specs.Refusals.{AFault}
 use Rattle.pdl_parser.specs.Values.{AProc}
-use Rattle.bit_steps.specs.BitSteps.{AFault as StepFault, BitStepsOf, bit_steps}
+use Rattle.merge_order.specs.BitSteps.{AFault as StepFault, BitStepsOf, bit_steps}
 use Rattle.trimmed_net.specs.Device.{trimmed_device}
 use Rattle.trimmed_net.specs.Trimmed.{trimmed}
 use Rattle.ijtag_stages.specs.Connected.{connect_refusal, connected}

@@ -3,10 +3,10 @@ use Rattle.std.specs.Prelude.{Option, None}
 use Rattle.std.specs.Option.{option_map}
 use Rattle.std.proofs.Common.{◌≡◌, sym, Some}
 use Rattle.icl_signals.specs.PlainNets.{NetOf}
-use Rattle.bit_steps.specs.BitSteps.{AFault, Expands, Feeds}
-use Rattle.bit_steps.specs.Seen.{Ends, EndsIn, expand_fault, feed_fault}
-use Rattle.bit_steps.specs.declared.fault.StepFault.{StepFault}
-use Rattle.bit_steps.specs.declared.fault.StepFault.TheVariants.{OutOfMemory, Expand, Feed}
+use Rattle.merge_order.specs.BitSteps.{AFault, Expands, Feeds}
+use Rattle.merge_order.specs.Seen.{Ends, EndsIn, expand_fault, feed_fault}
+use Rattle.merge_order.specs.declared.step_fault.StepFault.{StepFault}
+use Rattle.merge_order.specs.declared.step_fault.StepFault.TheVariants.{OutOfMemory, Expand, Feed}
 use Rattle.ijtag_stages.specs.Procedure.{fault_of, step_refusal}
 use Rattle.ijtag_stages.specs.Refusals.{Refusal}
 use Rattle.std.proofs.lemmas.Option.{same_Some}

@@ -2,8 +2,8 @@
 use Rattle.std.specs.Prelude.{◌≡◌, ℕ, List, [], ◌∷◌, Ok, Err, codes}
 use Rattle.ij_text.specs.declared.Which.{Which}
 use Rattle.ij_text.specs.declared.Which.TheVariants.{Hierarchy, Cells, ScanBits, Muxes, Instruments, Ports, PortBits, Width, Groups, RunLoop, RunCycles}
-use Rattle.icl_syntax.specs.Values.{SeenModule}
-use Rattle.icl_values.specs.Faults.{Fault, NoModule, NoName, DoubleName, NoParameter, DivideByZero, BadNumber, BadRange, WidthDiffers, WrongKind, RowsOverlap, InstanceLoop, Limit}
+use Rattle.icl_lexer.specs.Values.{SeenModule}
+use Rattle.icl_declarations.specs.Faults.{Fault, NoModule, NoName, DoubleName, NoParameter, DivideByZero, BadNumber, BadRange, WidthDiffers, WrongKind, RowsOverlap, InstanceLoop, Limit}
 use Rattle.icl_references.specs.Roles.{CellOf}
 use Rattle.icl_elab.specs.Hierarchy.{hierarchy}
 use Rattle.ijtag_stages.specs.Refusals.{Part, Refusal, Said, Num, refused_at, refused_name, refused_word}

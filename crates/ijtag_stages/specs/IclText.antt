@@ -3,9 +3,9 @@ use Rattle.std.specs.Prelude.{◌≡◌, ℕ, List, Option, Some, None, codes}
 use Rattle.icl_lexer.specs.declared.fault.LexFault.{LexFault}
 use Rattle.icl_lexer.specs.declared.fault.LexFault.TheVariants.{BadByte, OpenComment, OpenText}
 use Rattle.icl_lexer.specs.Cutting.{HasFault}
-use Rattle.icl_syntax.specs.Modules.{design}
+use Rattle.icl_lexer.specs.Modules.{design}
 use Rattle.icl_lexer.specs.Seen.{SeenToken, HasTokens}
-use Rattle.icl_syntax.specs.Values.{SeenModule}
+use Rattle.icl_lexer.specs.Values.{SeenModule}
 use Rattle.icl_parser.specs.Refusals.{IsRefused}
 use Rattle.icl_parser.specs.declared.fault.ParseFault.{ParseFault}
 use Rattle.icl_parser.specs.declared.fault.ParseFault.TheVariants.{LeftOut, ExprLimit, Syntax, OutOfMemory as NoMemoryForTree}

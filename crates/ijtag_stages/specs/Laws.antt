@@ -6,7 +6,7 @@ use Rattle.tap_machine.specs.declared.Stable.TheVariants.{Reset as InReset}
 use Rattle.tap_machine.specs.Play.{pins, scans_in}
 use Rattle.net_graph.specs.declared.device.Device.{Device}
 use Rattle.net_graph.specs.declared.net.Net.{Net}
-use Rattle.icl_syntax.specs.Values.{SeenModule}
+use Rattle.icl_lexer.specs.Values.{SeenModule}
 use Rattle.pdl_parser.specs.Values.{AProc}
 use Rattle.table_file.specs.Tables.{SeenTable}
 use Rattle.ijtag_stages.specs.DeviceText.{device_text}

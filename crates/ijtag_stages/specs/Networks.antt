@@ -1,6 +1,6 @@
 -- From the design's modules to the network that is compiled for or played on: the hierarchy, its signals, and the nested form.
 use Rattle.std.specs.Prelude.{ℕ, List}
-use Rattle.icl_syntax.specs.Values.{SeenModule}
+use Rattle.icl_lexer.specs.Values.{SeenModule}
 use Rattle.net_graph.specs.declared.device.Device.{Device}
 use Rattle.net_graph.specs.declared.net.Net.{Net}
 use Rattle.net_tree.specs.Form.{Items}

@@ -2,10 +2,10 @@
 -- (IEEE 1687-2014, PDL level 0).
 use Rattle.std.specs.Prelude.{◌≡◌, ℕ, List, [], ◌∷◌, Option, Some, None, codes}
 use Rattle.std.specs.Option.{option_map}
-use Rattle.bit_steps.specs.declared.fault.StepFault.{StepFault}
-use Rattle.bit_steps.specs.declared.fault.StepFault.TheVariants.{OutOfMemory as StepMemory, Expand, Feed}
-use Rattle.bit_steps.specs.Seen.{expand_fault, feed_fault}
-use Rattle.bit_steps.specs.BitSteps.{AFault, Expands, Feeds, bit_steps}
+use Rattle.merge_order.specs.declared.step_fault.StepFault.{StepFault}
+use Rattle.merge_order.specs.declared.step_fault.StepFault.TheVariants.{OutOfMemory as StepMemory, Expand, Feed}
+use Rattle.merge_order.specs.Seen.{expand_fault, feed_fault}
+use Rattle.merge_order.specs.BitSteps.{AFault, Expands, Feeds, bit_steps}
 use Rattle.icl_signals.specs.PlainNets.{NetOf, seen_net}
 use Rattle.merge_order.specs.Feeding.{AFault as FeedFault, IsMergeInside, IsMergeReset, Targets}
 use Rattle.net_graph.specs.SeenSteps.{SeenStep}

@@ -3,15 +3,15 @@ ghost use Rattle.std.specs.Prelude.{◌≡◌, IfOk};
 ghost use Rattle.std.specs.Option.{option_map};
 ghost use Rattle.icl_elab.specs.WellFormed.{IsHierarchy};
 ghost use Rattle.icl_frames.specs.Written.{AreWritten};
-ghost use Rattle.icl_syntax.specs.Views.{seen_design};
-ghost use Rattle.icl_values.specs.Faults.{seen_fault};
+ghost use Rattle.icl_lexer.specs.Views.{seen_design};
+ghost use Rattle.icl_declarations.specs.Faults.{seen_fault};
 ghost use Rattle.icl_references.specs.Roles.{seen_hier};
 ghost use Rattle.ijtag_stages.specs.Follows.{Follows, IsToldAs};
 ghost use Rattle.ijtag_stages.specs.Elaborated.{elaborated, elab_refusal, which_name};
 
 use crate::refusal::{Stage, StageFault, refused_at, refused_limit, refused_name, refused_word};
 use icl_elab::{ElabFault, Hier, elaborate};
-use icl_syntax::Design;
+use icl_lexer::Design;
 use ij_text::{Name, Which, name_of};
 use std::alloc::Global;
 

@@ -1,15 +1,14 @@
 // The ICL text (IEEE 1687-2014).
 ghost use Rattle.std.specs.Prelude.{◌≤◌, length, IfOk, Some};
 ghost use Rattle.icl_frames.specs.Written.{AreWritten};
-ghost use Rattle.icl_syntax.specs.Views.{seen_design};
+ghost use Rattle.icl_lexer.specs.Views.{seen_design};
 ghost use Rattle.ijtag_stages.specs.Follows.{Follows, IsToldAs};
 ghost use Rattle.ijtag_stages.specs.IclText.{icl_text, icl_tokens, icl_design, lex_refusal, parse_refusal};
 
 use crate::refusal::{Stage, StageFault, refused_at, refused_word};
 use icl_frames::designs_are_written;
-use icl_lexer::{Cursor, LexFault, lex, tokens_are_in_the_text};
+use icl_lexer::{Cursor, Design, LexFault, lex, tokens_are_in_the_text};
 use icl_parser::{ParseFault, parse};
-use icl_syntax::Design;
 use std::alloc::Global;
 
 /// How a fault of the tokens is told.

@@ -1,7 +1,7 @@
 // From the design's modules to the network that is compiled for or played on: the hierarchy, its signals, and the nested form.
 ghost use Rattle.std.specs.Prelude.{IfOk};
 ghost use Rattle.icl_frames.specs.Written.{AreWritten};
-ghost use Rattle.icl_syntax.specs.Views.{seen_design};
+ghost use Rattle.icl_lexer.specs.Views.{seen_design};
 ghost use Rattle.ijtag_stages.specs.Follows.{Follows};
 ghost use Rattle.ijtag_stages.specs.Nested.{IsNested};
 ghost use Rattle.ijtag_stages.specs.Networks.{network_below};
@@ -11,7 +11,7 @@ use crate::connect::connect_hierarchy;
 use crate::elab::elaborate_design;
 use crate::nest::nest_network;
 use crate::refusal::StageFault;
-use icl_syntax::Design;
+use icl_lexer::Design;
 use net_graph::{Device, Net};
 use net_tree::Tree;
 use std::alloc::Global;

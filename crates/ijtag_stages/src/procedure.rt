@@ -1,8 +1,8 @@
 // The bit steps of the procedure (IEEE 1687-2014, PDL level 0).
 ghost use Rattle.std.specs.Prelude.{◌≡◌, ◌<◌, ◌^◌, ◌∷◌, [], Some, None, OnOk, codes, length};
 ghost use Rattle.std.specs.Option.{option_map};
-ghost use Rattle.bit_steps.specs.BitSteps.{bit_steps};
-ghost use Rattle.bit_steps.specs.Seen.{expand_fault, feed_fault};
+ghost use Rattle.merge_order.specs.BitSteps.{bit_steps};
+ghost use Rattle.merge_order.specs.Seen.{expand_fault, feed_fault};
 ghost use Rattle.icl_signals.specs.PlainNets.{seen_net};
 ghost use Rattle.ij_text.specs.Numbering.{AreDistinct};
 ghost use Rattle.net_graph.specs.Nets.{IsNet};
@@ -22,9 +22,8 @@ use crate::network::Network;
 use crate::refusal::{
     Arg, Stage, StageFault, refused_at, refused_three, refused_two, refused_word,
 };
-use bit_steps::{StepFault, check};
 use ij_text::{Place, Which, name_of};
-use merge_order::FeedFault;
+use merge_order::{FeedFault, StepFault, check};
 use net_graph::{BitId, Net};
 use pdl_expand::ExpandFault;
 use pdl_parser::Procs;

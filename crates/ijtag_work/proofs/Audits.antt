@@ -10,14 +10,14 @@ use Rattle.svf_reader.specs.Meaning.{svf}
 use Rattle.svf_writer.specs.Fits.{AreFit}
 use Rattle.svf_writer.specs.SeenCommands.{SeenCommand}
 use Rattle.headline.specs.Script.{ScannedStep, script_commands}
-use Rattle.group_scans.specs.Retargeting.{IsRetargetable, PlansAreScripts, script_of, IsRetargeted as DoSteps}
-use Rattle.group_scans.proofs.Playing.{selects_drive_nothing}
+use Rattle.headline.specs.Retargeting.{IsRetargetable, PlansAreScripts, script_of, IsRetargeted as DoSteps}
+use Rattle.headline.proofs.GroupPlaying.{selects_drive_nothing}
 use Rattle.svf_audit.specs.Audit.{Reading, Verdict, Yes, No, audit as audit_commands}
-use Rattle.bit_steps.specs.Laws.{BitStepsAreOfTheNetwork}
+use Rattle.merge_order.specs.StepLaws.{BitStepsAreOfTheNetwork}
 use Rattle.pdl_parser.specs.Views.{seen_procs}
-use Rattle.audit_law.specs.Law.{AuditedPlaysDoAll}
-use Rattle.audit_law.specs.Own.{PlannedScriptsPass, PlansList}
-use Rattle.audit_report.specs.Report.{says_no}
+use Rattle.svf_audit.specs.Law.{AuditedPlaysDoAll}
+use Rattle.svf_audit.specs.Own.{PlannedScriptsPass, PlansList}
+use Rattle.svf_audit.specs.Report.{says_no}
 use Rattle.ijtag_stages.specs.SvfText.{svf_text}
 use Rattle.ijtag_work.specs.Audited.{IsAudited, IsOwnText, OwnTextsPass, IfAudits}
 use Rattle.ijtag_work.specs.Command.{Command, Compiles, Plays, Directs, Runs, Makes, Migrates, Audit, Audits, own_compile, compile_loads, audit_loads}

@@ -1,7 +1,7 @@
 -- What a file holds that was begun and then grown.
 use Rattle.std.specs.Prelude.{unwrap_or, option_map, ◌⊎◌}
 use Rattle.std.proofs.Common.{◌≡◌, inl, inr, ℕ, Option, Some, None, List, [], ◌++◌, take, ap, ◌∙◌}
-use Rattle.svf_file.specs.Files.{HoldsPart}
+use Rattle.retargeter.specs.Files.{HoldsPart}
 use Rattle.ij_io.specs.Files.{Files, file_at, GrowsPart}
 use Rattle.std.proofs.lemmas.Option.{same_Some}
 

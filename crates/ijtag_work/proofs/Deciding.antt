@@ -1,14 +1,14 @@
 -- The work of a command comes to one end at most: what is given is one value, and then nothing is refused; and a refusal is one.
 use Rattle.std.proofs.Common.{◌≡◌, ◌⊎◌, inl, inr, ◌<◌, ◌≤◌, ◌∙◌, sym, ap, ℕ, Some, Result, Ok, List, [], ◌∷◌, ◌++◌, length, codes, arith}
 use Rattle.ij_io.specs.Files.{Files, bytes_of}
-use Rattle.icl_syntax.specs.Values.{SeenModule}
+use Rattle.icl_lexer.specs.Values.{SeenModule}
 use Rattle.net_graph.specs.declared.device.Device.{Device}
-use Rattle.group_scans.specs.Retargeting.{TextsAreOne}
+use Rattle.headline.specs.Retargeting.{TextsAreOne}
 use Rattle.bench_report.specs.Report.{named_report}
-use Rattle.read_places.specs.Laws.{PlacesAreOne}
-use Rattle.read_places.specs.Places.{read_at}
+use Rattle.run_report.specs.Laws.{PlacesAreOne}
+use Rattle.run_report.specs.Places.{read_at}
 use Rattle.run_report.specs.Report.{IsRunReport}
-use Rattle.read_places.specs.declared.place.ReadPlace.{ReadPlace}
+use Rattle.run_report.specs.declared.place.ReadPlace.{ReadPlace}
 use Rattle.svf_reader.specs.Meaning.{Refusal as SvfRefusal}
 use Rattle.svf_writer.specs.SeenCommands.{SeenCommand}
 use Rattle.ijtag_stages.specs.DeviceText.{device_text}

@@ -1,7 +1,7 @@
 -- How a command ends, from how its parts do.
 use Rattle.std.specs.Prelude.{option_map, IsTrue}
 use Rattle.std.proofs.Common.{◌≡◌, ◌⊎◌, inl, inr, ⊎_elim, ℕ, Bool, false, Option, Some, List, [], refl, ap, ◌∙◌, subst}
-use Rattle.svf_file.specs.Files.{HoldsPart}
+use Rattle.retargeter.specs.Files.{HoldsPart}
 use Rattle.ij_io.specs.Bytes.{Adds, AddsPart}
 use Rattle.ij_io.specs.Causes.{Rose}
 use Rattle.ij_io.specs.Files.{Files, file_at}

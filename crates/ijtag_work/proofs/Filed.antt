@@ -1,7 +1,7 @@
 -- The SVF text of what is compiled, in its file.
 use Rattle.std.proofs.Common.{ℕ, Option, List}
 use Rattle.ij_io.specs.Files.{Files}
-use Rattle.svf_file.specs.Files.{HoldsScript, HoldsScriptPart}
+use Rattle.retargeter.specs.Files.{HoldsScript, HoldsScriptPart}
 use Rattle.retargeter.specs.Scripts.{HasScript, ScriptIsRight}
 use Rattle.ijtag_work.specs.Filed.{IsFiled, IsPartFiled}
 use Rattle.ijtag_work.specs.Order.{SeenCompilable, written_text}

@@ -11,3 +11,8 @@ pub mod Verdicts
 pub mod Deciding
 pub mod Statuses
 pub mod Audits
+pub mod Counted
+pub mod Alike
+pub mod Naming
+pub mod Compared
+pub mod Named

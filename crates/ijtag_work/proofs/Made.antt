@@ -7,10 +7,10 @@ use Rattle.net_graph.specs.Nets.{IsNet}
 use Rattle.net_graph.specs.SeenSteps.{SeenStep}
 use Rattle.net_tree.specs.Form.{Items, Describes}
 use Rattle.pdl_parser.specs.Values.{AProc}
-use Rattle.group_scans.specs.Retargeting.{IsRetargeted}
-use Rattle.group_scans.specs.Rounds.{StepIsPlannable, ProceduresArePlannable}
-use Rattle.bit_steps.specs.BitSteps.{bit_steps}
-use Rattle.bit_steps.specs.Laws.{BitStepsAreOfTheNetwork, BitStepsHavePaths}
+use Rattle.headline.specs.Retargeting.{IsRetargeted}
+use Rattle.headline.specs.Rounds.{StepIsPlannable, ProceduresArePlannable}
+use Rattle.merge_order.specs.BitSteps.{bit_steps}
+use Rattle.merge_order.specs.StepLaws.{BitStepsAreOfTheNetwork, BitStepsHavePaths}
 use Rattle.retargeter.specs.Scripts.{HasScript, WritesScript, ScriptIsRight}
 use Rattle.std.proofs.lemmas.Option.{same_Some}
 

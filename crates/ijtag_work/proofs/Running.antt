@@ -2,17 +2,17 @@
 use Rattle.std.specs.Prelude.{option_map}
 use Rattle.std.proofs.Common.{◌≡◌, ◌∙◌, ◌≤◌, inl, inr, sym, ap, refl, ℕ, Bool, Option, Some, List, [], ◌∷◌, length, arith}
 use Rattle.std.proofs.lemmas.List.{take_all}
-use Rattle.svf_file.specs.Files.{HoldsPart}
+use Rattle.retargeter.specs.Files.{HoldsPart}
 use Rattle.bench_report.specs.Report.{named_report}
-use Rattle.group_scans.specs.Retargeting.{PlannedStep, script_of}
+use Rattle.headline.specs.Retargeting.{PlannedStep, script_of}
 use Rattle.headline.specs.Script.{script_commands}
 use Rattle.ij_io.specs.Bytes.{Adds, AddsPart}
 use Rattle.ij_io.specs.Files.{Files, file_at}
 use Rattle.ij_io.proofs.Adding.{adds_none}
 use Rattle.net_graph.specs.Resets.{start_holds}
-use Rattle.read_places.specs.Places.{places, read_at}
+use Rattle.run_report.specs.Places.{places, read_at}
 use Rattle.retargeter.specs.Plans.{AreStepsOf}
-use Rattle.run_law.specs.Laws.{RunsDifferAlike}
+use Rattle.ijtag_work.specs.Laws.{RunsDifferAlike}
 use Rattle.svf_writer.specs.SeenCommands.{SeenCommand}
 use Rattle.tap_machine.specs.Play.{is_empty}
 use Rattle.ijtag_work.specs.Command.{Run, Runs, direct_loads, run_procedure}

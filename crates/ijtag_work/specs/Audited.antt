@@ -3,7 +3,7 @@ use Rattle.std.specs.Prelude.{◌≡◌, ℕ, false, List, Option, Some}
 use Rattle.ij_io.specs.Files.{Files, bytes_of}
 use Rattle.instruments.specs.Machine.{Machine, whole_log}
 use Rattle.net_bench.specs.Bench.{fault_free}
-use Rattle.audit_law.specs.Law.{DoesAll}
+use Rattle.svf_audit.specs.Law.{DoesAll}
 use Rattle.svf_audit.specs.Audit.{Reading, Yes}
 use Rattle.ijtag_work.specs.Command.{Command, Compiles, Plays, Directs, Runs, Makes, Migrates, Audit, Audits, own_compile, audit_loads}
 use Rattle.ijtag_work.specs.Order.{SeenAuditable, loaded, auditable, verdict_of, filed, told, work}

@@ -1,10 +1,10 @@
 -- A text of some work that was written to a file.
 use Rattle.std.specs.Prelude.{◌≡◌, ℕ, Option, Some, List}
 use Rattle.std.specs.Option.{option_map}
-use Rattle.svf_file.specs.Files.{HoldsPart}
+use Rattle.retargeter.specs.Files.{HoldsPart}
 use Rattle.ij_io.specs.Files.{Files, file_at}
 use Rattle.ijtag_stages.specs.Refusals.{Part}
-use Rattle.group_scans.specs.Retargeting.{PlannedStep}
+use Rattle.headline.specs.Retargeting.{PlannedStep}
 use Rattle.net_graph.specs.Resets.{start_holds}
 use Rattle.retargeter.specs.Plans.{AreStepsOf}
 use Rattle.ijtag_work.specs.Order.{SeenCompilable}

@@ -2,7 +2,7 @@
 use Rattle.std.specs.Prelude.{◌≡◌, ℕ, Bool, List, Option, Some, None, codes}
 use Rattle.std.specs.Option.{option_map}
 use Rattle.ij_io.specs.Files.{Files}
-use Rattle.group_scans.specs.Retargeting.{IsRetargeted as DoSteps}
+use Rattle.headline.specs.Retargeting.{IsRetargeted as DoSteps}
 use Rattle.ijtag_work.specs.Command.{Command, Compile, Compiles, Plays, Directs, Run, Runs, Make, Makes, made_svf, Migrates, Audits, compile_loads, direct_loads, run_procedure}
 use Rattle.ijtag_work.specs.Order.{SeenCompilable, SeenRunnable, loaded, accepted, made_texts, runnable, reads_differ}
 

@@ -12,3 +12,5 @@ pub mod Seen
 pub mod Follows
 pub mod Filed
 pub mod Late
+pub mod Naming
+pub mod Laws

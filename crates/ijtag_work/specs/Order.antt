@@ -1,7 +1,7 @@
 -- The order of work of each command: the lines of a `do` block are done in turn, and the first that refuses decides.
 use Rattle.std.specs.Prelude.{◌≡◌, ◌⊎◌, ◌<◌, ◌≤◌, ◌++◌, ℕ, Bool, true, false, List, [], ◌∷◌, length, Option, IfSome, Ok, codes}
 use Rattle.ij_io.specs.Files.{Files, bytes_of}
-use Rattle.icl_syntax.specs.Values.{SeenModule}
+use Rattle.icl_lexer.specs.Values.{SeenModule}
 use Rattle.instruments.specs.Seen.{SeenModel}
 use Rattle.net_graph.specs.declared.device.Device.{Device}
 use Rattle.net_graph.specs.declared.net.Net.{Net}
@@ -15,13 +15,13 @@ use Rattle.svf_reader.specs.Meaning.{svf}
 use Rattle.design_maker.specs.Tables.{device_text as made_device}
 use Rattle.design_maker.specs.Texts.{made_icl, made_pdl, made_tables}
 use Rattle.direct_report.specs.Report.{direct_report, direct_differs}
-use Rattle.made_report.specs.MadeReport.{made_report}
+use Rattle.bench_report.specs.MadeReport.{made_report}
 use Rattle.pdl_targets.specs.Laws.{rounds_in}
-use Rattle.group_scans.specs.Retargeting.{IsRetargeted as DoSteps}
+use Rattle.headline.specs.Retargeting.{IsRetargeted as DoSteps}
 use Rattle.ijtag_stages.specs.Work.{give, never, ◌>>=◌}
 use Rattle.bench_file.specs.Written.{tables_text as written_tables}
 use Rattle.svf_audit.specs.Audit.{Verdict, audit as audit_commands}
-use Rattle.audit_report.specs.Report.{audit_text, says_no}
+use Rattle.svf_audit.specs.Report.{audit_text, says_no}
 use Rattle.ijtag_work.specs.Command.{Command, Compile, Compiles, Play, Plays, Direct, Directs, Run, Runs, Make, Makes, made_names, made_svf, Migrate, Migrates, Audit, Audits, own_compile, Load, loads}
 use Rattle.ijtag_stages.specs.Refusals.{Part, refused_name, refused_number}
 use Rattle.ijtag_work.specs.Leaves.{Leaves, Written}

@@ -4,7 +4,7 @@ use Rattle.std.specs.Option.{option_map}
 use Rattle.ij_io.specs.Bytes.{Adds, AddsPart}
 use Rattle.ij_io.specs.Causes.{Rose}
 use Rattle.ij_io.specs.Files.{Files, file_at}
-use Rattle.svf_file.specs.Files.{HoldsPart}
+use Rattle.retargeter.specs.Files.{HoldsPart}
 use Rattle.ijtag_work.specs.Command.{Command, Compiles, Plays, Directs, Runs, Makes, Migrates, Audits, Load, loads, names_of, writes, first_writes, made_names, prints, IsOneOf, IsNoneOf}
 use Rattle.ijtag_stages.specs.Work.{IsDecided}
 use Rattle.ijtag_work.specs.Leaves.{Leaves, Written}

@@ -1,9 +1,9 @@
 -- Words, stops, verdicts and what is accepted as contracts see them: with plain lists.
 use Rattle.std.specs.Prelude.{◌≡◌, ◌<◌, ◌≤◌, ◌^◌, ◌++◌, ℕ, Bool, true, false, List, length, map, None}
-use Rattle.bit_steps.specs.BitSteps.{bit_steps}
+use Rattle.merge_order.specs.BitSteps.{bit_steps}
 use Rattle.ij_text.specs.Numbering.{AreDistinct}
 use Rattle.instruments.specs.Seen.{seen_model}
-use Rattle.runners.specs.Runners.{AreModels}
+use Rattle.instruments.specs.Runners.{AreModels}
 use Rattle.net_graph.specs.Devices.{IsDevice}
 use Rattle.net_graph.specs.Nets.{IsNet}
 use Rattle.pdl_parser.specs.Grammar.{full_names}

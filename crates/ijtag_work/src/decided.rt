@@ -1,9 +1,9 @@
 // What follows from the order of work.
 ghost use Rattle.ijtag_work.specs.Runs.{WorksAreDecided};
 
-use group_scans::planned_steps_law;
+use headline::planned_steps_law;
 use ijtag_stages::stages_are_decided;
-use read_places::places_are_one;
+use run_report::places_are_one;
 
 /// The work of a command on files comes to one end at most: what it leaves is one, where it leaves something, it meets no
 /// refusal, and the refusal that it meets is one.

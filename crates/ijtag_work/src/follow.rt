@@ -1,14 +1,14 @@
 // A procedure that was followed to its end, once more.
 ghost use Rattle.std.specs.Prelude.{◌≡◌, ◌<◌, ◌^◌, length, IfOk};
-ghost use Rattle.bit_steps.specs.BitSteps.{bit_steps};
+ghost use Rattle.merge_order.specs.BitSteps.{bit_steps};
 ghost use Rattle.ij_text.specs.Numbering.{AreDistinct};
 ghost use Rattle.net_graph.specs.Nets.{IsNet};
 ghost use Rattle.pdl_parser.specs.Grammar.{full_names};
 ghost use Rattle.pdl_parser.specs.Views.{seen_procs};
 
-use bit_steps::BitSteps;
 use ij_bits::OutOfMemory;
 use ijtag_stages::Network;
+use merge_order::BitSteps;
 use pdl_parser::Procs;
 use std::alloc::Global;
 

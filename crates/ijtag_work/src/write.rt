@@ -1,7 +1,7 @@
 // A file that is written.
 ghost use Rattle.std.specs.Prelude.{◌≡◌, Some, OnOk, OnErr};
 ghost use Rattle.std.specs.Option.{option_map};
-ghost use Rattle.svf_file.specs.Files.{HoldsPart};
+ghost use Rattle.retargeter.specs.Files.{HoldsPart};
 ghost use Rattle.ij_io.specs.Causes.{HasCauseAt, SameCounts};
 ghost use Rattle.ij_io.specs.Files.{file_at, OthersStay};
 

@@ -15,3 +15,13 @@ pub mod FedKept
 pub mod FedFewer
 pub mod Unmerged
 pub mod Whole
+pub mod Taken
+pub mod Standing
+pub mod MergeJoining
+pub mod MergeTurning
+pub mod MergeAlone
+pub mod Inputs
+pub mod Events
+pub mod Seeing
+pub mod StepRefusing
+pub mod StepWhole

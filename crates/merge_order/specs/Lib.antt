@@ -10,3 +10,10 @@ pub mod SeenJoins
 pub mod SeenTurns
 pub mod SeenFaults
 pub mod SeenFeeder
+pub mod Order
+pub mod Seeing
+pub mod MergeLaws
+pub mod BitSteps
+pub mod Seen
+pub mod SeenProgress
+pub mod StepLaws

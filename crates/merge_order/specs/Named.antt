@@ -5,7 +5,7 @@ use Rattle.net_graph.specs.declared.branch.Branch.{Branch}
 use Rattle.net_graph.specs.declared.net.BitId.{BitId}
 use Rattle.net_graph.specs.SeenSteps.{SeenGroup}
 use Rattle.pdl_targets.specs.Rounds.{Places, exclude}
-use Rattle.round_sets.specs.Rows.{excluded_at}
+use Rattle.pdl_targets.specs.Rows.{excluded_at}
 use Rattle.merge_order.specs.declared.named.Named.{Named}
 use Rattle.merge_order.specs.Insertion.{is_closed, join_at, open_round}
 use Rattle.merge_order.specs.Merge.{names}

@@ -6,8 +6,8 @@ use Rattle.net_graph.specs.declared.branch.Branch.{Branch}
 use Rattle.net_graph.specs.declared.net.BitId.{BitId}
 use Rattle.net_graph.specs.SeenSteps.{SeenGroup}
 use Rattle.pdl_targets.specs.Rounds.{Places}
-use Rattle.round_sets.specs.Sets.{StampedSet, has_round}
-use Rattle.round_sets.specs.Rows.{row_at}
+use Rattle.pdl_targets.specs.Sets.{StampedSet, has_round}
+use Rattle.pdl_targets.specs.Rows.{row_at}
 
 -- ---- bits
 

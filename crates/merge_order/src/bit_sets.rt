@@ -5,14 +5,14 @@ ghost use Rattle.std.specs.List.{list_any};
 ghost use Rattle.net_graph.specs.declared.net.BitId.{BitId as ABit};
 ghost use Rattle.net_graph.specs.Path.{same_place};
 ghost use Rattle.net_graph.specs.SeenSteps.{seen_group};
-ghost use Rattle.round_sets.specs.Sets.{has_round, word_of};
-ghost use Rattle.round_sets.specs.Rows.{row_at};
+ghost use Rattle.pdl_targets.specs.Sets.{has_round, word_of};
+ghost use Rattle.pdl_targets.specs.Rows.{row_at};
 ghost use Rattle.merge_order.specs.Merge.{names};
 ghost use Rattle.merge_order.specs.Tables.{AreStamped, has_bit, is_shut, names_one, sets_of};
 
 use ij_bits::OutOfMemory;
 use net_graph::{BitId, Group, ReadBit, WriteBit};
-use round_sets::{RoundSet, either};
+use pdl_targets::{RoundSet, either};
 use std::alloc::Global;
 use std::marker::Model;
 
@@ -24,7 +24,7 @@ pub(crate) struct RegSets {
 
 impl Model for RegSets {
     ghost use Rattle.std.specs.Prelude.{List};
-    ghost use Rattle.round_sets.specs.Sets.{StampedSet};
+    ghost use Rattle.pdl_targets.specs.Sets.{StampedSet};
 
     ghost Value = { List StampedSet };
 

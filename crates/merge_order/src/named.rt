@@ -11,7 +11,7 @@ ghost use Rattle.merge_order.specs.Tables.{SameRows, rows_around};
 use crate::bit_sets::BitSets;
 use ij_bits::OutOfMemory;
 use net_graph::{Branch, Group};
-use round_sets::{RowSets, either, first_open};
+use pdl_targets::{RowSets, either, first_open};
 use std::alloc::Global;
 use std::cmp::min;
 

@@ -11,5 +11,12 @@ pub mod Groups
 pub mod Steps
 pub mod Held
 pub mod Tracing
+pub mod MuxesMet
+pub mod Stuck
 pub mod Writes
 pub mod Selects
+pub mod PathNames
+pub mod Marks
+pub mod MarkLaws
+pub mod MarkedSelects
+pub mod Numbered

@@ -9,7 +9,7 @@ use Rattle.std.proofs.lemmas.Bool.Decides.{nat_tests}
 use Rattle.std.proofs.lemmas.List.{map-append}
 use Rattle.std.proofs.lemmas.List.Elements.{All-nil, All-push}
 use Rattle.std.proofs.lemmas.Slice.Eq.{bytes_eq-Decides}
-use Rattle.grammar.specs.Symbol.{Symbol, Parts, give, none, ◌>>=◌}
+use Rattle.ij_text.specs.Symbol.{Symbol, Parts, give, none, ◌>>=◌}
 use Rattle.ij_text.specs.Numbering.{AreDistinct}
 use Rattle.ij_text.specs.Numbers.{Written, number_of_text}
 use Rattle.ij_text.specs.Words.{is_name}

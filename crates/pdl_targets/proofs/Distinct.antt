@@ -3,7 +3,7 @@ use Rattle.std.proofs.Common.{◌≡◌, ◌≤◌, ◌<◌, ◌+◌, ℕ, suc, 
 use Rattle.std.proofs.lemmas.Bool.{eqb-true}
 use Rattle.net_graph.specs.declared.net.BitId.{BitId}
 use Rattle.net_graph.specs.declared.net.Net.{Net}
-use Rattle.bit_marks.specs.Marks.{Marks, mark_at}
+use Rattle.net_graph.specs.Marks.{Marks, mark_at}
 use Rattle.pdl_targets.specs.Laws.{AreEachOnce, times}
 use Rattle.pdl_targets.specs.Marked.{AreNumbered, first_bit, first_bits}
 

@@ -1,6 +1,6 @@
 -- Procedures on small networks, and their bit steps.
 use Rattle.std.specs.Prelude.{◌≡◌, ℕ, suc, zero, ◌-◌, ◌++◌, true, false, List, [], ◌∷◌, map, replicate, Some, None, Result, Ok, Err, codes, refl}
-use Rattle.grammar.specs.Reading.{Stop as LeftAt}
+use Rattle.ij_text.specs.Reading.{Stop as LeftAt}
 use Rattle.ij_bits.specs.Room.{full}
 use Rattle.ij_bits.specs.Terns.{exact}
 use Rattle.ij_text.specs.declared.Which.TheVariants.{RunLoop, RunCycles}

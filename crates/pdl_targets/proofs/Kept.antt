@@ -2,7 +2,7 @@
 use Rattle.net_graph.specs.declared.net.Net.{Net}
 use Rattle.pdl_targets.specs.declared.gather.Gathered.{Gathered}
 use Rattle.pdl_targets.specs.SeenGathered.{IsKept}
-use Rattle.round_sets.specs.Rows.{StampedRows}
+use Rattle.pdl_targets.specs.Rows.{StampedRows}
 
 pub with_rows : (net : Net) (g : Gathered) (rows : StampedRows) → IsKept net g → IsKept net (record g { rows = rows })
 with_rows net g rows kept = record {

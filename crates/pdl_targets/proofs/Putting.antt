@@ -7,7 +7,7 @@ use Rattle.net_graph.specs.declared.step.WriteBit.{WriteBit}
 use Rattle.net_graph.specs.declared.step.ReadBit.{ReadBit}
 use Rattle.net_graph.specs.Path.{same_place}
 use Rattle.pdl_targets.specs.Rounds.{put_write, put_read}
-use Rattle.bit_marks.proofs.Numbering.{no_position}
+use Rattle.net_graph.proofs.Numbering.{no_position}
 
 -- an item in place of the one at an index, or at the end
 abbrev pub placed_at : {A : Type 0} → Option ℕ → List A → A → List A

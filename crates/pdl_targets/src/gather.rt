@@ -15,13 +15,12 @@ ghost use Rattle.pdl_targets.specs.SeenPlaces.{places_in};
 use crate::fault::TargetFault;
 use crate::groups::groups;
 use crate::queue::{mention_read, mention_written, put_reads, put_writes};
-use bit_marks::{BitMarks, marks_law};
+use crate::rows::RowSets;
 use ij_bits::{List, OutOfMemory};
 use ij_text::{Number, Place, Which};
-use net_graph::{BitStep, Group, Net, ReadBit, WriteBit};
+use net_graph::{BitMarks, BitStep, Group, Net, ReadBit, WriteBit, marks_law};
 use net_tree::Tree;
 use pdl_parser::Value;
-use round_sets::RowSets;
 use std::alloc::Global;
 
 /// What came since the last iApply, and what was counted from the begin on.
@@ -84,7 +83,7 @@ fn first_of(first: Option<Place>, at: Place) -> Option<Place>
 }
 
 /// Makes room for so many more; fewer than 2^32 are there then.
-fn room_for<T: Drop>(list: &mut List<T>, more: usize) -> Result<(), OutOfMemory>
+fn room_for<T>(list: &mut List<T>, more: usize) -> Result<(), OutOfMemory>
     ensures items { list.new.items ≡ list.old.items }
     ensures room { OnOk result (more ≤ list.new.spare) }
     ensures few { OnOk result (length list.old.items + more < 2 ^ 32) }

@@ -8,11 +8,10 @@ ghost use Rattle.pdl_targets.specs.SeenPlaces.{places_in};
 ghost use Rattle.pdl_targets.specs.SeenRounds.{AreGroups, AreOnceInAll, IsRoundOf, TakesRead, TakesWrite, seen_groups, seen_rounds, with_read, with_write};
 
 use crate::rounds::rounds;
-use bit_marks::BitMarks;
+use crate::rows::RowSets;
 use ij_bits::{List, OutOfMemory};
-use net_graph::{BitId, Group, ReadBit, WriteBit};
+use net_graph::{BitId, BitMarks, Group, ReadBit, WriteBit};
 use net_tree::Tree;
-use round_sets::RowSets;
 use std::alloc::Global;
 
 /// Where a register is thought to stand: in which round, and at which place there.

@@ -4,10 +4,9 @@ ghost use Rattle.net_graph.specs.Nets.{IsNet};
 ghost use Rattle.pdl_targets.specs.Index.{IsIndex};
 
 use crate::captors::{Captors, captors_of};
-use bit_marks::{BitMarks, selects_of};
 use ij_bits::{List, OutOfMemory};
 use ij_text::{Name, Names};
-use net_graph::{Net, Thing};
+use net_graph::{BitMarks, Net, Thing, selects_of};
 use pdl_expand::dotted_paths;
 use std::alloc::Global;
 

@@ -6,8 +6,7 @@ ghost use Rattle.net_graph.specs.Signals.{capture_signal};
 ghost use Rattle.pdl_targets.specs.Marked.{AreSelects};
 ghost use Rattle.pdl_targets.specs.Targets.{held_if_captured, is_inverted, same_source, select_compared, written};
 
-use bit_marks::{BitMarks, is_select};
-use net_graph::{BitId, Net, Sig, Spot, same_place};
+use net_graph::{BitId, BitMarks, Net, Sig, Spot, is_marked_select, same_place};
 
 /// A register bit, and whether a bit of a target is its inverse.
 #[derive(Clone, Copy, Drop)]
@@ -116,11 +115,11 @@ pub(crate) fn select_compared(net: &Net, selects: &BitMarks, bit: BitId) -> Opti
     requires { AreSelects net.now selects.now }
     ensures { result ≡ select_compared net.now bit }
 {
-    if is_select(net, selects, bit) {
+    if is_marked_select(net, selects, bit) {
         return Some(bit);
     }
     match capture_of(net, bit) {
-        Sig::Bit { bit, inverted: _ } if is_select(net, selects, bit) => Some(bit),
+        Sig::Bit { bit, inverted: _ } if is_marked_select(net, selects, bit) => Some(bit),
         _ => None,
     }
 }

@@ -5,9 +5,8 @@ ghost use Rattle.net_graph.specs.Path.{is_in};
 ghost use Rattle.pdl_targets.specs.Marked.{AreNumbered, bits_compared, bits_written, first_bits};
 ghost use Rattle.pdl_targets.specs.Rounds.{mention, put_read, put_reads, put_write, put_writes};
 
-use bit_marks::{BitMarks, is_in, mark_next, read_at, written_at};
 use ij_bits::List;
-use net_graph::{BitId, Net, ReadBit, WriteBit};
+use net_graph::{BitId, BitMarks, Net, ReadBit, WriteBit, is_in, mark_next, read_at, written_at};
 
 /// Puts a write into a queue with room for it: in place of one of the same bit, or at the end.
 fn put_write(net: &Net, marks: &mut BitMarks, writes: &mut List<WriteBit>, write: WriteBit)

@@ -10,10 +10,9 @@ use crate::captors::{Captors, compared};
 use crate::fault::TargetFault;
 use crate::picks::{Picked, flip_if, select_compared, written};
 use crate::values::value_at;
-use bit_marks::{BitMarks, is_select};
 use ij_bits::{List, Tern};
 use ij_text::Place;
-use net_graph::{Net, ReadBit, Spot, WriteBit};
+use net_graph::{BitMarks, Net, ReadBit, Spot, WriteBit, is_marked_select};
 use std::alloc::Global;
 
 /// The write of a bit that stands for a register bit.
@@ -31,7 +30,7 @@ fn write_bit(
         return Err(TargetFault::NotWritable { at });
     };
     let bit = picked.bit;
-    if is_select(net, selects, bit) {
+    if is_marked_select(net, selects, bit) {
         return Err(TargetFault::SelectTarget { at, bit });
     }
     Ok(WriteBit {

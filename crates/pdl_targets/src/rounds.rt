@@ -4,11 +4,11 @@ ghost use Rattle.pdl_targets.specs.Insertion.{AreExcluded, put_at, put_in};
 ghost use Rattle.pdl_targets.specs.Rounds.{rounds};
 ghost use Rattle.pdl_targets.specs.SeenPlaces.{places_in};
 ghost use Rattle.pdl_targets.specs.SeenRounds.{seen_rounds};
-ghost use Rattle.round_sets.specs.Rows.{excluded_at};
+ghost use Rattle.pdl_targets.specs.Rows.{excluded_at};
 
+use crate::rows::RowSets;
 use ij_bits::{List, OutOfMemory};
 use net_tree::Tree;
-use round_sets::RowSets;
 use std::alloc::Global;
 
 /// How many rounds there are. 2^32 of them count as want of memory.

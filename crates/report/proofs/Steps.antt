@@ -1,17 +1,15 @@
 -- How a loop's text goes on.
-use Rattle.std.proofs.Common.{◌≡◌, ℕ, suc, ◌*◌, ◌/◌, ◌%◌, ◌^◌, ◌<◌, ◌≤◌, List, [], ◌∷◌, ◌++◌, length, take, drop, ◌-◌, map, ap, sym, ◌∙◌, subst, arith}
+use Rattle.std.proofs.Common.{◌≡◌, ℕ, suc, ◌*◌, ◌/◌, ◌%◌, ◌^◌, ◌<◌, ◌≤◌, List, [], ◌∷◌, ◌++◌, length, drop, map, ap, sym, ◌∙◌, subst, arith}
 use Rattle.std.specs.Prelude.{get_or, codes}
-use Rattle.std.specs.List.{flat_map}
 use Rattle.std.proofs.Math.Seq.{drop-cons}
-use Rattle.std.proofs.lemmas.List.{take_all, length-drop, length-map, get_or-map}
+use Rattle.std.proofs.lemmas.List.{length-map, get_or-map}
 use Rattle.std.proofs.lemmas.List.Elements.{All-get_or}
 use Rattle.std.specs.Prelude.{All}
-use Rattle.ij_bits.specs.Room.{Listed}
 use Rattle.instruments.specs.declared.model.WordDef.{WordDef}
 use Rattle.instruments.specs.Models.{IsWord}
 use Rattle.instruments.specs.Seen.{SeenWord, seen_word}
 use Rattle.net_graph.specs.Named.{thing_of, width_of}
-use Rattle.report.specs.Paths.{with_dot, behind_dot, joined, node_names, thing_path}
+use Rattle.net_graph.specs.PathNames.{thing_path}
 use Rattle.ij_bits.specs.Hex.{hex_code}
 use Rattle.net_graph.specs.declared.net.Net.{Net}
 use Rattle.net_graph.specs.Signals.{Holds}
@@ -57,20 +55,7 @@ words_next numbers ws k s d number within there next is =
     ∙ ap (λ (x : ℕ). word_text d.name.items d.width x ++ words_from numbers (suc k) (drop (suc k) ds)) (sym is)
     ∙ ap (λ (x : ℕ). word_text d.name.items d.width number ++ words_from numbers x (drop x ds)) (sym next)
 
--- names, by their parts
-pub thing_is : (net : Net) (t : ℕ) (names : List (Listed ℕ)) (name : List ℕ) (n : ℕ) → n ≡ get_or (map (λ thing. thing.node) net.things.items) t 0 → names ≡ node_names net n
-    → name ≡ get_or (map (λ thing. thing.name.items) net.things.items) t [] → flat_map with_dot names ++ name ≡ thing_path net t
-thing_is net t names name n node path own =
-    ap (λ (ns : List (Listed ℕ)). flat_map with_dot ns ++ name) (path ∙ ap (node_names net) node)
-    ∙ ap (λ (x : List ℕ). flat_map with_dot (node_names net (get_or (map (λ thing. thing.node) net.things.items) t 0)) ++ x) own
-
-pub joined_is : (names : List (Listed ℕ)) (first : Listed ℕ) → 1 ≤ length names → first ≡ get_or names 0 first → first.items ++ flat_map behind_dot (take (length names - 1) (drop 1 names)) ≡ joined names
-joined_is names first some is =
-    let within : 0 < length names = omega arith in
-    let rest : length (drop 1 names) ≤ length names - 1 = omega (arith, length-drop 1 names) in
-    ap (λ (ns : List (Listed ℕ)). first.items ++ flat_map behind_dot ns) (take_all (length names - 1) (drop 1 names) rest)
-    ∙ sym (ap joined (drop-cons names 0 first within) ∙ ap (λ (x : Listed ℕ). x.items ++ flat_map behind_dot (drop 1 names)) (sym is))
-
+-- a register, by its parts
 pub register_is : (net : Net) (holds : Holds) (r t w : ℕ) → t ≡ thing_of net r → w ≡ width_of net r
     → codes "register " ++ (thing_path net t ++ 32 ∷ (register_digits net holds r w ++ 10 ∷ [])) ≡ register_text net holds r
 register_is net holds r t w thing width =

@@ -8,11 +8,12 @@ ghost use Rattle.net_graph.specs.Nets.{IsNet};
 ghost use Rattle.report.specs.Instruments.{word_text, words_from, entry_if, entry_text, index_text, memory_text, counts_text, instrument_text};
 
 use crate::number::put_hex_number;
-use crate::path::{put_instrument_path, put_name};
+use crate::path::put_instrument_path;
 use ij_bits::List;
 use ij_io::{Sink, StoreFault, Word, put_words};
 use instruments::{Counts, MemDef, Model, WordDef};
 use net_graph::Net;
+use path_names::put_name;
 
 /// Writes a word.
 fn put_word<K: Sink>(word: &WordDef, number: u64, k: &mut K) -> Result<(), StoreFault>

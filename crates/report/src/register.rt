@@ -7,9 +7,9 @@ ghost use Rattle.net_graph.specs.Named as named;
 ghost use Rattle.net_graph.specs.Nets.{IsNet};
 ghost use Rattle.report.specs.Registers.{bit_digit, register_digits, register_text, registers_text};
 
-use crate::path::put_thing_path;
 use ij_io::{Sink, StoreFault};
 use net_graph::{BitId, Holds, Net, is_select, register_count};
+use path_names::put_thing_path;
 
 /// The digit of a bit, or an s where it selects.
 fn digit_of(net: &Net, holds: &Holds, bit: BitId) -> u8

@@ -19,13 +19,13 @@ use Rattle.path_planner.proofs.Opening.{opens}
 use Rattle.path_planner.proofs.PlanSteps.{can_go_on}
 use Rattle.path_planner.proofs.Settled.{settles}
 use Rattle.path_planner.proofs.Step.{has_path}
-use Rattle.group_scans.specs.Retargeting.{PlannedGroup, PlannedStep, Applies, Runs, Resets, holds_after_rounds, holds_after_step, IsPlannedGroup, GroupsArePlanned, StepsArePlanned, IsRetargetable}
-use Rattle.group_scans.specs.Rounds.{IsPlannable, StepIsPlannable}
-use Rattle.group_scans.specs.Scans.{holds_after}
+use Rattle.headline.specs.Retargeting.{PlannedGroup, PlannedStep, Applies, Runs, Resets, holds_after_rounds, holds_after_step, IsPlannedGroup, GroupsArePlanned, StepsArePlanned, IsRetargetable}
+use Rattle.headline.specs.Rounds.{IsPlannable, StepIsPlannable}
+use Rattle.headline.specs.Scans.{holds_after}
 use Rattle.path_planner.proofs.Plans.{planned}
 use Rattle.path_planner.proofs.Starting.{reset_scannable}
 use Rattle.retargeter.specs.Plans.{AreRoundsOf, IsPlanOf}
-use Rattle.group_scans.proofs.Scanned.{scans_listed}
+use Rattle.headline.proofs.Scanned.{scans_listed}
 
 module _ (net : Net) (form : Items) (g : SeenGroup) where
   -- an opening is made of plans

@@ -13,8 +13,8 @@ use Rattle.net_tree.specs.Form.{Items}
 use Rattle.svf_writer.specs.SeenCommands.{SDR}
 use Rattle.svf_writer.specs.Written.{texts_of}
 use Rattle.headline.specs.Script.{rounds_text}
-use Rattle.group_scans.specs.Scans.{scans_of, holds_after}
-use Rattle.group_scans.specs.Retargeting.{PlannedGroup, rounds_of, holds_after_rounds, IsPlannedGroup, GroupsArePlanned}
+use Rattle.headline.specs.Scans.{scans_of, holds_after}
+use Rattle.headline.specs.Retargeting.{PlannedGroup, rounds_of, holds_after_rounds, IsPlannedGroup, GroupsArePlanned}
 use Rattle.retargeter.specs.Plans.{ArePlansOf, AreRoundsOf}
 use Rattle.retargeter.specs.Writing.{front, WritesRound, WritesRoundPart, IsAfterGroup, WritesRounds, WritesRoundsPart, IsAfterRounds}
 

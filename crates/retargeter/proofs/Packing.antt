@@ -13,7 +13,7 @@ use Rattle.net_graph.proofs.Shapes.{length-chain_same}
 use Rattle.net_graph.proofs.Writing.{write_all-shape}
 use Rattle.scan_packer.specs.Packed.{tdi_bits, tdo_bits, mask_bits}
 use Rattle.tap_machine.specs.Play.{is_empty}
-use Rattle.group_scans.specs.Scans.{scan_of}
+use Rattle.headline.specs.Scans.{scan_of}
 use Rattle.retargeter.specs.Packed.{quiet_scan, comparing_scan}
 use Rattle.ij_bits.proofs.Lists.{map_some}
 

@@ -15,7 +15,7 @@ use Rattle.path_planner.specs.Scannable.{IsScannable}
 use Rattle.scan_packer.specs.Packing.{CanScan}
 use Rattle.svf_writer.specs.SeenCommands.{SDR}
 use Rattle.svf_writer.specs.Written.{text_of, texts_of}
-use Rattle.group_scans.specs.Scans.{scan_of, scans_of, holds_after}
+use Rattle.headline.specs.Scans.{scan_of, scans_of, holds_after}
 use Rattle.retargeter.specs.Scanning.{CanScanAll}
 
 -- the text of the scans of plans

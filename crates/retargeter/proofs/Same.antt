@@ -10,8 +10,8 @@ use Rattle.net_tree.specs.Form.{Items}
 use Rattle.path_planner.specs.Plans.{ArePlans}
 use Rattle.svf_writer.specs.SeenCommands.{SDR}
 use Rattle.svf_writer.specs.Written.{texts_of}
-use Rattle.group_scans.specs.Scans.{scans_of, holds_after}
-use Rattle.group_scans.proofs.One.{plans_same}
+use Rattle.headline.specs.Scans.{scans_of, holds_after}
+use Rattle.headline.proofs.One.{plans_same}
 use Rattle.retargeter.specs.Writing.{WritesGroup, WritesGroupPart, IsAfterGroup}
 
 -- so what was written for some plans is what is written of the group

@@ -18,8 +18,8 @@ use Rattle.path_planner.specs.Scannable.{IsScannable}
 use Rattle.path_planner.proofs.Starting.{start_scannable}
 use Rattle.pdl_targets.specs.Laws.{rounds_in, cycles_in, round_count}
 use Rattle.headline.specs.Script.{ScannedStep, Applied, Ran, WasReset, step_text, steps_text, script_text, applies_after}
-use Rattle.group_scans.specs.Retargeting.{PlannedGroup, PlannedStep, Applies, Runs, Resets, seen_of, scanned_of, script_of, holds_after_step, StepsArePlanned, IsRetargetable, IsRetargeted, IsWithinLimits, groups_in, cycles_of, PlansAreRight}
-use Rattle.group_scans.specs.Rounds.{StepIsPlannable}
+use Rattle.headline.specs.Retargeting.{PlannedGroup, PlannedStep, Applies, Runs, Resets, seen_of, scanned_of, script_of, holds_after_step, StepsArePlanned, IsRetargetable, IsRetargeted, IsWithinLimits, groups_in, cycles_of, PlansAreRight}
+use Rattle.headline.specs.Rounds.{StepIsPlannable}
 use Rattle.retargeter.specs.Plans.{IsPlanOf, AreStepsOf}
 use Rattle.retargeter.specs.Scripts.{WritesSteps, WritesStepsPart, WritesScript, WritesScriptPart, AreFew, HasScript, ScriptIsRight}
 use Rattle.retargeter.specs.Session.{Session}

@@ -9,8 +9,8 @@ use Rattle.net_tree.specs.Form.{Items}
 use Rattle.svf_writer.specs.SeenCommands.{Run as RunTest}
 use Rattle.svf_writer.specs.Written.{text_of, texts_of, preface_commands}
 use Rattle.headline.specs.Script.{step_text, applies_after}
-use Rattle.group_scans.specs.Retargeting.{PlannedGroup, PlannedStep, Applies, Runs, Resets, scanned_of, holds_after_step}
-use Rattle.group_scans.proofs.StepKinds.{kind, groups, cycles}
+use Rattle.headline.specs.Retargeting.{PlannedGroup, PlannedStep, Applies, Runs, Resets, scanned_of, holds_after_step}
+use Rattle.headline.proofs.StepKinds.{kind, groups, cycles}
 use Rattle.retargeter.specs.Plans.{AreRoundsOf, IsPlanOf}
 use Rattle.retargeter.specs.Session.{Session}
 use Rattle.retargeter.specs.Writing.{WritesRounds, WritesRoundsPart, IsAfterRounds, WritesStep, WritesStepPart, IsAfterStep}

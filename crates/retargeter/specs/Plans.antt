@@ -4,7 +4,7 @@ use Rattle.net_graph.specs.declared.net.Net.{Net}
 use Rattle.net_graph.specs.SeenSteps.{SeenGroup, SeenStep}
 use Rattle.net_graph.specs.Signals.{Holds}
 use Rattle.net_tree.specs.Form.{Items}
-use Rattle.group_scans.specs.Retargeting.{PlannedGroup, PlannedStep, seen_of, IsPlannedGroup, GroupsArePlanned, StepsArePlanned}
+use Rattle.headline.specs.Retargeting.{PlannedGroup, PlannedStep, seen_of, IsPlannedGroup, GroupsArePlanned, StepsArePlanned}
 
 -- these are plans of a group's scans, where the update stages hold this before them
 abbrev pub ArePlansOf : Net → Items → Holds → SeenGroup → List SeenGroup → Type 0

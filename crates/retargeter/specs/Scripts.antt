@@ -8,7 +8,7 @@ use Rattle.net_graph.specs.SeenSteps.{SeenStep}
 use Rattle.net_tree.specs.Form.{Items}
 use Rattle.pdl_targets.specs.Laws.{rounds_in, cycles_in}
 use Rattle.headline.specs.Script.{steps_text, script_text}
-use Rattle.group_scans.specs.Retargeting.{PlannedStep, script_of, IsRetargeted}
+use Rattle.headline.specs.Retargeting.{PlannedStep, script_of, IsRetargeted}
 use Rattle.retargeter.specs.Plans.{AreStepsOf}
 use Rattle.retargeter.specs.Session.{Session}
 

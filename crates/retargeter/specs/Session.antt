@@ -6,7 +6,7 @@ use Rattle.net_graph.specs.Devices.{IsDevice}
 use Rattle.net_graph.specs.Signals.{Holds}
 use Rattle.net_tree.specs.Form.{Items}
 use Rattle.path_planner.specs.Scannable.{IsScannable}
-use Rattle.group_scans.specs.Retargeting.{IsRetargetable}
+use Rattle.headline.specs.Retargeting.{IsRetargetable}
 
 pub record Session : Type 0 where
   pub net : Net

@@ -9,8 +9,8 @@ use Rattle.net_tree.specs.Form.{Items}
 use Rattle.svf_writer.specs.SeenCommands.{SDR}
 use Rattle.svf_writer.specs.Written.{texts_of, mark, round_mark}
 use Rattle.headline.specs.Script.{applies_after, rounds_text, step_text}
-use Rattle.group_scans.specs.Scans.{scans_of, holds_after}
-use Rattle.group_scans.specs.Retargeting.{PlannedGroup, PlannedStep, rounds_of, holds_after_rounds, scanned_of, holds_after_step}
+use Rattle.headline.specs.Scans.{scans_of, holds_after}
+use Rattle.headline.specs.Retargeting.{PlannedGroup, PlannedStep, rounds_of, holds_after_rounds, scanned_of, holds_after_step}
 use Rattle.retargeter.specs.Plans.{ArePlansOf, AreRoundsOf, IsPlanOf}
 use Rattle.retargeter.specs.Session.{Session}
 

@@ -3,14 +3,14 @@ ghost use Rattle.std.specs.Prelude.{◌≡◌, ◌<◌, ◌≤◌, ◌+◌, ◌^
 ghost use Rattle.ij_io.specs.Causes.{HasCause};
 ghost use Rattle.net_graph.specs.Devices.{IsDevice};
 ghost use Rattle.pdl_targets.specs.Laws.{rounds_in};
-ghost use Rattle.group_scans.specs.Retargeting.{IsRetargetable};
-ghost use Rattle.group_scans.specs.Rounds.{StepIsPlannable};
+ghost use Rattle.headline.specs.Retargeting.{IsRetargetable};
+ghost use Rattle.headline.specs.Rounds.{StepIsPlannable};
 ghost use Rattle.retargeter.specs.Scripts.{AreFew, HasScript, WritesScript, WritesScriptPart, ScriptIsRight, WritesSteps, WritesStepsPart};
 
 use crate::retargeter::Retargeter;
-use bit_steps::{BitSteps, next_step};
-use group_scans::planned_steps_law;
+use headline::planned_steps_law;
 use ij_io::{Sink, StoreFault};
+use merge_order::{BitSteps, next_step};
 use net_graph::{Device, Net};
 use net_tree::Tree;
 use std::alloc::Global;

@@ -8,8 +8,8 @@ ghost use Rattle.net_graph.specs.Resets.{start_holds};
 ghost use Rattle.net_graph.specs.SeenSteps.{Apply, Reset, seen_group, seen_step};
 ghost use Rattle.svf_writer.specs.SeenCommands.{Run as RunTest};
 ghost use Rattle.svf_writer.specs.Written.{text_of};
-ghost use Rattle.group_scans.specs.Rounds.{IsPlannable, StepIsPlannable};
-ghost use Rattle.group_scans.specs.Retargeting.{IsRetargetable};
+ghost use Rattle.headline.specs.Rounds.{IsPlannable, StepIsPlannable};
+ghost use Rattle.headline.specs.Retargeting.{IsRetargetable};
 ghost use Rattle.retargeter.specs.Writing.{HasPlan, WritesStep, WritesStepPart, IsAfterStep};
 
 use crate::buffers::Buffers;

@@ -4,8 +4,8 @@ ghost use Rattle.ij_io.specs.Bytes.{Adds, AddsPart};
 ghost use Rattle.ij_io.specs.Causes.{HasCause};
 ghost use Rattle.net_graph.specs.SeenSteps.{seen_group};
 ghost use Rattle.path_planner.specs.Scannable.{IsScannable};
-ghost use Rattle.group_scans.specs.Rounds.{IsPlannable};
-ghost use Rattle.group_scans.specs.Retargeting.{IsRetargetable};
+ghost use Rattle.headline.specs.Rounds.{IsPlannable};
+ghost use Rattle.headline.specs.Retargeting.{IsRetargetable};
 ghost use Rattle.retargeter.specs.Room.{HasScanRoom};
 ghost use Rattle.retargeter.specs.Writing.{front, WritesRound, WritesRoundPart, IsAfterGroup, WritesRounds, WritesRoundsPart, IsAfterRounds};
 

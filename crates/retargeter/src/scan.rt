@@ -10,7 +10,7 @@ ghost use Rattle.path_planner.specs.Scannable.{IsScannable};
 ghost use Rattle.scan_packer.specs.Packing.{CanScan};
 ghost use Rattle.svf_writer.specs.SeenCommands.{SDR};
 ghost use Rattle.svf_writer.specs.Written.{text_of};
-ghost use Rattle.group_scans.specs.Scans.{scan_of};
+ghost use Rattle.headline.specs.Scans.{scan_of};
 ghost use Rattle.retargeter.specs.Room.{HasScanRoom};
 ghost use Rattle.retargeter.specs.Packed.{quiet_scan, comparing_scan};
 

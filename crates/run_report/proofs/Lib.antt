@@ -1,1 +1,9 @@
 pub mod Naming
+pub mod Looking
+pub mod Within
+pub mod Same
+pub mod Planning
+pub mod Going
+pub mod Steps
+pub mod Standing
+pub mod Noting

@@ -7,8 +7,8 @@ use Rattle.net_graph.specs.declared.device.Device.{Device}
 use Rattle.net_graph.specs.declared.net.Net.{Net}
 use Rattle.net_graph.specs.SeenSteps.{SeenStep}
 use Rattle.net_tree.specs.Form.{Items}
-use Rattle.read_places.specs.Places.{places, read_at}
-use Rattle.read_places.specs.Procedure.{AreReadNames, Procedure}
+use Rattle.run_report.specs.Places.{places, read_at}
+use Rattle.run_report.specs.Procedure.{AreReadNames, Procedure}
 use Rattle.run_report.specs.Report.{IsRunReport, WritesReport, WritesReportPart}
 use Rattle.svf_writer.specs.SeenCommands.{SeenCommand}
 

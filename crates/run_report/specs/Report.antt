@@ -2,7 +2,7 @@
 -- (IEEE 1687-2014, PDL level 0: iRead; Serial Vector Format, revision E).
 use Rattle.std.specs.Prelude.{◌≡◌, ℕ, List, Option}
 use Rattle.bench_report.specs.Report.{named_report}
-use Rattle.group_scans.specs.Retargeting.{PlannedStep}
+use Rattle.headline.specs.Retargeting.{PlannedStep}
 use Rattle.ij_io.specs.Bytes.{Adds, AddsPart}
 use Rattle.instruments.specs.Seen.{SeenModel}
 use Rattle.net_graph.specs.declared.device.Device.{Device}
@@ -10,7 +10,7 @@ use Rattle.net_graph.specs.declared.net.Net.{Net}
 use Rattle.net_graph.specs.Resets.{start_holds}
 use Rattle.net_graph.specs.SeenSteps.{SeenStep}
 use Rattle.net_tree.specs.Form.{Items}
-use Rattle.read_places.specs.Places.{places, read_at}
+use Rattle.run_report.specs.Places.{places, read_at}
 use Rattle.retargeter.specs.Plans.{AreStepsOf}
 use Rattle.svf_writer.specs.SeenCommands.{SeenCommand}
 

@@ -1,18 +1,19 @@
 // A run, printed.
 ghost use Rattle.std.specs.Prelude.{◌≡◌, ◌≤◌, ◌<◌, ◌^◌, length, map, IfOk, OnOk, OnErr};
 ghost use Rattle.bench_report.specs.Report.{differs_of};
-ghost use Rattle.bit_steps.specs.BitSteps.{bit_steps};
+ghost use Rattle.merge_order.specs.BitSteps.{bit_steps};
 ghost use Rattle.ij_io.specs.Causes.{HasCause};
 ghost use Rattle.ij_text.specs.Numbering.{AreDistinct};
-ghost use Rattle.runners.specs.Runners.{AreModels};
+ghost use Rattle.instruments.specs.Runners.{AreModels};
 ghost use Rattle.instruments.specs.Seen.{seen_model};
 ghost use Rattle.pdl_parser.specs.Grammar.{full_names};
 ghost use Rattle.pdl_parser.specs.Views.{seen_proc};
-ghost use Rattle.read_places.specs.Procedure.{CanRetarget};
+ghost use Rattle.run_report.specs.Procedure.{CanRetarget};
 ghost use Rattle.run_report.specs.Report.{WritesReport, WritesReportPart};
 ghost use Rattle.tap_machine.specs.declared.Stable.TheVariants.{Reset as InReset};
 ghost use Rattle.tap_machine.specs.Play.{pins, scans_in};
 
+use crate::names::ReadPlaces;
 use bench_report::put_named_play;
 use ij_bits::List;
 use ij_io::{Sink, StoreFault};
@@ -20,7 +21,6 @@ use instruments::Model;
 use net_graph::{Device, Net};
 use net_tree::Tree;
 use pdl_parser::Proc;
-use read_places::ReadPlaces;
 use std::alloc::Global;
 use svf_writer::Commands;
 

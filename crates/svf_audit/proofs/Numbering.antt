@@ -25,9 +25,9 @@ use Rattle.net_graph.specs.SeenSteps.{SeenGroup}
 use Rattle.net_graph.specs.Steps.{IsDataBit, IsGroup}
 use Rattle.net_graph.proofs.PlainNet.{length-bits_from}
 use Rattle.net_graph.proofs.Places.{place_is}
-use Rattle.bit_marks.specs.Marks.{HasMark, Marks}
-use Rattle.bit_marks.specs.Numbered.{AreNumbered, HaveMarks, bits_compared, bits_written, first_bit, first_bits}
-use Rattle.bit_marks.proofs.Numbering.{no_position}
+use Rattle.net_graph.specs.Marks.{HasMark, Marks}
+use Rattle.net_graph.specs.Numbered.{AreNumbered, HaveMarks, bits_compared, bits_written, first_bit, first_bits}
+use Rattle.net_graph.proofs.Numbering.{no_position}
 use Rattle.svf_audit.specs.Audit.{expected_of, same_expects}
 use Rattle.svf_audit.specs.Numbers.{AreCountable}
 use Rattle.svf_audit.proofs.Places.{place_of}

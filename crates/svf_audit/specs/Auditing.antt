@@ -6,7 +6,7 @@ use Rattle.net_graph.specs.SeenSteps.{SeenGroup, seen_step}
 use Rattle.net_graph.specs.Steps.{IsStep}
 use Rattle.net_graph.specs.Signals.{Holds}
 use Rattle.net_graph.specs.Path.{route_of}
-use Rattle.bit_marks.specs.Numbered.{HaveMarks}
+use Rattle.net_graph.specs.Numbered.{HaveMarks}
 use Rattle.svf_writer.specs.Fits.{FitsAfter}
 use Rattle.svf_writer.specs.SeenCommands.{SeenCommand, SeenScan, SIR, SDR, Reset, Idle, Run}
 use Rattle.tap_machine.specs.Play.{is_empty, played}

@@ -11,7 +11,7 @@ use Rattle.net_graph.specs.Signals.{Holds, hold_at}
 use Rattle.net_graph.specs.Path.{route_of}
 use Rattle.svf_audit.specs.declared.registers.Registers.{Registers}
 use Rattle.svf_audit.specs.Audit.{bits_on, has_row}
-use Rattle.bit_marks.specs.Selects.{AreSelects}
+use Rattle.net_graph.specs.MarkedSelects.{AreSelects}
 
 -- the active path
 abbrev pub path_in : Registers → List ℕ

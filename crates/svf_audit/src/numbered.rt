@@ -1,9 +1,8 @@
 // The writes and reads of a group, and the registers of a path, each found by its mark.
-ghost use Rattle.bit_marks.specs.Numbered.{AreNumbered, HaveMarks, bits_compared, bits_written, first_bits};
+ghost use Rattle.net_graph.specs.Numbered.{AreNumbered, HaveMarks, bits_compared, bits_written, first_bits};
 ghost use Rattle.svf_audit.specs.Numbers.{AreCountable};
 
-use bit_marks::{BitMarks, mark_next};
-use net_graph::{BitId, Net, ReadBit, WriteBit};
+use net_graph::{BitId, BitMarks, Net, ReadBit, WriteBit, mark_next};
 
 /// Gives each bit that is written the mark of its place.
 pub(crate) fn number_writes(net: &Net, marks: &mut BitMarks, writes: &[WriteBit])

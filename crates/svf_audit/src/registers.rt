@@ -15,9 +15,8 @@ ghost use Rattle.svf_audit.specs.Registers.{path_in, to_move, AreFound, AreListe
 
 use crate::kept::{Kept, tdi_at, tdi_number};
 use crate::scan::{have_rows, some_select};
-use bit_marks::{BitMarks, selects_of};
 use ij_bits::{Bits, List, OutOfMemory};
-use net_graph::{BitId, Holds, Net, find_path};
+use net_graph::{BitId, BitMarks, Holds, Net, find_path, selects_of};
 use std::alloc::Global;
 use std::mem::swap;
 

@@ -7,8 +7,8 @@ use Rattle.instruments.specs.declared.model.Amount.TheVariants.{Copy, Plus, Minu
 use Rattle.instruments.specs.Seen.{SeenModel}
 use Rattle.table_file.specs.declared.fault.TableFault.{TableFault}
 use Rattle.table_file.specs.declared.fault.TableFault.TheVariants.{TableSyntax, TableName, TableWidth, TableLimit, TableTwice}
-use Rattle.bench_lines.specs.Lines.{lines_of, end_of}
-use Rattle.bench_lines.specs.Words.{path, number, decimal, plain, is_wide, value_in, care_in, entry, slice}
+use Rattle.table_lines.specs.Lines.{lines_of, end_of}
+use Rattle.table_lines.specs.Words.{path, number, decimal, plain, is_wide, value_in, care_in, entry, slice}
 use Rattle.table_lines.specs.Said.{line, instrument, version}
 use Rattle.table_file.specs.Tables.{SeenTable, tables}
 

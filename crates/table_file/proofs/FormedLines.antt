@@ -7,8 +7,8 @@ use Rattle.std.proofs.lemmas.List.Elements.{All-nil, All-cons, All-head, All-tai
 use Rattle.ij_bits.specs.Different.{AreDifferent}
 use Rattle.ij_bits.specs.Room.{Listed}
 use Rattle.ij_text.specs.declared.Place.{Place}
-use Rattle.bench_lines.specs.Lines.{Line, lines_of, end_of}
-use Rattle.bench_lines.specs.Words.{Slice}
+use Rattle.table_lines.specs.Lines.{Line, lines_of, end_of}
+use Rattle.table_lines.specs.Words.{Slice}
 use Rattle.instruments.specs.declared.model.Cond.{Cond}
 use Rattle.instruments.specs.declared.model.Operand.{Operand}
 use Rattle.instruments.specs.declared.model.Operand.TheVariants.{Word as AWord, Input as AnInput, Old}

@@ -13,7 +13,7 @@ use Rattle.ij_bits.specs.BitLists.{number_of, bits_of}
 use Rattle.ij_bits.specs.Different.{AreDifferent}
 use Rattle.ij_bits.proofs.Hex.{number_of-lt}
 use Rattle.ij_text.specs.Numbers.{Written, InDecimal, InBits, bits_in}
-use Rattle.bench_lines.specs.Words.{is_one, value_in, care_in}
+use Rattle.table_lines.specs.Words.{is_one, value_in, care_in}
 use Rattle.instruments.specs.declared.model.Operand.TheVariants.{Old}
 use Rattle.instruments.specs.Seen.{SeenMemory, SeenModel}
 use Rattle.instruments.specs.After.{memory_width, width_of}

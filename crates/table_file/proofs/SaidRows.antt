@@ -6,7 +6,7 @@ use Rattle.std.proofs.lemmas.List.Elements.{All-nil, All-cons}
 use Rattle.ij_text.specs.Numbers.{Written}
 use Rattle.ij_text.specs.Words.{is_name}
 use Rattle.ij_text.specs.Options.{or_else}
-use Rattle.bench_lines.specs.Words.{number, plain, decimal, slice as slice_text}
+use Rattle.table_lines.specs.Words.{number, plain, decimal, slice as slice_text}
 use Rattle.table_lines.specs.Said.{Words, is, if_there, SaidCond, SaidEntry, SaidSlot, ToWord, ToEntry, SaidAmount, Number, Copy, Plus, Minus, FromEntry, SaidSet, SaidRow, SaidLine, Input, Word, Memory, Output, Change, Run, End, Starts, cond_of, with_rest, old_cond, front_cond, entry_in, entry_slot, slot, number_amount, entry_amount, amount, plus_minus, set_of, set_words, in_first, parts, more_sets, sets, row_of, more_conds, behind_cond, conds_sets, row, starts, input_line, word_line, memory_line, output_line, change_line, run_line, end_line, line_by, line}
 
 -- ---- what holds of an answer, if there is one

@@ -6,7 +6,7 @@ use Rattle.std.proofs.Math.Pow.{pow_mono}
 use Rattle.std.proofs.lemmas.Bool.Decides.{nat_tests}
 use Rattle.instruments.specs.Seen.{SeenModel, SeenWord}
 use Rattle.instruments.specs.Models.{word_width}
-use Rattle.bench_lines.specs.Words.{Slice}
+use Rattle.table_lines.specs.Words.{Slice}
 use Rattle.table_lines.specs.Said.{SaidLine, Input, Word, Memory, Output, Change, Run, End, SaidSlot, ToWord, ToEntry, SaidAmount, Number, Copy, Plus, Minus, FromEntry}
 use Rattle.table_lines.specs.SeenSaid.{seen_amount, seen_set}
 use Rattle.table_lines.specs.declared.said.SaidSet.{SaidSet as RustSet}

@@ -19,8 +19,8 @@ use Rattle.instruments.specs.Models.{word_width, operand_width, memory_names, na
 use Rattle.table_file.specs.declared.fault.TableFault.{TableFault}
 use Rattle.table_file.specs.declared.fault.TableFault.TheVariants.{TableSyntax, TableName, TableWidth, TableLimit, TableTwice}
 use Rattle.table_file.specs.declared.table.Table.{Table}
-use Rattle.bench_lines.specs.Lines.{Line, lines_of, end_of}
-use Rattle.bench_lines.specs.Words.{is_wide, value_in, care_in}
+use Rattle.table_lines.specs.Lines.{Line, lines_of, end_of}
+use Rattle.table_lines.specs.Words.{is_wide, value_in, care_in}
 use Rattle.table_lines.specs.Said.{SaidCond, SaidEntry, SaidSlot, ToWord, ToEntry, SaidAmount, Number, Copy, Plus, Minus, FromEntry, SaidSet, SaidRow, Starts, SaidLine, Input, Word, Memory, Output, Change, Run, End, line, instrument, version}
 
 -- a table with plain names and lists

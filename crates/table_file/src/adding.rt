@@ -8,12 +8,13 @@ ghost use Rattle.table_file.specs.Small.{AreNarrow, IsFewAmount};
 
 use crate::names::{cond_operand, operand_named};
 use crate::widths::{cond_width, known, slice_word, word_width};
-use bench_lines::{care_in, plain_number, value_in};
 use ij_bits::{List, OutOfMemory};
 use ij_text::name_of;
 use instruments::{Amount, Cond, Model, Operand, OutDef, RowDef, Set, Slot};
 use std::alloc::Global;
-use table_lines::{SaidAmount, SaidCond, SaidRow, SaidSet, SaidSlot, Slice};
+use table_lines::{
+    SaidAmount, SaidCond, SaidRow, SaidSet, SaidSlot, Slice, care_in, plain_number, value_in,
+};
 
 /// The operand of a name; one that isn't there comes only in a line whose names are at fault.
 fn operand_of(m: &Model, name: &[u8]) -> Operand

@@ -4,7 +4,7 @@ ghost use Rattle.ij_text.specs.Numbering.{number_in};
 ghost use Rattle.ij_text.specs.declared.Place.{Place};
 ghost use Rattle.ij_text.specs.Parts.{split};
 ghost use Rattle.instruments.specs.Seen.{seen_model};
-ghost use Rattle.bench_lines.specs.Reading.{texts};
+ghost use Rattle.table_lines.specs.Reading.{texts};
 ghost use Rattle.table_lines.specs.Said.{instrument};
 ghost use Rattle.table_lines.specs.SeenSaid.{seen_said};
 ghost use Rattle.table_file.specs.Small.{IsSmall};
@@ -21,7 +21,7 @@ use ij_bits::{List, OutOfMemory};
 use ij_text::{Name, Names, Place, name_of};
 use instruments::Model;
 use std::alloc::Global;
-use table_lines::{SaidLine, instrument, line};
+use table_lines::{SaidLine, instrument, read_line_of_block};
 
 /// A block that isn't ended: the kind of its last line, and what its lines said.
 #[derive(Drop)]
@@ -152,7 +152,7 @@ fn block_line(
     ensures path { OnOk result ((seen_block b.new).path ≡ (seen_block b.old).path) }
     ensures small { OnOk result (IsSmall (seen_model b.new.model)) }
 {
-    match line(alloc, second, words)? {
+    match read_line_of_block(alloc, second, words)? {
         Some(l) => after_line(alloc, at, b, &l),
         None => Err(TableFault::TableSyntax { at }),
     }

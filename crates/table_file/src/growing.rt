@@ -1,19 +1,18 @@
 // A model with one more line.
 ghost use Rattle.std.specs.Prelude.{◌≡◌, ◌^◌, ◌<◌, ◌≤◌, false, option_map, IfOk, IfSome, OnOk};
 ghost use Rattle.instruments.specs.Seen.{seen_model, seen_word, seen_memory, seen_port};
-ghost use Rattle.bench_lines.specs.Reading.{plain_value};
+ghost use Rattle.table_lines.specs.Reading.{plain_value};
 ghost use Rattle.table_lines.specs.Said.{Input, Word, Memory, Output, Change, Run};
 ghost use Rattle.table_lines.specs.SeenSaid.{seen_slice, seen_row, seen_starts, seen_said};
 ghost use Rattle.table_file.specs.Small.{IsSmall, AreFewStarts};
 ghost use Rattle.table_file.specs.Tables.{with_line, width_fault, limit_fault};
 
 use crate::adding::{out_said, row_said};
-use bench_lines::plain_number;
 use ij_bits::OutOfMemory;
 use ij_text::{Number, name_of};
 use instruments::{MemDef, Model, PortDef, WordDef};
 use std::alloc::Global;
-use table_lines::{SaidLine, SaidRow, Slice, StartNumbers};
+use table_lines::{SaidLine, SaidRow, Slice, StartNumbers, plain_number};
 
 fn port_def(alloc: Global, name: &[u8], width: u128) -> Result<PortDef, OutOfMemory>
     requires { width ≤ 64 }

@@ -6,9 +6,8 @@ ghost use Rattle.instruments.specs.Models.{memory_names, names};
 ghost use Rattle.table_file.specs.Tables.{named, stands_in, word_named, input_named, operand_named, cond_operand, no_operand, no_entry, no_slot, no_amount, target, row_names, name_fault, has_twice};
 ghost use Rattle.table_lines.specs.SeenSaid.{seen_entry, seen_slot, seen_amount, seen_cond, seen_set, seen_row, seen_said};
 
-use bench_lines::is;
 use instruments::{MemDef, Model, Operand, OutDef, PortDef, WordDef};
-use table_lines::{SaidAmount, SaidCond, SaidEntry, SaidLine, SaidRow, SaidSet, SaidSlot};
+use table_lines::{SaidAmount, SaidCond, SaidEntry, SaidLine, SaidRow, SaidSet, SaidSlot, is};
 
 /// The number of the word of a name.
 fn find_word(words: &[WordDef], name: &[u8]) -> Option<usize>

@@ -3,7 +3,7 @@ ghost use Rattle.std.specs.Prelude.{◌≡◌, ◌+◌, ◌^◌, ◌<◌, ◌≤
 ghost use Rattle.ij_text.specs.declared.Place.{Place};
 ghost use Rattle.instruments.specs.Models.{IsModel};
 ghost use Rattle.instruments.specs.Seen.{seen_model};
-ghost use Rattle.bench_lines.specs.Reading.{lines_left, seen_line};
+ghost use Rattle.table_lines.specs.Reading.{lines_left, seen_line};
 ghost use Rattle.table_file.specs.declared.fault.TableFault.{TableFault};
 ghost use Rattle.table_file.specs.Answers.{GivesTable, IsSoFar, seen_so_far, seen_tables};
 ghost use Rattle.table_file.specs.Tables.{tables, read_lines, next_line, from_head, no_tables, at_end};
@@ -11,11 +11,10 @@ ghost use Rattle.table_file.specs.Tables.{tables, read_lines, next_line, from_he
 use crate::blocks::{SoFar, next_line as one_more_line};
 use crate::fault::TableFault;
 use crate::table::Table;
-use bench_lines::{end_place, next_line, words};
 use ij_bits::List;
 use ij_text::{Names, Place};
 use std::alloc::Global;
-use table_lines::version;
+use table_lines::{end_place, next_line, version, words};
 
 fn nothing(alloc: Global) -> SoFar
     ensures value { seen_so_far result ≡ no_tables }
@@ -101,7 +100,7 @@ fn from_head(alloc: Global, end: Place, text: &[u8]) -> Result<List<Table>, Tabl
     }
 }
 
-#[tactic(auto, unfolding(crate::specs::Tables::tables, bench_lines::specs::Lines::lines_of, bench_lines::specs::Reading::lines_left))]
+#[tactic(auto, unfolding(crate::specs::Tables::tables, table_lines::specs::Lines::lines_of, table_lines::specs::Reading::lines_left))]
 fn read(alloc: Global, src: &[u8]) -> Result<List<Table>, TableFault>
     requires { length src.now ≤ 134217728 }
     ensures { GivesTable seen_tables result (tables src.now) }

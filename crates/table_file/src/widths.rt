@@ -4,14 +4,16 @@ ghost use Rattle.std.specs.List.{list_any};
 ghost use Rattle.instruments.specs.Seen.{seen_memory, seen_model};
 ghost use Rattle.instruments.specs.After.{memory_width};
 ghost use Rattle.instruments.specs.Models.{word_width, input_width, operand_width};
-ghost use Rattle.bench_lines.specs.Words.{is_wide};
+ghost use Rattle.table_lines.specs.Words.{is_wide};
 ghost use Rattle.table_file.specs.Tables.{known, word_named, name_width, cond_width, slot_width, starts_above, bounds_outside, amount_width, row_widths, width_fault};
 ghost use Rattle.table_lines.specs.SeenSaid.{seen_slot, seen_amount, seen_cond, seen_set, seen_row, seen_starts, seen_said};
 
 use crate::names::{cond_operand, operand_named, word_named};
-use bench_lines::{is_decimal_above, is_number_above, is_wide};
 use instruments::{MemDef, Model, Operand};
-use table_lines::{SaidAmount, SaidCond, SaidLine, SaidRow, SaidSet, SaidSlot, StartNumbers};
+use table_lines::{
+    SaidAmount, SaidCond, SaidLine, SaidRow, SaidSet, SaidSlot, StartNumbers, is_decimal_above,
+    is_number_above, is_wide,
+};
 
 pub(crate) fn word_width(m: &Model, k: u32) -> u32
     ensures { result ≡ word_width (seen_model m.now) k }

@@ -2,7 +2,7 @@
 use Rattle.std.proofs.Common.{◌≡◌, ℕ, ◌≤◌, Bool, true, false, cond, List, [], ◌∷◌, length, None, refl, ap, sym, ◌∙◌, arith}
 use Rattle.std.specs.Prelude.{◌==◌}
 use Rattle.ij_text.specs.Parts.{in_front, split}
-use Rattle.bench_lines.specs.Words.{closed, opened, bracketed, two_decimals, part_of}
+use Rattle.table_lines.specs.Words.{closed, opened, bracketed, two_decimals, part_of}
 
 -- something behind the `]`
 closed_more : (inside : List ℕ) (bs : List ℕ) → closed (inside ∷ [] ∷ split 93 bs) ≡ None

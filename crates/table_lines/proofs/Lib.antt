@@ -1,3 +1,9 @@
 pub mod Closing
 pub mod Parting
 pub mod Rows
+pub mod Runs
+pub mod Lined
+pub mod Saying
+pub mod Above
+pub mod Lows
+pub mod PlainNumbers

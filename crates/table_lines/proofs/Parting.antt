@@ -1,7 +1,7 @@
 -- Rows and their parts.
 use Rattle.std.proofs.Common.{◌≡◌, ℕ, suc, ◌<◌, ◌≤◌, None, Bool, true, false, cond, List, [], ◌∷◌, length, take, drop, refl, ap, sym, ◌∙◌, arith, codes, Bor}
 use Rattle.std.proofs.lemmas.List.{take-map, drop-map}
-use Rattle.bench_lines.specs.Reading.{texts}
+use Rattle.table_lines.specs.Reading.{texts}
 use Rattle.table_lines.specs.Said.{Words, is, parts, in_first, front_cond}
 use Rattle.table_lines.specs.Parted.{part_length}
 

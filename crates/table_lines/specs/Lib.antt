@@ -1,3 +1,6 @@
 pub mod Said
 pub mod SeenSaid
 pub mod Parted
+pub mod Lines
+pub mod Words
+pub mod Reading

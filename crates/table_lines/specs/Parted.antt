@@ -2,7 +2,7 @@
 use Rattle.std.specs.Prelude.{ℕ, suc, Bool, cond, List, [], ◌∷◌, ◌++◌, length, Option, Some, None, codes}
 use Rattle.std.proofs.Common.{Bor}
 use Rattle.table_lines.specs.declared.parts.Part.{Part}
-use Rattle.bench_lines.specs.Reading.{texts}
+use Rattle.table_lines.specs.Reading.{texts}
 use Rattle.table_lines.specs.Said.{Words, is, parts, sets, row_of, SaidCond, SaidRow}
 
 -- how many words stand in front of the first comma

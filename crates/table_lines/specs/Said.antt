@@ -4,7 +4,7 @@ use Rattle.std.specs.Str.{bytes_eq}
 use Rattle.ij_text.specs.Numbers.{Written}
 use Rattle.ij_text.specs.Words.{is_name}
 use Rattle.ij_text.specs.Options.{or_else}
-use Rattle.bench_lines.specs.Words.{Slice, path, decimal, plain, number, entry, slice}
+use Rattle.table_lines.specs.Words.{Slice, path, decimal, plain, number, entry, slice}
 
 -- ---- what is said
 

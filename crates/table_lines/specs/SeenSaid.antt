@@ -16,8 +16,8 @@ use Rattle.table_lines.specs.declared.said.Slice.{Slice as RustSlice}
 use Rattle.table_lines.specs.declared.said.SaidLine.{SaidLine as RustLine}
 use Rattle.table_lines.specs.declared.said.SaidLine.TheVariants.{Input as LineInput, Word as LineWord, Memory as LineMemory, Output as LineOutput, Change as LineChange, Run as LineRun, End as LineEnd}
 use Rattle.table_lines.specs.declared.said.FrontCond.{FrontCond}
-use Rattle.bench_lines.specs.Reading.{texts, plain_value}
-use Rattle.bench_lines.specs.Words.{Slice}
+use Rattle.table_lines.specs.Reading.{texts, plain_value}
+use Rattle.table_lines.specs.Words.{Slice}
 use Rattle.table_lines.specs.Said.{SaidCond, SaidEntry, SaidSlot, ToWord, ToEntry, SaidAmount, Number, Copy, Plus, Minus, FromEntry, SaidSet, SaidRow, Starts, SaidLine, Input, Word, Memory, Output, Change, Run, End}
 
 abbrev pub seen_bracketed : InBrackets → List ℕ × List ℕ

@@ -1,11 +1,11 @@
 // What each line of a block says, whatever its names mean.
 ghost use Rattle.std.specs.Prelude.{◌≡◌, IfOk, option_map};
-ghost use Rattle.bench_lines.specs.Reading.{texts};
+ghost use Rattle.table_lines.specs.Reading.{texts};
 ghost use Rattle.table_lines.specs.Said.{change_line, run_line, line_by, input_line, word_line, memory_line, output_line, end_line, line};
 ghost use Rattle.table_lines.specs.SeenSaid.{seen_row, seen_said};
 
 use crate::said::{SaidLine, SaidRow, row, slice_words, starts};
-use bench_lines::{decimal, is};
+use crate::word::{decimal, is};
 use ij_bits::OutOfMemory;
 use ij_text::is_name;
 use std::alloc::Global;
@@ -156,7 +156,7 @@ fn line_by<'a>(
 
 /// A line of a block.
 #[tactic(auto, unfolding(crate::specs::Said::line))]
-pub fn line<'a>(
+pub fn read_line_of_block<'a>(
     alloc: Global,
     second: bool,
     words: &[&'a [u8]],

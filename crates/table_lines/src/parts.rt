@@ -1,10 +1,10 @@
 // The parts of a row between commas.
 ghost use Rattle.std.specs.Prelude.{◌≡◌, ◌+◌, ◌<◌, ◌≤◌, length, IfSome};
-ghost use Rattle.bench_lines.specs.Reading.{texts};
+ghost use Rattle.table_lines.specs.Reading.{texts};
 ghost use Rattle.table_lines.specs.Said.{parts};
 ghost use Rattle.table_lines.specs.Parted.{part_length, part_list};
 
-use bench_lines::is;
+use crate::word::is;
 
 /// Words up to a comma, and those behind it, where there is one.
 #[derive(Clone, Copy)]

@@ -1,8 +1,8 @@
 // What one line of a table says, whatever its names mean.
 ghost use Rattle.std.specs.Prelude.{◌≡◌, ◌+◌, ◌<◌, ◌&&◌, [], ◌∷◌, map, IfOk, IfSome, option_map, Ok, None, Some};
-ghost use Rattle.bench_lines.specs.Reading.{texts, plain_value};
+ghost use Rattle.table_lines.specs.Reading.{texts, plain_value};
 ghost use Rattle.ij_text.specs.Words.{is_name};
-ghost use Rattle.bench_lines.specs.Words.{named, number, decimal, plain, closed, bracketed, entry, part_of, two_decimals, slice, path};
+ghost use Rattle.table_lines.specs.Words.{named, number, decimal, plain, closed, bracketed, entry, part_of, two_decimals, slice, path};
 ghost use Rattle.std.specs.List.{list_all};
 ghost use Rattle.ij_text.specs.Parts.{split};
 ghost use Rattle.ij_text.specs.Options.{both};
@@ -10,8 +10,9 @@ ghost use Rattle.table_lines.specs.Said.{cond_of, old_cond, starts_of, with_rese
 ghost use Rattle.table_lines.specs.Parted.{part_list, behind_parts, with_conds, do_sets};
 ghost use Rattle.table_lines.specs.SeenSaid.{seen_front, seen_bracketed, seen_entry, seen_slot, seen_amount, seen_cond, seen_set, seen_row, seen_starts, seen_slice};
 
+use crate::bytes::cut_at;
 use crate::parts::{Part, next_part};
-use bench_lines::{cut_at, decimal, is, number, plain};
+use crate::word::{decimal, is, number, plain};
 use ij_bits::OutOfMemory;
 use ij_text::{Number, is_name};
 use std::alloc::Global;
@@ -169,7 +170,7 @@ fn bracketed<'a>(text: &'a [u8]) -> Option<InBrackets<'a>>
 }
 
 /// `MEM[NAME]`.
-#[tactic(auto, unfolding(bench_lines::specs::Words::entry))]
+#[tactic(auto, unfolding(crate::specs::Words::entry))]
 fn entry<'a>(text: &'a [u8]) -> Option<SaidEntry<'a>>
     ensures { option_map seen_entry result ≡ option_map entry_of (entry text.now) }
 {
@@ -488,7 +489,7 @@ fn bounded<'a>(alloc: Global, found: InBrackets<'a>) -> Result<Option<Slice<'a>>
 }
 
 /// `NAME` or `NAME[L:R]`.
-#[tactic(auto, unfolding(bench_lines::specs::Words::slice))]
+#[tactic(auto, unfolding(crate::specs::Words::slice))]
 pub(crate) fn slice_words<'a>(
     alloc: Global,
     text: &'a [u8],
@@ -638,7 +639,7 @@ fn all_names(pieces: &[&[u8]]) -> bool
 }
 
 /// The names of a path.
-#[tactic(auto, unfolding(bench_lines::specs::Words::path))]
+#[tactic(auto, unfolding(crate::specs::Words::path))]
 fn path<'a>(alloc: Global, text: &'a [u8]) -> Result<Option<Vec<&'a [u8]>>, OutOfMemory>
     ensures value { IfOk result (λ p. option_map (λ ps. texts ps.items) p ≡ path text.now) }
     ensures pieces { IfOk result (λ p. IfSome p (λ ps. texts ps.items ≡ split 46 text.now)) }
@@ -661,7 +662,7 @@ pub struct InstrumentPath<'a> {
 }
 
 /// The first line of a block.
-#[tactic(auto, unfolding(crate::specs::Said::instrument, bench_lines::specs::Words::path))]
+#[tactic(auto, unfolding(crate::specs::Said::instrument, crate::specs::Words::path))]
 pub fn instrument<'a>(
     alloc: Global,
     words: &[&'a [u8]],

@@ -10,8 +10,8 @@ use Rattle.std.proofs.lemmas.Nat.{and_le_r, and_shr, and_mod}
 use Rattle.std.proofs.lemmas.List.FromFn.{fill_by_all}
 use Rattle.ij_bits.specs.BitLists.{bits_of, number_of}
 use Rattle.ij_text.specs.Numbers.{Written, InDecimal, InBits, is_digit, digit_bits, text_bits, value_of, said, number_of_text, bits_in, open_bits}
-use Rattle.bench_lines.specs.Words.{is_too_wide, unless_too_wide, is_open, is_one, number as number_read, is_wide, value_in, care_in}
-use Rattle.bench_lines.proofs.Lows.{decimal_bits, known_bits}
+use Rattle.table_lines.specs.Words.{is_too_wide, unless_too_wide, is_open, is_one, number as number_read, is_wide, value_in, care_in}
+use Rattle.table_lines.proofs.Lows.{decimal_bits, known_bits}
 use Rattle.bench_file.specs.Written.{digit, digits, compared_text}
 use Rattle.table_writer.proofs.Lexed.{first_true, all_both, all_weaker, is_letter}
 use Rattle.table_writer.proofs.Named.{not_byte, said_digits, number_decimal, decimal_some, decimal_letters}

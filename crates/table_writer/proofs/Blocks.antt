@@ -7,7 +7,7 @@ use Rattle.std.proofs.lemmas.List.Elements.{All-head, All-tail, All-weaker, Cont
 use Rattle.ij_bits.specs.Different.{AreDifferent}
 use Rattle.ij_text.specs.declared.Place.{Place}
 use Rattle.ij_text.specs.Words.{is_name}
-use Rattle.bench_lines.specs.Lines.{lines, lines_from, line_place, lines_of, end_of}
+use Rattle.table_lines.specs.Lines.{lines, lines_from, line_place, lines_of, end_of}
 use Rattle.instruments.specs.Seen.{SeenWord, SeenMemory, SeenPort, SeenOut, SeenRow, SeenModel}
 use Rattle.instruments.specs.Models.{IsWidth, IsWord, IsMemory, IsOut, IsRow, IsRunRow, IsModel, memory_names}
 use Rattle.table_lines.specs.Said.{SaidLine, Input, Word, Memory, Change, Run, End, line, instrument, version}

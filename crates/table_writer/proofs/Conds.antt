@@ -10,7 +10,7 @@ use Rattle.std.proofs.lemmas.List.Elements.{All-head, All-tail, All-weaker, Cont
 use Rattle.ij_bits.specs.Different.{AreDifferent}
 use Rattle.ij_text.specs.Numbers.{Written}
 use Rattle.ij_text.specs.Words.{is_name}
-use Rattle.bench_lines.specs.Words.{number as number_read, is_wide, value_in, care_in}
+use Rattle.table_lines.specs.Words.{number as number_read, is_wide, value_in, care_in}
 use Rattle.instruments.specs.declared.model.Operand.{Operand}
 use Rattle.instruments.specs.declared.model.Operand.TheVariants.{Word, Input, Old}
 use Rattle.instruments.specs.declared.model.Cond.{Cond}

@@ -1,8 +1,8 @@
 -- Worked examples: the text that is written of what a text says, computed.
 use Rattle.std.specs.Prelude.{◌≡◌, ℕ, List, [], Result, Ok, Err, codes, refl}
 use Rattle.std.specs.Fmt.{digits}
-use Rattle.bench_lines.specs.Lines.{lines_of, end_of}
-use Rattle.bench_lines.specs.Words.{path, number, decimal, plain, is_wide, value_in, care_in, entry, slice}
+use Rattle.table_lines.specs.Lines.{lines_of, end_of}
+use Rattle.table_lines.specs.Words.{path, number, decimal, plain, is_wide, value_in, care_in, entry, slice}
 use Rattle.table_lines.specs.Said.{line, instrument, version}
 use Rattle.table_file.specs.declared.fault.TableFault.{TableFault}
 use Rattle.table_file.specs.Tables.{SeenTable, tables}

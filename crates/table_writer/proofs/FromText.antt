@@ -8,8 +8,8 @@ use Rattle.ij_bits.specs.Different.{AreDifferent}
 use Rattle.ij_text.specs.declared.Place.{Place}
 use Rattle.ij_text.specs.Words.{is_name}
 use Rattle.ij_text.specs.Parts.{in_front, split}
-use Rattle.bench_lines.specs.Lines.{Line, lines_of, end_of}
-use Rattle.bench_lines.specs.Words.{slice, path as path_read, decimal as decimal_read}
+use Rattle.table_lines.specs.Lines.{Line, lines_of, end_of}
+use Rattle.table_lines.specs.Words.{slice, path as path_read, decimal as decimal_read}
 use Rattle.instruments.specs.Seen.{SeenModel}
 use Rattle.instruments.specs.Models.{IsModel}
 use Rattle.table_lines.specs.Said.{Words, is, SaidLine, Input, Word, Memory, Output, Change, Run, End, SaidRow, starts, if_there, input_line, word_line, memory_line, output_line, change_line, run_line, end_line, row, line, instrument, instrument_text, version}

@@ -6,7 +6,7 @@ use Rattle.std.specs.Char.{is_ascii_digit}
 use Rattle.ij_text.specs.Words.{begins_name, in_name, is_name}
 use Rattle.ij_text.specs.Parts.{in_front, split}
 use Rattle.ij_text.specs.Options.{both}
-use Rattle.bench_lines.specs.Words.{path, closed, named, opened, bracketed, two_names, entry, two_decimals, part_of, bounded, slice, decimal as decimal_read}
+use Rattle.table_lines.specs.Words.{path, closed, named, opened, bracketed, two_names, entry, two_decimals, part_of, bounded, slice, decimal as decimal_read}
 use Rattle.bench_file.specs.Written.{path_text}
 use Rattle.table_writer.proofs.Lexed.{first_true, all_both, all_weaker, is_letter, Reads, one_word}
 use Rattle.table_writer.proofs.Named.{not_byte, name_bytes, name_some, name_letters, decimal_digits, decimal_letters, decimal_decimal}

@@ -4,10 +4,10 @@ use Rattle.std.specs.Prelude.{◌==◌, ◌&&◌, ◌||◌}
 use Rattle.std.specs.List.{list_all}
 use Rattle.ij_text.specs.Bytes.{is_line_blank}
 use Rattle.ij_text.specs.Parts.{in_front, longer, split}
-use Rattle.bench_lines.specs.Lines.{Line, lines, shown, is_mark, in_word, goes_on, words, line_place, unless_empty, lines_from}
+use Rattle.table_lines.specs.Lines.{Line, lines, shown, is_mark, in_word, goes_on, words, line_place, unless_empty, lines_from}
 use Rattle.std.proofs.lemmas.Bool.{and_from}
 use Rattle.ij_bits.proofs.Tests.{and_second}
-use Rattle.bench_lines.proofs.Runs.{of_word}
+use Rattle.table_lines.proofs.Runs.{of_word}
 
 -- ---- tests of all bytes
 

@@ -11,7 +11,7 @@ use Rattle.std.proofs.lemmas.Fmt.{decimal_is_IsNumeral}
 use Rattle.std.proofs.lemmas.Str.Parse.{digit_from_value, IsNumeralModel, FoldsDigits, numerals_by_fold, tells_digits}
 use Rattle.ij_text.specs.Numbers.{InDecimal, next_decimal, decimal_from, is_digit, go_on, value_of, said, number_of_text}
 use Rattle.ij_text.specs.Words.{begins_name, in_name, is_name}
-use Rattle.bench_lines.specs.Words.{is_too_wide, unless_too_wide, in_decimal, without_x, number as number_read, decimal as decimal_read, plain as plain_read}
+use Rattle.table_lines.specs.Words.{is_too_wide, unless_too_wide, in_decimal, without_x, number as number_read, decimal as decimal_read, plain as plain_read}
 use Rattle.table_writer.proofs.Lexed.{first_true, all_weaker, is_letter, Reads, one_word}
 use Rattle.ij_bits.proofs.Tests.{not_both, and_second}
 

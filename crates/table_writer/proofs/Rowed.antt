@@ -4,7 +4,7 @@ use Rattle.std.specs.Prelude.{◌||◌, is_some, Contains}
 use Rattle.std.specs.List.{list_all, list_any}
 use Rattle.std.proofs.lemmas.List.Elements.{All-head, All-tail, All-weaker}
 use Rattle.ij_bits.specs.Different.{AreDifferent}
-use Rattle.bench_lines.specs.Words.{is_wide}
+use Rattle.table_lines.specs.Words.{is_wide}
 use Rattle.instruments.specs.declared.model.Cond.{Cond}
 use Rattle.instruments.specs.declared.model.Slot.{Slot}
 use Rattle.instruments.specs.declared.model.Slot.TheVariants.{Word as TheWord, Entry as TheEntry}

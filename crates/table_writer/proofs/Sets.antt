@@ -8,7 +8,7 @@ use Rattle.std.proofs.lemmas.List.Elements.{All-weaker}
 use Rattle.ij_text.specs.Numbers.{InDecimal, is_digit, go_on, value_of, decimal_from, said, number_of_text}
 use Rattle.ij_text.specs.Words.{begins_name, in_name, is_name}
 use Rattle.ij_text.specs.Options.{or_else}
-use Rattle.bench_lines.specs.Words.{unless_too_wide, without_x, number as number_read, plain as plain_read, decimal as decimal_read}
+use Rattle.table_lines.specs.Words.{unless_too_wide, without_x, number as number_read, plain as plain_read, decimal as decimal_read}
 use Rattle.instruments.specs.declared.model.Operand.{Operand}
 use Rattle.instruments.specs.declared.model.Operand.TheVariants.{Word, Input, Old}
 use Rattle.instruments.specs.declared.model.Slot.{Slot}

@@ -5,7 +5,7 @@ use Rattle.std.specs.List.{list_any}
 use Rattle.std.proofs.lemmas.Bool.{eqb-true, le-ltb, lt-leb, or_from}
 use Rattle.std.proofs.lemmas.Bool.Decides.{nat_tests}
 use Rattle.ij_text.specs.Words.{is_name}
-use Rattle.bench_lines.specs.Words.{Slice, slice, decimal as decimal_read, plain as plain_read, is_wide, value_in, care_in}
+use Rattle.table_lines.specs.Words.{Slice, slice, decimal as decimal_read, plain as plain_read, is_wide, value_in, care_in}
 use Rattle.instruments.specs.declared.model.Operand.{Operand}
 use Rattle.instruments.specs.declared.model.Operand.TheVariants.{Word as AWord, Input as AnInput, Old}
 use Rattle.instruments.specs.Seen.{SeenWord, SeenMemory, SeenPort, SeenOut, SeenRow, SeenModel}

@@ -3,7 +3,7 @@ use Rattle.std.proofs.Common.{◌≡◌, ℕ, refl, ap, List, [], ◌∷◌, map
 use Rattle.std.specs.Prelude.{Some, None}
 use Rattle.ij_bits.specs.Room.{Listed, full}
 use Rattle.ij_text.specs.Numbers.{open_bits, tern_bits}
-use Rattle.icl_values.specs.Values.{OpenBits}
+use Rattle.icl_declarations.specs.Values.{OpenBits}
 use Rattle.icl_references.specs.Roles.{Word, seen_word}
 use Rattle.icl_signals.specs.PlainNets.{RegisterOf, RowOf, MuxOf, InputOf, OutputOf, InstrumentOf, NodeOf, ThingOf, seen_reg, seen_row, seen_mux, seen_input, seen_output, seen_inst, seen_node, seen_thing}
 use Rattle.trimmed_net.specs.Trimmed.{values_of, cares_of, trimmed_tern, trimmed_word, trimmed_reg, trimmed_row, trimmed_mux, trimmed_input, trimmed_output, trimmed_inst, trimmed_node, trimmed_thing}

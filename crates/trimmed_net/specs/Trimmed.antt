@@ -5,7 +5,7 @@ use Rattle.std.proofs.Common.{ap}
 use Rattle.std.proofs.lemmas.Bool.{true≢false}
 use Rattle.ij_bits.specs.Room.{Listed, full}
 use Rattle.ij_bits.specs.declared.tern.Tern.{Tern}
-use Rattle.icl_values.specs.Values.{OpenBits}
+use Rattle.icl_declarations.specs.Values.{OpenBits}
 use Rattle.icl_references.specs.Roles.{Word}
 use Rattle.icl_signals.specs.PlainNets.{RegisterOf, RowOf, MuxOf, InputOf, OutputOf, InstrumentOf, NodeOf, ThingOf, NetOf}
 use Rattle.net_graph.specs.declared.net.Reg.{Reg}

@@ -7,7 +7,7 @@ use ij_text::Name;
 use std::alloc::Global;
 
 /// A list without values, with room for exactly `n`.
-pub(crate) fn list_for<T: Drop>(alloc: Global, n: usize) -> Result<List<T>, OutOfMemory>
+pub(crate) fn list_for<T>(alloc: Global, n: usize) -> Result<List<T>, OutOfMemory>
     ensures empty { IfOk result (λ list. list.items ≡ []) }
     ensures room { IfOk result (λ list. list.spare ≡ n) }
 {
@@ -15,7 +15,7 @@ pub(crate) fn list_for<T: Drop>(alloc: Global, n: usize) -> Result<List<T>, OutO
 }
 
 /// The same items.
-pub(crate) fn list_copy<T: Copy + Drop>(alloc: Global, items: &[T]) -> Result<List<T>, OutOfMemory>
+pub(crate) fn list_copy<T: Copy>(alloc: Global, items: &[T]) -> Result<List<T>, OutOfMemory>
     ensures { IfOk result (λ copy. copy ≡ full items.now) }
 {
     let mut copy = list_for(alloc, items.len())?;

@@ -1,5 +1,5 @@
 use Rattle.std.proofs.Common.{codes, map, ap, ◌∙◌}
-use Rattle.icl_syntax.specs.Views.{seen_bind}
+use Rattle.icl_lexer.specs.Views.{seen_bind}
 use Rattle.design_maker.specs.Parts.{bound_width, instance}
 use Rattle.design_maker.proofs.Adding.{added_as, pushed}
 use Rattle.std.proofs.lemmas.Result.{on_ok_weaker}

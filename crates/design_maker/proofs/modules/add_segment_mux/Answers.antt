@@ -1,6 +1,6 @@
 use Rattle.std.proofs.Common.{codes, map, ap}
-use Rattle.icl_syntax.specs.Values.{AMux}
-use Rattle.icl_syntax.specs.Views.{seen_row, seen_sig}
+use Rattle.icl_lexer.specs.Values.{AMux}
+use Rattle.icl_lexer.specs.Views.{seen_row, seen_sig}
 use Rattle.design_maker.specs.Parts.{item}
 use Rattle.design_maker.proofs.Adding.{added_as, alone, both, pushed}
 use Rattle.std.proofs.lemmas.Result.{on_ok_weaker}

@@ -1,6 +1,6 @@
 use Rattle.std.proofs.Common.{None, codes, map, ap}
-use Rattle.icl_syntax.specs.Values.{AScanInSource, ACaptureSource, AResetValue, ARegister}
-use Rattle.icl_syntax.specs.Views.{seen_prop, seen_sig}
+use Rattle.icl_lexer.specs.Values.{AScanInSource, ACaptureSource, AResetValue, ARegister}
+use Rattle.icl_lexer.specs.Views.{seen_prop, seen_sig}
 use Rattle.design_maker.specs.Parts.{item}
 use Rattle.design_maker.proofs.Adding.{added_as, alone, pushed}
 use Rattle.std.proofs.lemmas.Result.{on_ok_weaker}

@@ -1,5 +1,5 @@
 use Rattle.std.proofs.Common.{[], ◌∷◌, Some, codes, ap, ◌∙◌}
-use Rattle.icl_syntax.specs.declared.tree.PortKind.TheVariants.{ScanOutPort}
+use Rattle.icl_lexer.specs.declared.tree.PortKind.TheVariants.{ScanOutPort}
 use Rattle.design_maker.specs.Parts.{ranged, sourced}
 use Rattle.design_maker.proofs.Adding.{added_as, then_more}
 use Rattle.std.proofs.lemmas.Result.{on_ok_weaker}

@@ -1,5 +1,5 @@
 use Rattle.std.proofs.Common.{◌≡◌, map, take}
-use Rattle.icl_syntax.specs.Views.{bytes_of}
+use Rattle.icl_lexer.specs.Views.{bytes_of}
 use Rattle.design_maker.proofs.signals.names.Given as goal
 
 abbrev pub invariant-loop-word : goal.invariant-loop-word

@@ -1,5 +1,5 @@
 use Rattle.std.proofs.Common.{take}
-use Rattle.bit_marks.specs.Marks.{HasMark}
+use Rattle.net_graph.specs.Marks.{HasMark}
 use Rattle.net_graph.specs.declared.net.BitId.{BitId}
 use Rattle.direct_report.specs.Marked.{AreMarked}
 use Rattle.direct_report.proofs.marking.mark_reads.Given as goal

@@ -1,5 +1,5 @@
 use Rattle.std.proofs.Common.{drop}
-use Rattle.bit_marks.specs.Marks.{HasMark}
+use Rattle.net_graph.specs.Marks.{HasMark}
 use Rattle.net_graph.specs.declared.net.BitId.{BitId}
 use Rattle.direct_report.proofs.Setting.{AreLeft}
 use Rattle.direct_report.proofs.marking.unmark_reads.Given as goal

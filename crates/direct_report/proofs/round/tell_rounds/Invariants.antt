@@ -1,6 +1,6 @@
 -- What is told and done so far, whatever meaning the run stood for at first.
 use Rattle.std.proofs.Common.{◌≡◌, ◌≤◌, ◌*◌}
-use Rattle.bit_marks.specs.Numbered.{HaveMarks}
+use Rattle.net_graph.specs.Numbered.{HaveMarks}
 use Rattle.direct_report.specs.Marked.{AreBlank}
 use Rattle.direct_report.proofs.Going.{Go}
 use Rattle.direct_report.proofs.round.tell_rounds.Given as goal

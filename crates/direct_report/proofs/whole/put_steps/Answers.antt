@@ -2,7 +2,7 @@ use Rattle.std.proofs.Common.{◌≡◌, ◌∙◌, arith, ap, subst}
 use Rattle.std.specs.Prelude.{MatchOption}
 use Rattle.ij_io.proofs.Adding.{at_refusal}
 use Rattle.net_graph.specs.SeenSteps.{seen_step}
-use Rattle.bit_steps.specs.BitSteps.{BitStepsOf, nothing_left, given_first_bit}
+use Rattle.merge_order.specs.BitSteps.{BitStepsOf, nothing_left, given_first_bit}
 use Rattle.direct_report.proofs.Wholes.{IsOf, go_on, refused, part_so_far, steps_are, few_later}
 use Rattle.direct_report.proofs.whole.put_steps.Goals as goal
 

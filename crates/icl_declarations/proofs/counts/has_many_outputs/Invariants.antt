@@ -1,6 +1,6 @@
 use Rattle.std.proofs.Common.{◌≡◌, ◌≤◌, ◌+◌, map, drop}
 use Rattle.std.specs.Prelude.{count_by}
-use Rattle.icl_syntax.specs.Views.{seen_item}
+use Rattle.icl_lexer.specs.Views.{seen_item}
 use Rattle.icl_declarations.specs.Parts.{port_that, is_data_out}
 use Rattle.icl_declarations.proofs.counts.has_many_outputs.Given as goal
 

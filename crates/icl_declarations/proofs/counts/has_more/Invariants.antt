@@ -1,6 +1,6 @@
 use Rattle.std.proofs.Common.{◌≡◌, map, drop}
 use Rattle.std.specs.List.{list_any}
-use Rattle.icl_syntax.specs.Views.{seen_item}
+use Rattle.icl_lexer.specs.Views.{seen_item}
 use Rattle.icl_declarations.specs.Parts.{is_not_of_instrument}
 use Rattle.icl_declarations.proofs.counts.has_more.Given as goal
 

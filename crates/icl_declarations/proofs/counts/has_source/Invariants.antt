@@ -1,6 +1,6 @@
 use Rattle.std.proofs.Common.{◌≡◌, map, drop}
 use Rattle.std.specs.List.{list_any}
-use Rattle.icl_syntax.specs.Views.{seen_prop}
+use Rattle.icl_lexer.specs.Views.{seen_prop}
 use Rattle.icl_declarations.specs.Parts.{is_source}
 use Rattle.icl_declarations.proofs.counts.has_source.Given as goal
 

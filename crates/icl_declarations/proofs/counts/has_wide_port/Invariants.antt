@@ -1,7 +1,7 @@
 use Rattle.std.proofs.Common.{◌≡◌, ◌≤◌, map, drop, length}
 use Rattle.std.specs.Prelude.{◌&&◌, filter, zip, nat_lt}
 use Rattle.std.specs.List.{list_any}
-use Rattle.icl_syntax.specs.Views.{seen_item, seen_module}
+use Rattle.icl_lexer.specs.Views.{seen_item, seen_module}
 use Rattle.icl_declarations.specs.Parts.{is_part, is_data_port}
 use Rattle.icl_declarations.specs.Ranges.{width}
 use Rattle.icl_declarations.specs.Counting.{has_wide_port}

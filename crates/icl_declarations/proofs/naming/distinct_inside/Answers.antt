@@ -1,5 +1,5 @@
 use Rattle.std.proofs.Common.{ℕ, List, ap, ◌∙◌, map, subst}
-use Rattle.icl_values.specs.Faults.{Gives}
+use Rattle.icl_declarations.specs.Faults.{Gives}
 use Rattle.icl_declarations.specs.Naming.{distinct}
 use Rattle.icl_declarations.proofs.InnerNames.{word_names, instr_names}
 use Rattle.ij_text.specs.Options.{same}

@@ -1,7 +1,7 @@
 use Rattle.std.proofs.Common.{◌≡◌, ℕ, List, [], map, take, drop}
 use Rattle.std.specs.List.{list_any}
 use Rattle.std.specs.Str.{bytes_eq}
-use Rattle.icl_values.specs.Faults.{over}
+use Rattle.icl_declarations.specs.Faults.{over}
 use Rattle.icl_declarations.specs.Naming.{with_name}
 use Rattle.icl_declarations.specs.Taken.{has_entry}
 use Rattle.icl_declarations.proofs.naming.distinct_instrs.Given as goal

@@ -1,8 +1,8 @@
 use Rattle.std.proofs.Common.{◌<◌, ◌∙◌, ◌+◌, ◌∷◌, ◌++◌, [], List, map, drop, take, length, sym, ap, arith}
 use Rattle.std.proofs.lemmas.List.{map-append, take_more, drop_all, take_all}
 use Rattle.std.proofs.lemmas.Result.{err_from_is_err_and}
-use Rattle.icl_values.specs.Faults.{seen_fault}
-use Rattle.icl_values.proofs.Each.{more, more_next, more_fails, more_end, fails_along}
+use Rattle.icl_declarations.specs.Faults.{seen_fault}
+use Rattle.icl_declarations.proofs.Each.{more, more_next, more_fails, more_end, fails_along}
 use Rattle.icl_elab.specs.SecondPass.{cell_found, cells_of, second_pass}
 use Rattle.icl_elab.specs.SeenCells.{PartHead, heads_of_cell, heads_of_frame, seen_cell_parts, seen_pass}
 use Rattle.icl_references.specs.Tables.{frames_of, here_at, no_frame}

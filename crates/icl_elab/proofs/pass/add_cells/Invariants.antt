@@ -1,6 +1,6 @@
 use Rattle.std.proofs.Common.{◌≡◌, map, drop, take}
-use Rattle.icl_values.specs.Faults.{each}
-use Rattle.icl_values.proofs.Each.{more}
+use Rattle.icl_declarations.specs.Faults.{each}
+use Rattle.icl_declarations.proofs.Each.{more}
 use Rattle.icl_elab.specs.SecondPass.{cell_found, cells_of}
 use Rattle.icl_elab.specs.SeenCells.{heads_of_cells, heads_of_frame, seen_pass}
 use Rattle.icl_references.specs.Tables.{frames_of}

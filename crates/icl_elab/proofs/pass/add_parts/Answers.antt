@@ -1,10 +1,10 @@
 use Rattle.std.proofs.Common.{◌≡◌, ◌∙◌, ◌∷◌, ◌++◌, [], List, map, take, sym, ap, Ok}
 use Rattle.std.proofs.lemmas.List.{map-append}
 use Rattle.std.proofs.lemmas.Result.{err_from_is_err_and}
-use Rattle.icl_values.specs.Faults.{seen_fault}
-use Rattle.icl_values.proofs.Each.{round_goes, round_fails}
+use Rattle.icl_declarations.specs.Faults.{seen_fault}
+use Rattle.icl_declarations.proofs.Each.{round_goes, round_fails}
 use Rattle.icl_frames.proofs.Passing.{taken_more}
-use Rattle.icl_parts.specs.FoundParts.{Found, part_found}
+use Rattle.icl_elab.specs.FoundParts.{Found, part_found}
 use Rattle.icl_elab.specs.SeenCells.{PartHead, head_of_member, head_of_placed, seen_placed}
 use Rattle.icl_references.specs.Tables.{frames_of, here_in, seen_member}
 use Rattle.icl_elab.proofs.pass.add_parts.Goals as goal

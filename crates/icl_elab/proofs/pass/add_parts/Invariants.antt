@@ -1,7 +1,7 @@
 use Rattle.std.proofs.Common.{◌≡◌, map, drop, take}
-use Rattle.icl_values.specs.Faults.{each}
-use Rattle.icl_values.proofs.Each.{more}
-use Rattle.icl_parts.specs.FoundParts.{part_found}
+use Rattle.icl_declarations.specs.Faults.{each}
+use Rattle.icl_declarations.proofs.Each.{more}
+use Rattle.icl_elab.specs.FoundParts.{part_found}
 use Rattle.icl_elab.specs.SeenCells.{head_of_member, head_of_placed, seen_placed}
 use Rattle.icl_references.specs.Tables.{frames_of, here_in, seen_member}
 use Rattle.icl_elab.proofs.pass.add_parts.Given as goal

@@ -1,6 +1,6 @@
 use Rattle.std.proofs.Common.{true, false, sym, ◌∙◌, arith}
 use Rattle.std.proofs.lemmas.Result.{err_from_is_err_and}
-use Rattle.icl_syntax.specs.Grammar.{with_operand, sum_sign, product_sign}
+use Rattle.icl_lexer.specs.Grammar.{with_operand, sum_sign, product_sign}
 use Rattle.icl_expressions.specs.Seen.{seen_read, seen_counting}
 use Rattle.icl_expressions.specs.Reading.{is_sign, read_operand, read_factor, read_term}
 use Rattle.icl_expressions.proofs.Chains.{chain_start, chain_fails, more_factor_shrinks, more_term_shrinks}

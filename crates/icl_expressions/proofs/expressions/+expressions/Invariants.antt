@@ -1,6 +1,6 @@
 use Rattle.std.proofs.Common.{◌≡◌, ◌≤◌, ◌<◌, length, ◌+◌, ◌*◌, false}
-use Rattle.grammar.specs.Reading.{read_repeat}
-use Rattle.icl_syntax.specs.Grammar.{with_operand, sum_sign, product_sign}
+use Rattle.ij_text.specs.Reading.{read_repeat}
+use Rattle.icl_lexer.specs.Grammar.{with_operand, sum_sign, product_sign}
 use Rattle.icl_expressions.specs.Seen.{seen_counting}
 use Rattle.icl_expressions.specs.Reading.{is_sign, read_operand, read_factor, read_term, read_sum}
 use Rattle.icl_expressions.proofs.expressions.+expressions.Given as goal

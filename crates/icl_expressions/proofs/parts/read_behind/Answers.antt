@@ -1,7 +1,7 @@
 use Rattle.std.proofs.Common.{sym, ◌∙◌, arith}
 use Rattle.icl_lexer.specs.Seen.{is_mark}
-use Rattle.grammar.specs.Symbol.{appended}
-use Rattle.icl_syntax.specs.Views.{seen_few}
+use Rattle.ij_text.specs.Symbol.{appended}
+use Rattle.icl_lexer.specs.Views.{seen_few}
 use Rattle.icl_expressions.specs.Reading.{read_after}
 use Rattle.icl_expressions.proofs.Steps.{after_shrinks, go_on}
 use Rattle.icl_expressions.proofs.parts.read_behind.Goals as goal

@@ -1,5 +1,5 @@
 use Rattle.std.proofs.Common.{◌≡◌, ◌≤◌, [], ◌∷◌, length}
-use Rattle.icl_syntax.specs.Views.{seen_few}
+use Rattle.icl_lexer.specs.Views.{seen_few}
 use Rattle.icl_expressions.specs.Reading.{more_parted}
 use Rattle.icl_expressions.proofs.parts.read_behind.Given as goal
 

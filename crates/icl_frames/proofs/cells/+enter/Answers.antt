@@ -1,8 +1,8 @@
 use Rattle.std.proofs.Common.{◌-◌, ◌<◌, ℕ, List, map, length, Some, sym, ap, subst, ◌∙◌, arith}
 use Rattle.std.proofs.lemmas.Result.{err_from_is_err_and}
-use Rattle.icl_syntax.specs.Views.{seen_module}
-use Rattle.icl_values.specs.Faults.{seen_fault, over, Answer, Fails}
-use Rattle.icl_values.proofs.Each.{over_goes, over_stops}
+use Rattle.icl_lexer.specs.Views.{seen_module}
+use Rattle.icl_declarations.specs.Faults.{seen_fault, over, Answer, Fails}
+use Rattle.icl_declarations.proofs.Each.{over_goes, over_stops}
 use Rattle.icl_frames.specs.declared.frames.Request.{Request as RequestAt}
 use Rattle.icl_frames.specs.FirstPass.{Progress, Request, enter}
 use Rattle.icl_frames.specs.SeenFrames.{names_of, seen_request, seen_progress, seen_stepped, with_cell}

@@ -1,6 +1,6 @@
 use Rattle.std.proofs.Common.{◌≡◌, ◌≤◌, ◌-◌, map, drop, Some}
-use Rattle.icl_syntax.specs.Views.{seen_module}
-use Rattle.icl_values.specs.Faults.{over}
+use Rattle.icl_lexer.specs.Views.{seen_module}
+use Rattle.icl_declarations.specs.Faults.{over}
 use Rattle.icl_frames.specs.FirstPass.{enter}
 use Rattle.icl_frames.specs.SeenFrames.{names_of, seen_request, seen_progress}
 use Rattle.icl_frames.proofs.cells.+enter.Given as goal

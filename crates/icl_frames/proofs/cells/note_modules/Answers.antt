@@ -1,7 +1,7 @@
 use Rattle.std.proofs.Common.{◌≡◌, ◌∙◌, ap, sym, map, take, false, List, ℕ, Bool}
 use Rattle.std.specs.Prelude.{is_some, ◌||◌}
 use Rattle.std.specs.Str.{bytes_eq}
-use Rattle.icl_syntax.specs.Views.{seen_module}
+use Rattle.icl_lexer.specs.Views.{seen_module}
 use Rattle.icl_declarations.specs.Parts.{block_named}
 use Rattle.icl_declarations.specs.Taken.{has_entry}
 use Rattle.icl_frames.proofs.Modules.{name_passed, module_passed}

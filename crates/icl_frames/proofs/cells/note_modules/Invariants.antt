@@ -1,7 +1,7 @@
 use Rattle.std.proofs.Common.{◌≡◌, ℕ, List, [], map, take, drop}
 use Rattle.std.specs.Prelude.{is_some}
-use Rattle.icl_syntax.specs.Views.{seen_module}
-use Rattle.icl_values.specs.Faults.{over}
+use Rattle.icl_lexer.specs.Views.{seen_module}
+use Rattle.icl_declarations.specs.Faults.{over}
 use Rattle.icl_declarations.specs.Parts.{block_named}
 use Rattle.icl_frames.specs.FirstPass.{with_block}
 use Rattle.icl_declarations.specs.Taken.{has_entry}

@@ -1,10 +1,10 @@
 use Rattle.std.proofs.Common.{◌+◌, ◌++◌, ◌∷◌, [], List, map, take, drop, sym, ap, subst, ◌∙◌}
 use Rattle.std.proofs.lemmas.Result.{err_from_is_err_and}
-use Rattle.icl_syntax.specs.Values.{SeenItem}
-use Rattle.icl_syntax.specs.Views.{seen_item, seen_module}
-use Rattle.icl_values.specs.Faults.{seen_fault, over, Answer}
-use Rattle.icl_values.specs.Tables.{seen_table}
-use Rattle.icl_values.proofs.Each.{over_goes, over_stops}
+use Rattle.icl_lexer.specs.Values.{SeenItem}
+use Rattle.icl_lexer.specs.Views.{seen_item, seen_module}
+use Rattle.icl_declarations.specs.Faults.{seen_fault, over, Answer}
+use Rattle.icl_declarations.specs.Tables.{seen_table}
+use Rattle.icl_declarations.proofs.Each.{over_goes, over_stops}
 use Rattle.icl_frames.specs.FirstPass.{Passed, pass_item}
 use Rattle.icl_declarations.specs.Taken.{AreTaken}
 use Rattle.icl_frames.specs.SeenFrames.{names_of, seen_passed}

@@ -1,7 +1,7 @@
 use Rattle.std.proofs.Common.{◌≡◌, ◌≤◌, map, take, drop}
-use Rattle.icl_syntax.specs.Views.{seen_item, seen_module}
-use Rattle.icl_values.specs.Faults.{over}
-use Rattle.icl_values.specs.Tables.{seen_table}
+use Rattle.icl_lexer.specs.Views.{seen_item, seen_module}
+use Rattle.icl_declarations.specs.Faults.{over}
+use Rattle.icl_declarations.specs.Tables.{seen_table}
 use Rattle.icl_frames.specs.FirstPass.{pass_item, nothing_passed}
 use Rattle.icl_declarations.specs.Taken.{AreTaken}
 use Rattle.icl_frames.specs.SeenFrames.{names_of, seen_passed}

@@ -1,5 +1,5 @@
 use Rattle.std.proofs.Common.{◌≡◌, map, drop}
-use Rattle.icl_syntax.specs.Views.{seen_module}
+use Rattle.icl_lexer.specs.Views.{seen_module}
 use Rattle.icl_declarations.specs.Parts.{block_named}
 use Rattle.icl_frames.proofs.instances.block_named.Given as goal
 

@@ -1,7 +1,7 @@
 use Rattle.std.proofs.Common.{◌≡◌, [], map, drop}
-use Rattle.icl_syntax.specs.Views.{seen_bind, seen_module}
-use Rattle.icl_values.specs.Faults.{over}
-use Rattle.icl_values.specs.Tables.{seen_table}
+use Rattle.icl_lexer.specs.Views.{seen_bind, seen_module}
+use Rattle.icl_declarations.specs.Faults.{over}
+use Rattle.icl_declarations.specs.Tables.{seen_table}
 use Rattle.icl_frames.specs.FirstPass.{with_binding}
 use Rattle.icl_frames.proofs.instances.bound_parameters.Given as goal
 

@@ -2,7 +2,7 @@ use Rattle.std.proofs.Common.{◌≡◌, ◌&&◌, map, drop}
 use Rattle.std.specs.List.{list_any}
 use Rattle.std.specs.Str.{bytes_eq}
 use Rattle.ij_bits.specs.BitLists.{same_bit}
-use Rattle.icl_syntax.specs.Views.{seen_item, seen_module}
+use Rattle.icl_lexer.specs.Views.{seen_item, seen_module}
 use Rattle.icl_declarations.specs.Parts.{is_parameter_that, has_parameter}
 use Rattle.icl_frames.proofs.instances.has_parameter.Given as goal
 

@@ -1,7 +1,7 @@
 use Rattle.std.proofs.Common.{sym, ◌∙◌, arith}
 use Rattle.ij_bits.specs.Room.{seen_list}
-use Rattle.icl_syntax.specs.Grammar.{with_property}
-use Rattle.icl_syntax.specs.Views.{seen_prop}
+use Rattle.icl_lexer.specs.Grammar.{with_property}
+use Rattle.icl_lexer.specs.Views.{seen_prop}
 use Rattle.icl_expressions.specs.Seen.{seen_read}
 use Rattle.icl_expressions.specs.Reading.{no_close}
 use Rattle.icl_parser.specs.Reading.{read_property}

@@ -1,8 +1,8 @@
 use Rattle.std.proofs.Common.{◌≡◌, ◌≤◌, length}
 use Rattle.ij_bits.specs.Room.{seen_list}
-use Rattle.grammar.specs.Reading.{read_repeat}
-use Rattle.icl_syntax.specs.Grammar.{with_property}
-use Rattle.icl_syntax.specs.Views.{seen_prop}
+use Rattle.ij_text.specs.Reading.{read_repeat}
+use Rattle.icl_lexer.specs.Grammar.{with_property}
+use Rattle.icl_lexer.specs.Views.{seen_prop}
 use Rattle.icl_expressions.specs.Reading.{no_close}
 use Rattle.icl_parser.specs.Reading.{read_property, read_properties}
 use Rattle.icl_parser.proofs.bodies.read_properties.Given as goal

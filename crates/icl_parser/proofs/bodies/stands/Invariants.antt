@@ -1,6 +1,6 @@
 use Rattle.std.proofs.Common.{◌≡◌, drop, map}
-use Rattle.icl_syntax.specs.Views.{seen_prop}
-use Rattle.icl_syntax.specs.Grammar.{stands}
+use Rattle.icl_lexer.specs.Views.{seen_prop}
+use Rattle.icl_lexer.specs.Grammar.{stands}
 use Rattle.icl_parser.proofs.bodies.stands.Given as goal
 
 abbrev pub invariant-loop-prop : goal.invariant-loop-prop

@@ -1,6 +1,6 @@
 use Rattle.std.proofs.Common.{sym, ◌∙◌, arith}
 use Rattle.ij_bits.specs.Room.{seen_list}
-use Rattle.grammar.specs.Symbol.{appended}
+use Rattle.ij_text.specs.Symbol.{appended}
 use Rattle.icl_expressions.specs.Reading.{no_close}
 use Rattle.icl_expressions.proofs.Steps.{go_on}
 use Rattle.icl_parser.proofs.entries.read_behind.Goals as goal

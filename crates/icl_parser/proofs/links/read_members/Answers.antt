@@ -1,7 +1,7 @@
 use Rattle.std.proofs.Common.{ℕ, List, sym, ◌∙◌, arith}
 use Rattle.ij_bits.specs.Room.{seen_list}
-use Rattle.icl_syntax.specs.Modules.{with_member}
-use Rattle.icl_syntax.specs.Views.{bytes_of}
+use Rattle.icl_lexer.specs.Modules.{with_member}
+use Rattle.icl_lexer.specs.Views.{bytes_of}
 use Rattle.icl_expressions.specs.Seen.{seen_read}
 use Rattle.icl_expressions.specs.Reading.{no_close}
 use Rattle.icl_parser.specs.Reading.{read_member}

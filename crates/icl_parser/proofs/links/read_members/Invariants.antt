@@ -1,6 +1,6 @@
 use Rattle.std.proofs.Common.{◌≡◌, ◌≤◌, length}
 use Rattle.ij_bits.specs.Room.{seen_list}
-use Rattle.icl_syntax.specs.Views.{bytes_of}
+use Rattle.icl_lexer.specs.Views.{bytes_of}
 use Rattle.icl_parser.specs.Reading.{read_members}
 use Rattle.icl_parser.proofs.More.{more_members}
 use Rattle.icl_parser.proofs.links.read_members.Given as goal

@@ -1,7 +1,7 @@
 use Rattle.std.proofs.Common.{◌∙◌}
 use Rattle.std.proofs.lemmas.Result.{err_from_is_err_and}
 use Rattle.ij_bits.specs.Room.{seen_list}
-use Rattle.icl_syntax.specs.Views.{seen_module}
+use Rattle.icl_lexer.specs.Views.{seen_module}
 use Rattle.icl_expressions.specs.Seen.{seen_read}
 use Rattle.icl_parser.proofs.Verdicts.{begins_any, begins_none, modules_go_on, design_fails, design_ends}
 use Rattle.icl_parser.proofs.modules.read_design.Goals as goal

@@ -1,6 +1,6 @@
 use Rattle.std.proofs.Common.{◌≡◌, length}
 use Rattle.ij_bits.specs.Room.{seen_list}
-use Rattle.icl_syntax.specs.Views.{seen_module}
+use Rattle.icl_lexer.specs.Views.{seen_module}
 use Rattle.icl_parser.specs.Reading.{read_design}
 use Rattle.icl_parser.proofs.More.{more_modules}
 use Rattle.icl_parser.proofs.modules.read_design.Given as goal

@@ -1,6 +1,6 @@
 use Rattle.std.proofs.Common.{◌-◌, List, drop, length, ap, subst, ◌∙◌}
 use Rattle.icl_lexer.specs.Seen.{SeenToken}
-use Rattle.icl_syntax.specs.Views.{seen_design}
+use Rattle.icl_lexer.specs.Views.{seen_design}
 use Rattle.icl_expressions.specs.Seen.{Fails}
 use Rattle.icl_parser.specs.Reading.{whole_design}
 use Rattle.icl_parser.proofs.Verdicts.{design_found, design_only, design_not, refused_at, on_refusal}

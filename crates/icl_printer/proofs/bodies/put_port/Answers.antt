@@ -1,6 +1,6 @@
 use Rattle.std.specs.Option.{option_map}
 use Rattle.icl_printer.specs.Canonical.{if_there, range_tokens, braced, property_tokens}
-use Rattle.icl_syntax.specs.Views.{seen_prop, seen_range}
+use Rattle.icl_lexer.specs.Views.{seen_prop, seen_range}
 use Rattle.ij_io.proofs.Adding.{at_refusal}
 use Rattle.std.proofs.Common.{◌∷◌, ◌++◌, List, ℕ, ap, sym}
 use Rattle.ij_bits.specs.Room.{seen_list}

@@ -1,6 +1,6 @@
 use Rattle.std.proofs.Common.{◌+◌, nat_lt, refl, ap, sym, ◌∙◌}
 use Rattle.ij_io.proofs.Adding.{at_refusal}
-use Rattle.icl_syntax.specs.Views.{seen_expr}
+use Rattle.icl_lexer.specs.Views.{seen_expr}
 use Rattle.icl_printer.specs.Canonical.{binding, sign_mark}
 use Rattle.icl_printer.proofs.Laid.{laid_both, laid_front, laid_then_part, part_as, whole_as}
 use Rattle.icl_printer.proofs.Operations.{operation_is}

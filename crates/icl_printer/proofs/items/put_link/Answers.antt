@@ -2,7 +2,7 @@ use Rattle.std.proofs.Common.{[]}
 use Rattle.std.specs.Prelude.{codes}
 use Rattle.icl_printer.specs.Layout.{mark}
 use Rattle.icl_printer.specs.Canonical.{in_turn, instruction_tokens}
-use Rattle.icl_syntax.specs.Views.{seen_instr}
+use Rattle.icl_lexer.specs.Views.{seen_instr}
 use Rattle.ij_io.proofs.Adding.{at_refusal}
 use Rattle.std.proofs.Common.{◌∷◌, ◌++◌, List, ℕ, ap, sym}
 use Rattle.ij_bits.specs.Room.{seen_list}

@@ -1,7 +1,7 @@
 use Rattle.std.proofs.Common.{[]}
 use Rattle.icl_printer.specs.Layout.{mark}
 use Rattle.icl_printer.specs.Canonical.{formula_tokens}
-use Rattle.icl_syntax.specs.Views.{seen_expr}
+use Rattle.icl_lexer.specs.Views.{seen_expr}
 use Rattle.ij_io.proofs.Adding.{at_refusal}
 use Rattle.std.proofs.Common.{◌∷◌, ◌++◌, List, ℕ, ap, sym}
 use Rattle.icl_printer.specs.Layout.{word}

@@ -1,4 +1,4 @@
-use Rattle.icl_syntax.specs.Views.{bytes_of}
+use Rattle.icl_lexer.specs.Views.{bytes_of}
 use Rattle.icl_printer.specs.Canonical.{member_tokens}
 use Rattle.std.proofs.Common.{◌≡◌, ◌<◌, ◌≤◌, length, get_or, arith, ap}
 use Rattle.ij_io.proofs.Adding.{at_refusal}

@@ -1,5 +1,5 @@
 use Rattle.std.proofs.Common.{◌≤◌}
-use Rattle.icl_syntax.specs.Views.{bytes_of}
+use Rattle.icl_lexer.specs.Views.{bytes_of}
 use Rattle.icl_printer.specs.Canonical.{member_tokens}
 use Rattle.icl_printer.proofs.Laid.{PartsLeft}
 use Rattle.icl_printer.proofs.items.put_ports.Given as goal

@@ -1,5 +1,5 @@
 use Rattle.std.proofs.Common.{◌≡◌, ◌-◌, length, drop}
-use Rattle.icl_values.proofs.Joins.{joins}
+use Rattle.icl_declarations.proofs.Joins.{joins}
 use Rattle.icl_references.specs.Roles.{seen_refs}
 use Rattle.icl_references.proofs.bits.side_by_side.Given as goal
 

@@ -2,7 +2,7 @@ use Rattle.std.proofs.Common.{[], sym, subst, map}
 use Rattle.icl_references.specs.Overlaps.{AreRowsAlike}
 use Rattle.icl_references.specs.Roles.{seen_row}
 use Rattle.icl_references.specs.Tables.{frames_of, here_in}
-use Rattle.icl_syntax.specs.Views.{seen_row as seen_text}
+use Rattle.icl_lexer.specs.Views.{seen_row as seen_text}
 use Rattle.icl_references.proofs.RowWidths.{rows_alike}
 use Rattle.icl_references.proofs.muxes.mux_role.Goals as goal
 

@@ -1,9 +1,9 @@
 use Rattle.std.proofs.Common.{◌≡◌, map, drop}
 use Rattle.ij_text.specs.Numbers.{tern_bits}
-use Rattle.icl_syntax.specs.Views.{seen_expr, seen_few}
-use Rattle.icl_values.specs.Faults.{each}
-use Rattle.icl_values.specs.Widths.{value_in}
-use Rattle.icl_values.proofs.Each.{more}
+use Rattle.icl_lexer.specs.Views.{seen_expr, seen_few}
+use Rattle.icl_declarations.specs.Faults.{each}
+use Rattle.icl_declarations.specs.Widths.{value_in}
+use Rattle.icl_declarations.proofs.Each.{more}
 use Rattle.icl_references.specs.Tables.{here_in}
 use Rattle.icl_references.proofs.muxes.row_values.Given as goal
 

@@ -1,7 +1,7 @@
 use Rattle.std.proofs.Common.{◌≡◌, ◌+◌, ◌++◌, Bool, List, false, map, drop, sym, ap, subst, ◌∙◌}
 use Rattle.std.specs.Prelude.{◌||◌}
 use Rattle.ij_text.specs.Numbers.{tern_bits}
-use Rattle.icl_values.specs.Values.{OpenBits}
+use Rattle.icl_declarations.specs.Values.{OpenBits}
 use Rattle.icl_references.specs.Overlaps.{AreRowsAlike, from_left, values_meet, values_of}
 use Rattle.icl_references.specs.Roles.{seen_row}
 use Rattle.icl_references.proofs.Everywhere.{left_at}

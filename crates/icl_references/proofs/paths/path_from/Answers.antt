@@ -1,6 +1,6 @@
 use Rattle.std.proofs.Common.{List, ℕ, subst}
 use Rattle.std.proofs.lemmas.Result.{err_from_is_err_and}
-use Rattle.icl_values.specs.Faults.{Fails, seen_fault}
+use Rattle.icl_declarations.specs.Faults.{Fails, seen_fault}
 use Rattle.icl_references.specs.Tables.{frames_of, here_in}
 use Rattle.icl_references.specs.Targets.{child_named}
 use Rattle.icl_references.proofs.Steps.{stops_at}

@@ -1,5 +1,5 @@
 use Rattle.std.proofs.Common.{◌≡◌, ◌∷◌, ◌++◌, [], map, drop}
-use Rattle.icl_syntax.specs.Views.{bytes_of}
+use Rattle.icl_lexer.specs.Views.{bytes_of}
 use Rattle.icl_references.specs.Names.{path_from}
 use Rattle.icl_references.specs.Tables.{IsHere, frames_of, here_in}
 use Rattle.icl_references.proofs.paths.path_from.Given as goal

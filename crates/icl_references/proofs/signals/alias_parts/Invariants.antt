@@ -1,7 +1,7 @@
 use Rattle.std.proofs.Common.{◌≡◌, map, drop}
-use Rattle.icl_syntax.specs.Views.{seen_sig}
-use Rattle.icl_values.specs.Faults.{each}
-use Rattle.icl_values.proofs.Each.{more}
+use Rattle.icl_lexer.specs.Views.{seen_sig}
+use Rattle.icl_declarations.specs.Faults.{each}
+use Rattle.icl_declarations.proofs.Each.{more}
 use Rattle.icl_references.specs.Roles.{seen_refs}
 use Rattle.icl_references.specs.Signals.{alias_meant}
 use Rattle.icl_references.specs.Tables.{frames_of, here_in}

@@ -1,6 +1,6 @@
 use Rattle.std.proofs.Common.{◌≡◌, map, drop}
-use Rattle.icl_syntax.specs.Views.{seen_sig}
-use Rattle.icl_values.specs.Faults.{over}
+use Rattle.icl_lexer.specs.Views.{seen_sig}
+use Rattle.icl_declarations.specs.Faults.{over}
 use Rattle.icl_references.specs.Signals.{control_meant}
 use Rattle.icl_references.specs.Tables.{frames_of, here_in}
 use Rattle.icl_references.proofs.signals.control_signals.Given as goal

@@ -1,5 +1,5 @@
 use Rattle.std.proofs.Common.{◌≡◌, ◌≤◌, ◌++◌, map, drop}
-use Rattle.icl_syntax.specs.Views.{seen_item}
+use Rattle.icl_lexer.specs.Views.{seen_item}
 use Rattle.icl_frames.specs.SeenFrames.{seen_frame}
 use Rattle.icl_references.specs.Names.{members, members_from}
 use Rattle.icl_references.specs.Tables.{seen_member}

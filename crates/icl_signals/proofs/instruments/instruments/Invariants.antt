@@ -1,7 +1,7 @@
 use Rattle.std.proofs.Common.{◌≡◌, map, drop}
 use Rattle.std.specs.Prelude.{filter}
 use Rattle.std.specs.List.{enumerate_from}
-use Rattle.icl_values.specs.Faults.{each}
+use Rattle.icl_declarations.specs.Faults.{each}
 use Rattle.icl_elab.specs.WellFormed.{is_instrument}
 use Rattle.icl_references.specs.Roles.{seen_cell}
 use Rattle.icl_signals.specs.Refusals.{behind}

@@ -1,5 +1,5 @@
 use Rattle.std.proofs.Common.{◌≡◌, drop}
-use Rattle.icl_values.specs.Faults.{each}
+use Rattle.icl_declarations.specs.Faults.{each}
 use Rattle.icl_signals.specs.Refusals.{behind}
 use Rattle.icl_signals.specs.Wirings.{cells_of}
 use Rattle.icl_signals.specs.Connecting.{select_from}

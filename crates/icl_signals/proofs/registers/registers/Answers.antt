@@ -3,7 +3,7 @@ use Rattle.icl_signals.specs.Wirings.{cells_of}
 use Rattle.icl_signals.specs.Told.{seen_entry}
 use Rattle.icl_signals.specs.PlainNets.{seen_reg}
 use Rattle.icl_signals.specs.Connecting.{register_of}
-use Rattle.icl_values.proofs.Each.{round_goes}
+use Rattle.icl_declarations.proofs.Each.{round_goes}
 use Rattle.icl_signals.proofs.registers.registers.Goals as goal
 
 pub loop-e-preserved : goal.loop-e-preserved

@@ -1,9 +1,9 @@
-use Rattle.icl_syntax.specs.Views.{seen_design}
+use Rattle.icl_lexer.specs.Views.{seen_design}
 use Rattle.icl_lexer.specs.Seen.{HasTokens}
-use Rattle.icl_syntax.specs.Modules.{design}
+use Rattle.icl_lexer.specs.Modules.{design}
 use Rattle.std.proofs.Common.{subst}
 use Rattle.ijtag_stages.specs.IclText.{icl_tokens, icl_design}
-use Rattle.icl_lexer.proofs.Few.{few_tokens}
+use Rattle.icl_lexer.proofs.FewTokens.{few_tokens}
 use Rattle.ijtag_stages.proofs.icl.read_icl.Goals as goal
 
 pub returns-clause-written : goal.returns-clause-written

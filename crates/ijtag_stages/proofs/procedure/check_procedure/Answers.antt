@@ -1,7 +1,7 @@
 use Rattle.std.proofs.Common.{ℕ, List, map, subst}
 use Rattle.std.specs.Option.{option_map}
-use Rattle.bit_steps.specs.BitSteps.{bit_steps}
-use Rattle.bit_steps.specs.Seen.{EndsIn}
+use Rattle.merge_order.specs.BitSteps.{bit_steps}
+use Rattle.merge_order.specs.Seen.{EndsIn}
 use Rattle.icl_signals.specs.PlainNets.{seen_net}
 use Rattle.pdl_parser.specs.Views.{seen_proc, seen_procs}
 use Rattle.pdl_parser.specs.declared.tree.Proc.{Proc}

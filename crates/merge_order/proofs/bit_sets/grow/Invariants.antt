@@ -1,5 +1,5 @@
 use Rattle.std.proofs.Common.{◌≡◌, ◌-◌, ℕ, vec_len}
-use Rattle.round_sets.specs.Rows.{row_at}
+use Rattle.pdl_targets.specs.Rows.{row_at}
 use Rattle.merge_order.proofs.bit_sets.grow.Given as goal
 
 abbrev pub invariant-loop-alloc : goal.invariant-loop-alloc

@@ -3,7 +3,7 @@ use Rattle.std.proofs.lemmas.List.{length-map}
 use Rattle.net_graph.specs.declared.net.BitId.{BitId}
 use Rattle.net_graph.specs.Path.{is_in}
 use Rattle.pdl_targets.specs.Marked.{AreNumbered, first_bit, first_bits}
-use Rattle.bit_marks.proofs.Numbering.{bits_more, registers_differ}
+use Rattle.net_graph.proofs.Numbering.{bits_more, registers_differ}
 use Rattle.pdl_targets.proofs.queue.mention_one.Goals as goal
 
 pub returns-clause-numbered : goal.returns-clause-numbered

@@ -5,7 +5,7 @@ use Rattle.net_graph.specs.declared.net.BitId.{BitId}
 use Rattle.net_graph.specs.Path.{same_place}
 use Rattle.pdl_targets.specs.Marked.{AreNumbered, bits_written}
 use Rattle.pdl_targets.proofs.Putting.{write_placed}
-use Rattle.bit_marks.proofs.Numbering.{bits_more, kept_at, others_differ}
+use Rattle.net_graph.proofs.Numbering.{bits_more, kept_at, others_differ}
 use Rattle.pdl_targets.proofs.queue.put_write.Goals as goal
 
 pub returns-in-Some-clause-items : goal.returns-in-Some-clause-items

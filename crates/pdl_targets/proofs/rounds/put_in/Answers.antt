@@ -3,7 +3,7 @@ use Rattle.std.specs.Prelude.{length}
 use Rattle.pdl_targets.specs.Insertion.{AreExcluded}
 use Rattle.pdl_targets.specs.SeenPlaces.{places_in}
 use Rattle.pdl_targets.specs.SeenRounds.{seen_rounds}
-use Rattle.round_sets.specs.Rows.{excluded_at}
+use Rattle.pdl_targets.specs.Rows.{excluded_at}
 use Rattle.pdl_targets.proofs.Joining.{excludes_more, joins_first, so_many}
 use Rattle.pdl_targets.proofs.rounds.put_in.Goals as goal
 

@@ -2,7 +2,7 @@ use Rattle.std.proofs.Common.{◌≡◌, [], take}
 use Rattle.pdl_targets.specs.Insertion.{AreExcluded, put_all}
 use Rattle.pdl_targets.specs.SeenPlaces.{places_in}
 use Rattle.pdl_targets.specs.SeenRounds.{seen_rounds}
-use Rattle.round_sets.specs.Rows.{excluded_at}
+use Rattle.pdl_targets.specs.Rows.{excluded_at}
 use Rattle.pdl_targets.proofs.rounds.rounds.Given as goal
 
 abbrev pub invariant-loop-register : goal.invariant-loop-register

@@ -2,7 +2,7 @@
 use Rattle.std.proofs.Common.{◌≤◌, ◌<◌, ◌+◌, ◌^◌, length}
 use Rattle.std.specs.Prelude.{All}
 use Rattle.pdl_targets.specs.Laws.{rounds_in}
-use Rattle.group_scans.specs.Rounds.{StepIsPlannable}
+use Rattle.headline.specs.Rounds.{StepIsPlannable}
 use Rattle.retargeter.proofs.Scripts.{Go}
 use Rattle.retargeter.proofs.procedure.put_steps.Given as goal
 

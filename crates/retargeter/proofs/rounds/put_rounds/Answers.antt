@@ -1,6 +1,6 @@
 use Rattle.std.proofs.Common.{◌≡◌, ◌+◌, suc, arith}
 use Rattle.ij_io.proofs.Adding.{at_refusal}
-use Rattle.group_scans.specs.Rounds.{IsPlannable}
+use Rattle.headline.specs.Rounds.{IsPlannable}
 use Rattle.retargeter.proofs.Going.{go_on, refused}
 use Rattle.net_graph.proofs.Groups.{seen_next}
 use Rattle.retargeter.proofs.rounds.put_rounds.Goals as goal

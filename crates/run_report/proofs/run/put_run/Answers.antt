@@ -1,5 +1,5 @@
 use Rattle.std.proofs.Common.{map}
-use Rattle.bit_steps.specs.BitSteps.{bit_steps}
+use Rattle.merge_order.specs.BitSteps.{bit_steps}
 use Rattle.instruments.specs.Seen.{seen_model}
 use Rattle.pdl_parser.specs.Views.{seen_proc}
 use Rattle.run_report.proofs.Naming.{writes, writes_part}

@@ -1,5 +1,5 @@
 use Rattle.std.proofs.Common.{arith}
-use Rattle.bit_marks.specs.Numbered.{first_bit}
+use Rattle.net_graph.specs.Numbered.{first_bit}
 use Rattle.svf_audit.proofs.Numbering.{item_next, item_there}
 use Rattle.svf_audit.proofs.numbered.number_registers.Goals as goal
 

@@ -1,5 +1,5 @@
 use Rattle.std.proofs.Common.{take}
-use Rattle.bit_marks.specs.Numbered.{AreNumbered, bits_written}
+use Rattle.net_graph.specs.Numbered.{AreNumbered, bits_written}
 use Rattle.svf_audit.proofs.numbered.number_writes.Given as goal
 
 abbrev pub invariant-loop-i : goal.invariant-loop-i

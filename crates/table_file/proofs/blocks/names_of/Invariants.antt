@@ -1,5 +1,5 @@
 use Rattle.std.proofs.Common.{◌≡◌, map, take}
-use Rattle.bench_lines.specs.Reading.{texts}
+use Rattle.table_lines.specs.Reading.{texts}
 use Rattle.table_file.proofs.blocks.names_of.Given as goal
 
 abbrev pub invariant-loop-word : goal.invariant-loop-word

@@ -1,7 +1,7 @@
 use Rattle.std.proofs.Common.{◌≡◌, true, false, Some, ap, sym, ◌∙◌}
 use Rattle.std.specs.Prelude.{is_some}
 use Rattle.std.specs.Option.{option_map}
-use Rattle.bench_lines.specs.Reading.{texts}
+use Rattle.table_lines.specs.Reading.{texts}
 use Rattle.ij_text.specs.Numbering.{number_in}
 use Rattle.ij_text.specs.Parts.{split}
 use Rattle.table_lines.specs.Said.{instrument}

@@ -1,5 +1,5 @@
 use Rattle.std.proofs.Common.{◌≡◌, ◌+◌, ◌<◌, ◌≤◌, ◌^◌, length}
-use Rattle.bench_lines.specs.Reading.{lines_left}
+use Rattle.table_lines.specs.Reading.{lines_left}
 use Rattle.table_file.specs.Answers.{IsSoFar, seen_so_far}
 use Rattle.table_file.specs.Tables.{read_lines, no_tables}
 use Rattle.table_file.proofs.read.read_lines.Given as goal

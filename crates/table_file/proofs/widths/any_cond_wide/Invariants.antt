@@ -1,7 +1,7 @@
 use Rattle.std.proofs.Common.{◌≡◌, map, drop}
 use Rattle.std.specs.List.{list_any}
 use Rattle.instruments.specs.Seen.{seen_model}
-use Rattle.bench_lines.specs.Words.{is_wide}
+use Rattle.table_lines.specs.Words.{is_wide}
 use Rattle.table_file.specs.Tables.{cond_width}
 use Rattle.table_lines.specs.SeenSaid.{seen_cond}
 use Rattle.table_file.proofs.widths.any_cond_wide.Given as goal

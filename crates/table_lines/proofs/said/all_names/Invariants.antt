@@ -1,6 +1,6 @@
 use Rattle.std.proofs.Common.{◌≡◌, drop}
 use Rattle.std.specs.List.{list_all}
-use Rattle.bench_lines.specs.Reading.{texts}
+use Rattle.table_lines.specs.Reading.{texts}
 use Rattle.ij_text.specs.Words.{is_name}
 use Rattle.table_lines.proofs.said.all_names.Given as goal
 

@@ -1,6 +1,6 @@
 use Rattle.std.proofs.Common.{◌≤◌, length, ap, sym, ◌∙◌, arith}
 use Rattle.std.proofs.lemmas.Bool.Decides.{nat_tests}
-use Rattle.bench_lines.specs.Words.{closed}
+use Rattle.table_lines.specs.Words.{closed}
 use Rattle.table_lines.proofs.Closing.{not_closed}
 use Rattle.table_lines.proofs.said.closed.Goals as goal
 

@@ -1,6 +1,6 @@
 use Rattle.std.proofs.Common.{◌≡◌, ◌++◌, length}
 use Rattle.ij_text.specs.Parts.{split}
-use Rattle.bench_lines.specs.Reading.{texts}
+use Rattle.table_lines.specs.Reading.{texts}
 use Rattle.table_lines.proofs.said.pieces.Given as goal
 
 abbrev pub invariant-loop-all : goal.invariant-loop-all

@@ -1,7 +1,7 @@
 use Rattle.std.proofs.Common.{◌++◌, ◌∷◌, [], List, map, ap, sym, ◌∙◌}
 use Rattle.std.specs.Option.{option_map}
 use Rattle.std.proofs.lemmas.List.{map-append}
-use Rattle.bench_lines.specs.Reading.{texts}
+use Rattle.table_lines.specs.Reading.{texts}
 use Rattle.table_lines.specs.Said.{Words, SaidSet, sets}
 use Rattle.table_lines.specs.SeenSaid.{seen_set}
 use Rattle.table_lines.specs.Parted.{part_list, behind_parts}

@@ -1,10 +1,10 @@
 use Rattle.std.proofs.Common.{ap, ◌∙◌, refl, sym, subst, arith}
 use Rattle.instruments.specs.Machine.{count_log}
 use Rattle.instruments.specs.OnNetwork.{fresh}
-use Rattle.bit_marks.specs.Marks.{Marks, HasMark, mark_at}
-use Rattle.bit_marks.proofs.Setting.{each_bit_has_one, zeros_are_zero}
-use Rattle.pdl_runner.specs.States.{SeenState}
-use Rattle.runners.proofs.Machines.{machines_are}
+use Rattle.net_graph.specs.Marks.{Marks, HasMark, mark_at}
+use Rattle.net_graph.proofs.Setting.{each_bit_has_one, zeros_are_zero}
+use Rattle.pdl_meaning.specs.States.{SeenState}
+use Rattle.instruments.proofs.Machines.{machines_are}
 use Rattle.direct_report.proofs.play.DirectPlay.new.Goals as goal
 
 pub invariant_of-result : goal.invariant_of-result

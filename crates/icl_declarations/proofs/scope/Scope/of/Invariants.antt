@@ -1,6 +1,6 @@
 use Rattle.std.proofs.Common.{◌≡◌, ◌≤◌, ℕ, List, map, drop}
 use Rattle.ij_text.specs.Options.{or_else}
-use Rattle.icl_syntax.specs.Views.{seen_item}
+use Rattle.icl_lexer.specs.Views.{seen_item}
 use Rattle.icl_declarations.specs.Parts.{is_signal}
 use Rattle.icl_declarations.specs.Scopes.{entry_of, part_from}
 use Rattle.icl_declarations.proofs.scope.Scope.of.Given as goal

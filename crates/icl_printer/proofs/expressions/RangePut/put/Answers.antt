@@ -1,8 +1,8 @@
 use Rattle.std.proofs.Common.{◌∷◌, ◌++◌, [], List, ap, sym}
 use Rattle.std.specs.Option.{option_map}
 use Rattle.ij_io.proofs.Adding.{at_refusal}
-use Rattle.icl_syntax.specs.declared.tree.Ends.{Ends}
-use Rattle.icl_syntax.specs.Views.{seen_expr}
+use Rattle.icl_lexer.specs.declared.tree.Ends.{Ends}
+use Rattle.icl_lexer.specs.Views.{seen_expr}
 use Rattle.icl_printer.specs.Layout.{Spelling, mark}
 use Rattle.icl_printer.specs.Canonical.{behind, formula_tokens, if_there}
 use Rattle.icl_printer.proofs.Laid.{laid_both, laid_front, laid_then_part, part_as, whole_as}

@@ -2,7 +2,7 @@ use Rattle.std.proofs.Common.{ℕ, List, map, sym, ap, ◌∙◌}
 use Rattle.std.specs.List.{list_any}
 use Rattle.ij_text.specs.Numbers.{tern_bits}
 use Rattle.icl_declarations.specs.Taken.{has_entry}
-use Rattle.icl_values.specs.Values.{OpenBits}
+use Rattle.icl_declarations.specs.Values.{OpenBits}
 use Rattle.icl_references.specs.Muxes.{meet}
 use Rattle.icl_references.specs.Overlaps.{values_of}
 use Rattle.icl_references.proofs.Overlapping.{key_found, key_missing}

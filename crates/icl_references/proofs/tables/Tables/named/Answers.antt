@@ -1,5 +1,5 @@
 use Rattle.std.proofs.Common.{◌<◌, List, ℕ, length, Err, sym, ap, subst, ◌∙◌, arith}
-use Rattle.icl_values.specs.Faults.{Answer, NoName}
+use Rattle.icl_declarations.specs.Faults.{Answer, NoName}
 use Rattle.icl_frames.specs.FirstPass.{Frame}
 use Rattle.icl_references.specs.Names.{Member, members, named}
 use Rattle.icl_references.proofs.NamedParts.{frame_is, named_below, named_is, named_ok, unnamed}

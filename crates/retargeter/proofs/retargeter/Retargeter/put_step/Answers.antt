@@ -1,6 +1,6 @@
 use Rattle.std.proofs.Common.{sym, subst}
 use Rattle.net_graph.specs.SeenSteps.{seen_step}
-use Rattle.group_scans.specs.Rounds.{StepIsPlannable}
+use Rattle.headline.specs.Rounds.{StepIsPlannable}
 use Rattle.retargeter.specs.Writing.{HasPlan}
 use Rattle.retargeter.proofs.Found.{step_planned}
 use Rattle.retargeter.proofs.retargeter.Retargeter.put_step.Goals as goal

@@ -1,6 +1,6 @@
 use Rattle.std.proofs.Common.{ap, sym, ◌∙◌, subst}
 use Rattle.std.specs.Prelude.{All, map}
-use Rattle.bit_marks.specs.Numbered.{HaveMarks}
+use Rattle.net_graph.specs.Numbered.{HaveMarks}
 use Rattle.net_graph.specs.SeenSteps.{seen_step}
 use Rattle.net_graph.specs.Steps.{IsStep}
 use Rattle.svf_writer.specs.Fits.{HasLength}

@@ -1,3 +1,0 @@
-pub mod Setting
-pub mod Selecting
-pub mod Numbering

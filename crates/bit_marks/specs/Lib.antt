@@ -1,4 +1,0 @@
-pub mod Marks
-pub mod Laws
-pub mod Selects
-pub mod Numbered

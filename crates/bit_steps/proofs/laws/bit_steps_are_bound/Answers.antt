@@ -1,8 +1,0 @@
-use Rattle.bit_steps.proofs.Whole.{steps_are_bound, steps_are_fed}
-use Rattle.bit_steps.proofs.laws.bit_steps_are_bound.Goals as goal
-
-pub returns-clause-fed : goal.returns-clause-fed
-returns-clause-fed c = steps_are_fed
-
-pub returns-clause-alone : goal.returns-clause-alone
-returns-clause-alone c = steps_are_bound

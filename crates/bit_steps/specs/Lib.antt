@@ -1,4 +1,0 @@
-pub mod BitSteps
-pub mod Seen
-pub mod SeenProgress
-pub mod Laws

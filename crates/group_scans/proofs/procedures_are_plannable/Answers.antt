@@ -1,8 +1,0 @@
-use Rattle.group_scans.proofs.Rounds.{groups_need_one_row_each, procedures_are_plannable}
-use Rattle.group_scans.proofs.procedures_are_plannable.Goals as goal
-
-pub returns-clause-groups : goal.returns-clause-groups
-returns-clause-groups c = groups_need_one_row_each
-
-pub returns-clause-steps : goal.returns-clause-steps
-returns-clause-steps c = procedures_are_plannable

@@ -1,0 +1,49 @@
+-- Numbers and concatenations in the width that is wanted (IEEE 1687-2014: ResetValue, the values of an Enum and of a ScanMux).
+use Rattle.std.specs.Prelude.{ℕ, true, false, cond, nat_lt, List, [], ◌∷◌, ◌++◌, length, Ok, Err}
+use Rattle.ij_text.specs.declared.Place.{Place}
+use Rattle.icl_lexer.specs.Values.{SeenExpr}
+use Rattle.icl_declarations.specs.Faults.{Answer, ◌>>=◌, each, WidthDiffers, WrongKind}
+use Rattle.icl_declarations.specs.Values.{OpenBits, Worth, AnInteger, SomeBits, AText, Params, integer_bits}
+use Rattle.icl_declarations.specs.Sized.{fits, in_width}
+use Rattle.icl_declarations.specs.Expressions.{evaluate, place_in}
+
+-- a number without a size: zeros are added or dropped on the left
+abbrev pub free_in : Place → ℕ → OpenBits → Answer OpenBits
+free_in holder width bits = cond (fits width bits) (Ok (in_width width bits)) (Err (WidthDiffers holder))
+
+-- bits with a size: zeros are added on the left, and none is dropped
+abbrev pub sized_in : Place → ℕ → OpenBits → Answer OpenBits
+sized_in holder width bits = cond (nat_lt width (length bits)) (Err (WidthDiffers holder)) (Ok (in_width width bits))
+
+-- a number alone
+abbrev pub lone_in : Place → Place → ℕ → Worth → Answer OpenBits
+lone_in holder at width (AnInteger n) = free_in holder width (integer_bits n)
+lone_in holder at width (SomeBits false bits) = free_in holder width bits
+lone_in holder at width (SomeBits true bits) = sized_in holder width bits
+lone_in holder at width (AText text) = Err (WrongKind at)
+
+-- a number of a concatenation needs a size
+abbrev pub part_of : Place → Worth → Answer OpenBits
+part_of at (AnInteger n) = Err (WrongKind at)
+part_of at (SomeBits false bits) = Err (WrongKind at)
+part_of at (SomeBits true bits) = Ok bits
+part_of at (AText text) = Err (WrongKind at)
+
+abbrev pub one_part : Params → Place → SeenExpr → Answer OpenBits
+one_part ps holder e = evaluate ps holder e >>= part_of (place_in holder e)
+
+-- a concatenation begins at the left, so its last part has position 0
+abbrev pub joined : {A : Type 0} → List (List A) → List A
+joined [] = []
+joined (part ∷ parts) = joined parts ++ part
+
+abbrev pub lone_value : Params → Place → ℕ → SeenExpr → Answer OpenBits
+lone_value ps holder width e = evaluate ps holder e >>= lone_in holder (place_in holder e) width
+
+abbrev pub parts_value : Params → Place → ℕ → List SeenExpr → Answer OpenBits
+parts_value ps holder width es = each (one_part ps holder) es >>= λ parts. sized_in holder width (joined parts)
+
+-- a value in the width that is wanted: a number alone, or a concatenation
+unfoldable pub value_in : Params → Place → ℕ → List SeenExpr → Answer OpenBits
+value_in ps holder width (e ∷ []) = lone_value ps holder width e
+value_in ps holder width es = parts_value ps holder width es

@@ -1,4 +1,0 @@
-pub mod Bindings
-pub mod FoundParts
-pub mod Marks
-pub mod SeenParts

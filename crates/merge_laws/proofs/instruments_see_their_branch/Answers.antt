@@ -1,5 +1,0 @@
-use Rattle.merge_laws.proofs.Seeing.{instruments_see_their_branch}
-use Rattle.merge_laws.proofs.instruments_see_their_branch.Goals as goal
-
-pub returns : goal.returns
-returns c = instruments_see_their_branch

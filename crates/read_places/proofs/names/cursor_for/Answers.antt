@@ -1,5 +1,0 @@
-use Rattle.read_places.proofs.Standing.{first_zero}
-use Rattle.read_places.proofs.names.cursor_for.Goals as goal
-
-pub returns-clause-first : goal.returns-clause-first
-returns-clause-first c = first_zero c.new.result c.args.scan c.new.ensures.first

@@ -1,8 +1,0 @@
-use Rattle.std.proofs.Common.{◌≡◌, ◌++◌, drop, map}
-use Rattle.std.specs.Prelude.{reverse}
-use Rattle.read_places.specs.Noting.{place_on}
-use Rattle.read_places.proofs.place.note_reads.Given as goal
-
-abbrev pub invariant-loop-read : goal.invariant-loop-read
-invariant-loop-read l =
-    l.places.items ++ map (place_on l.net (reverse l.path) l.scan) (drop l.read-index l.reads) ≡ l.fn.places.items ++ map (place_on l.net (reverse l.path) l.scan) l.reads

@@ -1,6 +1,0 @@
-pub mod Places
-pub mod Noting
-pub mod Procedure
-pub mod Reaching
-pub mod Asking
-pub mod Laws

@@ -1,5 +1,0 @@
-use Rattle.round_sets.proofs.Bits.{without_bit}
-use Rattle.round_sets.proofs.words.without.Goals as goal
-
-pub returns : goal.returns
-returns c j low = without_bit c.args.word c.args.other j c.ranges.other.fits low

@@ -1,4 +1,0 @@
-pub mod Pieces
-pub mod Causes
-pub mod Steps
-pub mod Scripts

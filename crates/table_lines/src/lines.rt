@@ -1,0 +1,112 @@
+// The lines of a text that have words.
+ghost use Rattle.std.specs.Prelude.{◌≡◌, ◌+◌, ◌^◌, ◌<◌, ◌≤◌, [], ◌∷◌, length, MatchOption, IfSome, IfOk, suc, ℕ};
+ghost use Rattle.table_lines.specs.Lines.{shown, words, line_place, line_of, unless_empty, end_of, lines};
+ghost use Rattle.table_lines.specs.Reading.{lines_left, seen_line, texts};
+
+use crate::bytes::{Class, cut_at, next_word, run_len};
+use ij_bits::OutOfMemory;
+use ij_text::Place;
+use std::alloc::Global;
+
+/// A line that has words.
+#[derive(Clone, Copy)]
+pub struct Line<'a> {
+    /// Where its first word stands.
+    pub at: Place,
+    /// The line without its comment.
+    pub text: &'a [u8],
+    /// The text behind the line.
+    pub rest: &'a [u8],
+    /// The number of the next line.
+    pub number: u32,
+}
+
+/// A line's text without its comment.
+fn shown(text: &[u8]) -> &[u8]
+    ensures { result.now ≡ shown text.now }
+{
+    let (front, _) = text.split_at(run_len(text, Class::Shown));
+    front
+}
+
+/// Where the first word of a line stands, if it has one.
+fn first_place(number: u32, text: &[u8]) -> Place
+    requires { length text.now + 1 < 2 ^ 32 }
+    ensures { result ≡ line_place number text.now }
+{
+    Place {
+        line: number,
+        col: run_len(text, Class::Blank) as u32 + 1,
+    }
+}
+
+/// The first line of a text that has words, if there is one; `number` is the number of the text's first line.
+pub fn next_line<'a>(text: &'a [u8], number: u32) -> Option<Line<'a>>
+    requires { number + length text.now + 1 < 2 ^ 32 }
+    ensures value { MatchOption result (lines_left number text.now ≡ []) (λ l. lines_left number text.now ≡ seen_line l.at l.text.now ∷ lines_left l.number l.rest.now) }
+    ensures shorter { IfSome result (λ l. l.number + length l.rest.now ≤ number + length text.now) }
+    ensures less { IfSome result (λ l. length l.rest.now < length text.now) }
+{
+    let mut rest = text;
+    let mut number = number;
+    while !rest.is_empty() {
+        let (line, behind) = cut_line(rest);
+        let text = shown(line);
+        if next_word(text).is_some() {
+            let at = first_place(number, line);
+            return Some(Line {
+                at,
+                text,
+                rest: behind,
+                number: number + 1,
+            });
+        }
+        rest = behind;
+        number += 1;
+    }
+    None
+}
+
+/// The first line of a text, and the text behind the line feed that ends it.
+fn cut_line<'a>(text: &'a [u8]) -> (&'a [u8], &'a [u8])
+    requires { 1 ≤ length text.now }
+    ensures lines { (n : ℕ) → lines_left n text.now ≡ unless_empty (line_of n result.0.now) (lines_left (suc n) result.1.now) }
+    ensures shorter { length result.1.now < length text.now }
+    ensures front { length result.0.now ≤ length text.now }
+{
+    let cut = cut_at(text, b'\n');
+    match cut.behind {
+        Some(behind) => (cut.front, behind),
+        None => (text, &[]),
+    }
+}
+
+/// The place behind the last byte of a text.
+pub fn end_place(text: &[u8]) -> Place
+    requires { length text.now + 2 < 2 ^ 32 }
+    ensures { result ≡ end_of text.now }
+{
+    let mut rest = text;
+    let mut line = 1;
+    while let Some(behind) = cut_at(rest, b'\n').behind {
+        rest = behind;
+        line += 1;
+    }
+    Place {
+        line,
+        col: rest.len() as u32 + 1,
+    }
+}
+
+/// The words of a line.
+pub fn words<'a>(alloc: Global, text: &'a [u8]) -> Result<Vec<&'a [u8]>, OutOfMemory>
+    ensures { IfOk result (λ ws. texts ws.items ≡ words text.now) }
+{
+    let mut all = Vec::new(alloc);
+    let mut rest = text;
+    while let Some(next) = next_word(rest) {
+        all.push(next.word)?;
+        rest = next.rest;
+    }
+    Ok(all)
+}
