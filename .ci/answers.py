@@ -1,5 +1,6 @@
 #!/usr/bin/env python3
-"""Hands texts to the program and compares what it answers: answers.py PROGRAM, run at the top of a checkout.
+"""Hands texts to the program and compares what it answers: answers.py PROGRAM [TITLE..], run at the top of a checkout; where titles are
+given, only the cases whose title begins with one of them. A title begins with its topic, as in `pdl: texts`.
 
 Each file of .ci/answers/ has cases of one topic, in these lines:
 
@@ -15,6 +16,7 @@ Each file of .ci/answers/ has cases of one topic, in these lines:
 Where nothing is after `=`, the text is the lines below that are indented by two blanks more, each with a line feed, but for a line that is
 <NAME> alone; else it has no line feed at its end. \\n, \\t, \\r, \\xNN and \\\\ are bytes, <7 * ab> is seven times `ab`, and # begins a comment."""
 import concurrent.futures
+import functools
 import os
 import pathlib
 import re
@@ -25,7 +27,6 @@ import tempfile
 ANY = None
 ESCAPES = {'n': '\n', 't': '\t', 'r': '\r', '\\': '\\'}
 MADE = ('t.icl', 't.pdl', 't.dev', 't.tab', 't.svf')
-program = os.path.abspath(sys.argv[1])
 texts = {}
 
 
@@ -133,8 +134,8 @@ def hierarchies():
         icl = f'Module m0 {{ {items} }}\n'
         for k in range(1, 71):
             icl += f'Module m{k} {{{"".join(f" Instance i{i} Of m{k - 1};" for i in range(instances))} }}\n'
-        yield refused(f'{limit} is taken', icl, f'm{last}', 'connect NoLink tap IJTAG')
-        yield refused(f'more than {limit}', icl, f'm{last + 1}', f'elab Limit {limit}')
+        yield refused(f'elab: {limit} is taken', icl, f'm{last}', 'connect NoLink tap IJTAG')
+        yield refused(f'elab: more than {limit}', icl, f'm{last + 1}', f'elab Limit {limit}')
 
 
 def chain(muxes):
@@ -148,11 +149,11 @@ def chain(muxes):
 
 
 def chains():
-    yield refused('seventeen multiplexers', chain(17), 'chip', 'nest TooDeep net.m16')
+    yield refused('nest: seventeen multiplexers', chain(17), 'chip', 'nest TooDeep net.m16')
     # each scan opens one multiplexer more, and the last one writes
     scans = ''.join(f'SDR {k} TDI ({(1 << k) - 1:0{(k + 3) // 4}X});\n' for k in range(1, 18))
     yield Case(
-        'sixteen multiplexers', ('a.icl', chain(16)), ('a.dev', full('<DEVICE>')),
+        'nest: sixteen multiplexers', ('a.icl', chain(16)), ('a.dev', full('<DEVICE>')),
         ('a.pdl', 'iProcsForModule chip\niProc p {} {\n  iWrite net.S16 1\n  iApply\n}\n'),
         Run(['compile', 'a.icl', 'a.pdl', 'a.dev', 'chip', 'p', 'a.svf'], holds={'a.svf': full('<PREFACE>') + '! apply 1\n' + scans}))
 
@@ -162,7 +163,7 @@ def pieces():
     pdl = ''.join(f'  iWrite net.R {n % 16}\n  iApply\n' for n in range(1, 4097))
     svf = ''.join(f'! apply {n}\nSDR 4 TDI ({n % 16:X});\n' for n in range(1, 4097))
     return Case(
-        'a text of several pieces', ('a.icl', full('<FLAT>')), ('a.pdl', f'iProcsForModule chip\niProc p {{}} {{\n{pdl}}}\n'), ('a.dev', full('<DEVICE>')),
+        'compile: a text of several pieces', ('a.icl', full('<FLAT>')), ('a.pdl', f'iProcsForModule chip\niProc p {{}} {{\n{pdl}}}\n'), ('a.dev', full('<DEVICE>')),
         Run(['compile', 'a.icl', 'a.pdl', 'a.dev', 'chip', 'p', 'a.svf'], holds={'a.svf': full('<PREFACE>') + svf}))
 
 
@@ -176,7 +177,7 @@ def longest_scan():
     report = ''.join(lines) + f'register net.R 1000\nscans 2 clocks 65556 differs {len(lines)}\n'
     svf = 'SIR 8 TDI (A0);\nSDR 65536 TDI' + part + 'TDO' + part + 'MASK' + part + 'SMASK' + part + ';'
     return Case(
-        'the longest scan', ('a.svf', svf), *((name, full(text)) for name, text in (('a.icl', '<FLAT>'), ('a.dev', '<DEVICE>'), ('a.tab', '<TABLES>'))),
+        'play: the longest scan', ('a.svf', svf), *((name, full(text)) for name, text in (('a.icl', '<FLAT>'), ('a.dev', '<DEVICE>'), ('a.tab', '<TABLES>'))),
         Run(['play', 'a.svf', 'a.icl', 'a.dev', 'a.tab', 'chip'], 1, report))
 
 
@@ -184,10 +185,10 @@ def made_designs():
     """Designs of all sizes, which their procedures find as they should be, and one that is made, compiled and played again."""
     files = dict.fromkeys(MADE, ANY)
     for seed, size in ((1, 1), (0, 1), (9999999999999999999, 1), (1, 8), (2, 8), (3, 8), (4, 8), (7, 64)):
-        yield Case(f'a made design {seed} {size}', Run(['make', str(seed), str(size), 't'], out=lambda line, size=size: is_made(line, size), holds=files))
+        yield Case(f'make: a made design {seed} {size}', Run(['make', str(seed), str(size), 't'], out=lambda line, size=size: is_made(line, size), holds=files))
     lines = []
     yield Case(
-        'a design made again', Run(['make', '3', '4', 't'], out=lambda line: lines.append(line) or is_made(line, 4), holds=files),
+        'make: a design made again', Run(['make', '3', '4', 't'], out=lambda line: lines.append(line) or is_made(line, 4), holds=files),
         Run(['make', '3', '4', 'u'], out=lambda line: line == lines[0], holds={f'u{name[1:]}': (name,) for name in MADE}),
         Run(['compile', 't.icl', 't.pdl', 't.dev', 'chip', 'p', 'again.svf'], holds={'again.svf': ('t.svf',)}),
         Run(['play', 't.svf', 't.icl', 't.dev', 't.tab', 'chip'], out=lambda report: report.endswith(' differs 0\n')))
@@ -207,7 +208,7 @@ def short(value):
     return told if len(told) < 400 else f'{told[:400]}.. of {len(told)}'
 
 
-def wrong(case):
+def wrong(program, case):
     """A line for each thing that is otherwise than wanted."""
     lines, files = [], {}
 
@@ -234,12 +235,22 @@ def wrong(case):
     return lines
 
 
-topics = [case for path in sorted(pathlib.Path('.ci/answers').glob('*.txt')) for case in read_topic(path)]
-cases = [of_row(case, row) for case in topics for row in case.rows or [()]]
-cases += [*hierarchies(), *chains(), pieces(), longest_scan(), *made_designs()]
-with concurrent.futures.ThreadPoolExecutor(os.cpu_count() or 1) as workers:
-    failed = [lines for lines in workers.map(wrong, cases) if lines]
-for lines in failed:
-    print(*lines, sep='\n')
-print(f'answers: {len(cases) - len(failed)} passed, {len(failed)} failed')
-sys.exit(1 if failed or not cases else 0)
+def all_cases():
+    """The cases of all topics, one for each row, and those whose texts are computed."""
+    topics = [case for path in sorted(pathlib.Path('.ci/answers').glob('*.txt')) for case in read_topic(path)]
+    cases = [of_row(case, row) for case in topics for row in case.rows or [()]]
+    return cases + [*hierarchies(), *chains(), pieces(), longest_scan(), *made_designs()]
+
+
+def main(program, *titles):
+    cases = [case for case in all_cases() if case.title.startswith(titles or '')]
+    with concurrent.futures.ThreadPoolExecutor(os.cpu_count() or 1) as workers:
+        failed = [lines for lines in workers.map(functools.partial(wrong, os.path.abspath(program)), cases) if lines]
+    for lines in failed:
+        print(*lines, sep='\n')
+    print(f'answers: {len(cases) - len(failed)} passed, {len(failed)} failed')
+    return 1 if failed or not cases else 0
+
+
+if __name__ == '__main__':
+    sys.exit(main(*sys.argv[1:]))
