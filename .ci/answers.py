@@ -158,13 +158,34 @@ def chains():
         Run(['compile', 'a.icl', 'a.pdl', 'a.dev', 'chip', 'p', 'a.svf'], holds={'a.svf': full('<PREFACE>') + '! apply 1\n' + scans}))
 
 
+def calls():
+    """Procedures that call one another, so many inside one another: the last one writes."""
+    for depth, status, err in ((64, 0, ''), (65, 3, 'refused pdl CallDepth 195:3\n')):
+        procs = ''.join(f'iProc {name} {{}} {{\n  iCall c{k}\n}}\n' for k, name in enumerate(['p', *(f'c{k}' for k in range(1, depth))], 1))
+        pdl = f'iProcsForModule chip\n{procs}iProc c{depth} {{}} {{\n  iWrite net.R 5\n  iApply\n}}\n'
+        yield Case(
+            f'pdl: {depth} calls inside one another', ('a.icl', full('<FLAT>')), ('a.pdl', pdl), ('a.dev', full('<DEVICE>')),
+            Run(['compile', 'a.icl', 'a.pdl', 'a.dev', 'chip', 'p', 'a.svf'], status, '', err, {} if status else {'a.svf': full('<SVF>')}))
+
+
 def pieces():
-    """A text of more than 64 KiB is added to its file piece by piece."""
-    pdl = ''.join(f'  iWrite net.R {n % 16}\n  iApply\n' for n in range(1, 4097))
-    svf = ''.join(f'! apply {n}\nSDR 4 TDI ({n % 16:X});\n' for n in range(1, 4097))
-    return Case(
-        'compile: a text of several pieces', ('a.icl', full('<FLAT>')), ('a.pdl', f'iProcsForModule chip\niProc p {{}} {{\n{pdl}}}\n'), ('a.dev', full('<DEVICE>')),
-        Run(['compile', 'a.icl', 'a.pdl', 'a.dev', 'chip', 'p', 'a.svf'], holds={'a.svf': full('<PREFACE>') + svf}))
+    """The most groups: their text of more than 64 KiB is added to its file piece by piece. One more is refused at its iApply."""
+    svf = full('<PREFACE>') + ''.join(f'! apply {n}\nSDR 4 TDI ({n % 16:X});\n' for n in range(1, 4097))
+    for title, groups, status, err in (('a text of several pieces', 4096, 0, ''), ('more groups', 4097, 3, 'refused pdl Limit 8196:3 Groups 4096\n')):
+        pdl = ''.join(f'  iWrite net.R {n % 16}\n  iApply\n' for n in range(1, groups + 1))
+        yield Case(
+            f'compile: {title}', ('a.icl', full('<FLAT>')), ('a.pdl', f'iProcsForModule chip\niProc p {{}} {{\n{pdl}}}\n'), ('a.dev', full('<DEVICE>')),
+            Run(['compile', 'a.icl', 'a.pdl', 'a.dev', 'chip', 'p', 'a.svf'], status, '', err, {} if status else {'a.svf': svf}))
+
+
+def segments():
+    """The three instruments of examples/sibs/, whose page shows the file and its play: their run has both."""
+    page = pathlib.Path('examples/sibs/README.md').read_text()
+    svf, report = (''.join(line[4:] + '\n' for line in part.splitlines()) for part in re.findall(r'(?m)^    \$ .*\n((?:    [^$].*\n)+)', page))
+    files = [f'chip.{kind}' for kind in ('icl', 'pdl', 'dev', 'tab')]
+    yield Case(
+        'run: three instruments in segments', *((name, pathlib.Path('examples/sibs', name).read_text()) for name in files),
+        Run(['run', *files, 'chip', 'p', 'a.svf'], out=report, holds={'a.svf': svf}))
 
 
 def longest_scan():
@@ -239,7 +260,7 @@ def all_cases():
     """The cases of all topics, one for each row, and those whose texts are computed."""
     topics = [case for path in sorted(pathlib.Path('.ci/answers').glob('*.txt')) for case in read_topic(path)]
     cases = [of_row(case, row) for case in topics for row in case.rows or [()]]
-    return cases + [*hierarchies(), *chains(), pieces(), longest_scan(), *made_designs()]
+    return cases + [*hierarchies(), *chains(), *calls(), *pieces(), *segments(), longest_scan(), *made_designs()]
 
 
 def main(program, *titles):
