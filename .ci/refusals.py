@@ -1,6 +1,6 @@
 #!/usr/bin/env python3
-"""Each refusal that the program can print has a row in docs/REFUSALS.md and a case that wants it, each row says what helps, and each limit has
-a case at its number and one at the next number. Run at the top of a checkout.
+"""Each refusal that the program can print has a row in docs/REFUSALS.md and a case that wants it, each row says what helps, and each limit
+has a case at its number and one at the next number. Run at the top of a checkout.
 
 The refusals are the variants of the enumerations of faults in the sources, and the limits those below, all of docs/MANUAL.md's section on
 them among them. The cases are those of .ci/answers.py."""
@@ -9,7 +9,7 @@ import re
 import sys
 
 sys.dont_write_bytecode = True
-import answers  # noqa: E402
+import answers
 
 STAGES = {
     'LoadFault': 'file', 'LexFault': 'icl', 'ParseFault': 'icl', 'DeviceFault': 'device', 'TableFault': 'tables', 'SvfFault': 'svf',
@@ -88,7 +88,7 @@ LIMITS = {
     'formats/ICL': (
         ('at most 4,294,967,295', 'Syntax', 'elab: the greatest numbers: 4294967295 => ', 'elab: the greatest numbers: 4294967296'),),
     'formats/SVF': (
-        ('1 to 10 decimal digits', 'SvfSyntax', "svf: SVF that isn't refused: RUNTEST 0000000001 ", 'svf: refused SVF: RUNTEST 00000000001 '),
+        ('1 to 10 decimal digits', 'SvfSyntax', "svf: SVF that isn't refused: RUNTEST 0000000001 ", 'svf: refused SVF: RUNTEST 00000000001'),
         ('A scan has 1 to 65,536 bits', 'SvfSyntax', "svf: SVF that isn't refused: SDR 1 ", 'svf: refused SVF: SDR 0 '),
         ('A scan has 1 to 65,536 bits', 'SvfLimit', "svf: SVF that isn't refused: SDR 65536 ", 'svf: refused SVF: SDR 65537 ')),
     'MEANING': (
@@ -161,7 +161,7 @@ for name, limits in LIMITS.items():
         check(refusal_at(at, refusal) is False, f'docs/{name}.md: {words}: no case at the number: {at}')
         check(refusal_at(above, refusal), f'docs/{name}.md: {words}: no case at the next number: {above}')
         left = left.replace(words, '')
-    check(not re.search(r'\d', left), f'docs/{name}.md: limits without cases: {" ".join(re.findall("[0-9,]+", left))}')
+    check(not re.search(r'\d', left), f'docs/{name}.md: limits without cases: {" ".join(re.findall("[0-9][0-9,]*", left))}')
 
 for line in missing:
     print(line)
