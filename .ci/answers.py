@@ -126,16 +126,18 @@ def refused(title, icl, top, line):
 
 
 def hierarchies():
-    """Modules m0 to m70, each with so many instances of the one before it: the last that is taken has no link, and the next is refused."""
-    mux, register = 'ScanInPort i; ScanMux m SelectedBy 1\'b0 { 0 : i; }', 'ScanInPort i; ScanRegister r[31:0] { ScanInSource i; }'
-    for items, instances, last, limit in (
-            ('', 1, 64, 'Hierarchy 64'), ('', 2, 12, 'Cells 8192'), ('DataInPort d;', 2, 8, 'Instruments 256'), (mux, 2, 10, 'Muxes 1024'),
-            (register, 2, 7, 'ScanBits 4096')):
-        icl = f'Module m0 {{ {items} }}\n'
-        for k in range(1, 71):
+    """Modules m0, m1 and so on, each with so many instances of the one before it: a top with the last one has as many of something as may be
+    and no link, and a top that has the module `one`, too, has one more."""
+    mux, register = 'ScanInPort i; ScanMux m SelectedBy 1\'b0 { 0 : i; }', 'ScanInPort i; ScanRegister r%s { ScanInSource i; }'
+    for items, one, instances, last, limit in (
+            ('', 'Instance i Of m63;', 1, 63, 'Hierarchy 64'), ('', '', 2, 12, 'Cells 8192'), ('DataInPort d;', 'DataInPort d;', 2, 8, 'Instruments 256'),
+            (mux, mux, 2, 10, 'Muxes 1024'), (register % '[31:0]', register % '', 2, 7, 'ScanBits 4096')):
+        icl = f'Module m0 {{ {items} }}\nModule one {{ {one} }}\n'
+        for k in range(1, last + 1):
             icl += f'Module m{k} {{{"".join(f" Instance i{i} Of m{k - 1};" for i in range(instances))} }}\n'
-        yield refused(f'elab: {limit} is taken', icl, f'm{last}', 'connect NoLink tap IJTAG')
-        yield refused(f'elab: more than {limit}', icl, f'm{last + 1}', f'elab Limit {limit}')
+        icl += f'Module at {{ Instance i Of m{last}; }}\nModule above {{ Instance i Of m{last}; Instance j Of one; }}\n'
+        yield refused(f'elab: {limit} is taken', icl, 'at', 'connect NoLink tap IJTAG')
+        yield refused(f'elab: more than {limit}', icl, 'above', f'elab Limit {limit}')
 
 
 def chain(muxes):

@@ -43,7 +43,7 @@ LIMITS = {
         ('`ScanBits` | 4096', 'Limit ScanBits 4096', 'large: registers of all widths: 4095', 'large: widths that no register has: 4096'),
         ('`Muxes` | 1024', 'Limit Muxes 1024', 'elab: Muxes 1024 is taken', 'elab: more than Muxes 1024'),
         ('`Instruments` | 256', 'Limit Instruments 256', 'elab: Instruments 256 is taken', 'elab: more than Instruments 256'),
-        ('`Ports` | 16', 'Limit Ports 16', 'elab: ports ..DataInPort p; DataOutPort q;', 'elab: ports ..DataInPort q'),
+        ('`Ports` | 16', 'Limit Ports 16', 'elab: ports ..DataInPort p; DataOutPort q;', 'elab: ports ..DataInPort q;'),
         ('`Ports` | 16', 'Limit Ports 16', 'elab: ports ..DataOutPort P; DataInPort a;', 'elab: ports ..DataOutPort Q;'),
         ('`PortBits` | 64', 'Limit PortBits 64', 'elab: ports ..: DataInPort d[63:0]', 'elab: ports ..: DataInPort d[64:0]; => c'),
         ('`PortBits` | 64', 'Limit PortBits 64', 'elab: ports ..: DataOutPort d[1:64]', 'elab: ports ..: DataOutPort d[1:65]'),
