@@ -1,5 +1,6 @@
 #!/usr/bin/env python3
-"""Hands texts to the program and compares what it answers: answers.py PROGRAM, run at the top of a checkout.
+"""Hands texts to the program and compares what it answers: answers.py PROGRAM [TITLE..], run at the top of a checkout; where titles are
+given, only the cases whose title begins with one of them. A title begins with its topic, as in `pdl: texts`.
 
 Each file of .ci/answers/ has cases of one topic, in these lines:
 
@@ -15,6 +16,7 @@ Each file of .ci/answers/ has cases of one topic, in these lines:
 Where nothing is after `=`, the text is the lines below that are indented by two blanks more, each with a line feed, but for a line that is
 <NAME> alone; else it has no line feed at its end. \\n, \\t, \\r, \\xNN and \\\\ are bytes, <7 * ab> is seven times `ab`, and # begins a comment."""
 import concurrent.futures
+import functools
 import os
 import pathlib
 import re
@@ -25,7 +27,6 @@ import tempfile
 ANY = None
 ESCAPES = {'n': '\n', 't': '\t', 'r': '\r', '\\': '\\'}
 MADE = ('t.icl', 't.pdl', 't.dev', 't.tab', 't.svf')
-program = os.path.abspath(sys.argv[1])
 texts = {}
 
 
@@ -125,16 +126,18 @@ def refused(title, icl, top, line):
 
 
 def hierarchies():
-    """Modules m0 to m70, each with so many instances of the one before it: the last that is taken has no link, and the next is refused."""
-    mux, register = 'ScanInPort i; ScanMux m SelectedBy 1\'b0 { 0 : i; }', 'ScanInPort i; ScanRegister r[31:0] { ScanInSource i; }'
-    for items, instances, last, limit in (
-            ('', 1, 64, 'Hierarchy 64'), ('', 2, 12, 'Cells 8192'), ('DataInPort d;', 2, 8, 'Instruments 256'), (mux, 2, 10, 'Muxes 1024'),
-            (register, 2, 7, 'ScanBits 4096')):
-        icl = f'Module m0 {{ {items} }}\n'
-        for k in range(1, 71):
+    """Modules m0, m1 and so on, each with so many instances of the one before it: a top with the last one has as many of something as may be
+    and no link, and a top that has the module `one`, too, has one more."""
+    mux, register = 'ScanInPort i; ScanMux m SelectedBy 1\'b0 { 0 : i; }', 'ScanInPort i; ScanRegister r%s { ScanInSource i; }'
+    for items, one, instances, last, limit in (
+            ('', 'Instance i Of m63;', 1, 63, 'Hierarchy 64'), ('', '', 2, 12, 'Cells 8192'), ('DataInPort d;', 'DataInPort d;', 2, 8, 'Instruments 256'),
+            (mux, mux, 2, 10, 'Muxes 1024'), (register % '[31:0]', register % '', 2, 7, 'ScanBits 4096')):
+        icl = f'Module m0 {{ {items} }}\nModule one {{ {one} }}\n'
+        for k in range(1, last + 1):
             icl += f'Module m{k} {{{"".join(f" Instance i{i} Of m{k - 1};" for i in range(instances))} }}\n'
-        yield refused(f'{limit} is taken', icl, f'm{last}', 'connect NoLink tap IJTAG')
-        yield refused(f'more than {limit}', icl, f'm{last + 1}', f'elab Limit {limit}')
+        icl += f'Module at {{ Instance i Of m{last}; }}\nModule above {{ Instance i Of m{last}; Instance j Of one; }}\n'
+        yield refused(f'elab: {limit} is taken', icl, 'at', 'connect NoLink tap IJTAG')
+        yield refused(f'elab: more than {limit}', icl, 'above', f'elab Limit {limit}')
 
 
 def chain(muxes):
@@ -148,22 +151,43 @@ def chain(muxes):
 
 
 def chains():
-    yield refused('seventeen multiplexers', chain(17), 'chip', 'nest TooDeep net.m16')
+    yield refused('nest: seventeen multiplexers', chain(17), 'chip', 'nest TooDeep net.m16')
     # each scan opens one multiplexer more, and the last one writes
     scans = ''.join(f'SDR {k} TDI ({(1 << k) - 1:0{(k + 3) // 4}X});\n' for k in range(1, 18))
     yield Case(
-        'sixteen multiplexers', ('a.icl', chain(16)), ('a.dev', full('<DEVICE>')),
+        'nest: sixteen multiplexers', ('a.icl', chain(16)), ('a.dev', full('<DEVICE>')),
         ('a.pdl', 'iProcsForModule chip\niProc p {} {\n  iWrite net.S16 1\n  iApply\n}\n'),
         Run(['compile', 'a.icl', 'a.pdl', 'a.dev', 'chip', 'p', 'a.svf'], holds={'a.svf': full('<PREFACE>') + '! apply 1\n' + scans}))
 
 
+def calls():
+    """Procedures that call one another, so many inside one another: the last one writes."""
+    for depth, status, err in ((64, 0, ''), (65, 3, 'refused pdl CallDepth 195:3\n')):
+        procs = ''.join(f'iProc {name} {{}} {{\n  iCall c{k}\n}}\n' for k, name in enumerate(['p', *(f'c{k}' for k in range(1, depth))], 1))
+        pdl = f'iProcsForModule chip\n{procs}iProc c{depth} {{}} {{\n  iWrite net.R 5\n  iApply\n}}\n'
+        yield Case(
+            f'pdl: {depth} calls inside one another', ('a.icl', full('<FLAT>')), ('a.pdl', pdl), ('a.dev', full('<DEVICE>')),
+            Run(['compile', 'a.icl', 'a.pdl', 'a.dev', 'chip', 'p', 'a.svf'], status, '', err, {} if status else {'a.svf': full('<SVF>')}))
+
+
 def pieces():
-    """A text of more than 64 KiB is added to its file piece by piece."""
-    pdl = ''.join(f'  iWrite net.R {n % 16}\n  iApply\n' for n in range(1, 4097))
-    svf = ''.join(f'! apply {n}\nSDR 4 TDI ({n % 16:X});\n' for n in range(1, 4097))
-    return Case(
-        'a text of several pieces', ('a.icl', full('<FLAT>')), ('a.pdl', f'iProcsForModule chip\niProc p {{}} {{\n{pdl}}}\n'), ('a.dev', full('<DEVICE>')),
-        Run(['compile', 'a.icl', 'a.pdl', 'a.dev', 'chip', 'p', 'a.svf'], holds={'a.svf': full('<PREFACE>') + svf}))
+    """The most groups: their text of more than 64 KiB is added to its file piece by piece. One more is refused at its iApply."""
+    svf = full('<PREFACE>') + ''.join(f'! apply {n}\nSDR 4 TDI ({n % 16:X});\n' for n in range(1, 4097))
+    for title, groups, status, err in (('a text of several pieces', 4096, 0, ''), ('more groups', 4097, 3, 'refused pdl Limit 8196:3 Groups 4096\n')):
+        pdl = ''.join(f'  iWrite net.R {n % 16}\n  iApply\n' for n in range(1, groups + 1))
+        yield Case(
+            f'compile: {title}', ('a.icl', full('<FLAT>')), ('a.pdl', f'iProcsForModule chip\niProc p {{}} {{\n{pdl}}}\n'), ('a.dev', full('<DEVICE>')),
+            Run(['compile', 'a.icl', 'a.pdl', 'a.dev', 'chip', 'p', 'a.svf'], status, '', err, {} if status else {'a.svf': svf}))
+
+
+def segments():
+    """The three instruments of examples/sibs/, whose page shows the file and its play: their run has both."""
+    page = pathlib.Path('examples/sibs/README.md').read_text()
+    svf, report = (''.join(line[4:] + '\n' for line in part.splitlines()) for part in re.findall(r'(?m)^    \$ .*\n((?:    [^$].*\n)+)', page))
+    files = [f'chip.{kind}' for kind in ('icl', 'pdl', 'dev', 'tab')]
+    yield Case(
+        'run: three instruments in segments', *((name, pathlib.Path('examples/sibs', name).read_text()) for name in files),
+        Run(['run', *files, 'chip', 'p', 'a.svf'], out=report, holds={'a.svf': svf}))
 
 
 def longest_scan():
@@ -176,7 +200,7 @@ def longest_scan():
     report = ''.join(lines) + f'register net.R 1000\nscans 2 clocks 65556 differs {len(lines)}\n'
     svf = 'SIR 8 TDI (A0);\nSDR 65536 TDI' + part + 'TDO' + part + 'MASK' + part + 'SMASK' + part + ';'
     return Case(
-        'the longest scan', ('a.svf', svf), *((name, full(text)) for name, text in (('a.icl', '<FLAT>'), ('a.dev', '<DEVICE>'), ('a.tab', '<TABLES>'))),
+        'play: the longest scan', ('a.svf', svf), *((name, full(text)) for name, text in (('a.icl', '<FLAT>'), ('a.dev', '<DEVICE>'), ('a.tab', '<TABLES>'))),
         Run(['play', 'a.svf', 'a.icl', 'a.dev', 'a.tab', 'chip'], 1, report))
 
 
@@ -184,10 +208,10 @@ def made_designs():
     """Designs of all sizes, which their procedures find as they should be, and one that is made, compiled and played again."""
     files = dict.fromkeys(MADE, ANY)
     for seed, size in ((1, 1), (0, 1), (9999999999999999999, 1), (1, 8), (2, 8), (3, 8), (4, 8), (7, 64)):
-        yield Case(f'a made design {seed} {size}', Run(['make', str(seed), str(size), 't'], out=lambda line, size=size: is_made(line, size), holds=files))
+        yield Case(f'make: a made design {seed} {size}', Run(['make', str(seed), str(size), 't'], out=lambda line, size=size: is_made(line, size), holds=files))
     lines = []
     yield Case(
-        'a design made again', Run(['make', '3', '4', 't'], out=lambda line: lines.append(line) or is_made(line, 4), holds=files),
+        'make: a design made again', Run(['make', '3', '4', 't'], out=lambda line: lines.append(line) or is_made(line, 4), holds=files),
         Run(['make', '3', '4', 'u'], out=lambda line: line == lines[0], holds={f'u{name[1:]}': (name,) for name in MADE}),
         Run(['compile', 't.icl', 't.pdl', 't.dev', 'chip', 'p', 'again.svf'], holds={'again.svf': ('t.svf',)}),
         Run(['play', 't.svf', 't.icl', 't.dev', 't.tab', 'chip'], out=lambda report: report.endswith(' differs 0\n')))
@@ -207,7 +231,7 @@ def short(value):
     return told if len(told) < 400 else f'{told[:400]}.. of {len(told)}'
 
 
-def wrong(case):
+def wrong(program, case):
     """A line for each thing that is otherwise than wanted."""
     lines, files = [], {}
 
@@ -234,12 +258,22 @@ def wrong(case):
     return lines
 
 
-topics = [case for path in sorted(pathlib.Path('.ci/answers').glob('*.txt')) for case in read_topic(path)]
-cases = [of_row(case, row) for case in topics for row in case.rows or [()]]
-cases += [*hierarchies(), *chains(), pieces(), longest_scan(), *made_designs()]
-with concurrent.futures.ThreadPoolExecutor(os.cpu_count() or 1) as workers:
-    failed = [lines for lines in workers.map(wrong, cases) if lines]
-for lines in failed:
-    print(*lines, sep='\n')
-print(f'answers: {len(cases) - len(failed)} passed, {len(failed)} failed')
-sys.exit(1 if failed or not cases else 0)
+def all_cases():
+    """The cases of all topics, one for each row, and those whose texts are computed."""
+    topics = [case for path in sorted(pathlib.Path('.ci/answers').glob('*.txt')) for case in read_topic(path)]
+    cases = [of_row(case, row) for case in topics for row in case.rows or [()]]
+    return cases + [*hierarchies(), *chains(), *calls(), *pieces(), *segments(), longest_scan(), *made_designs()]
+
+
+def main(program, *titles):
+    cases = [case for case in all_cases() if case.title.startswith(titles or '')]
+    with concurrent.futures.ThreadPoolExecutor(os.cpu_count() or 1) as workers:
+        failed = [lines for lines in workers.map(functools.partial(wrong, os.path.abspath(program)), cases) if lines]
+    for lines in failed:
+        print(*lines, sep='\n')
+    print(f'answers: {len(cases) - len(failed)} passed, {len(failed)} failed')
+    return 1 if failed or not cases else 0
+
+
+if __name__ == '__main__':
+    sys.exit(main(*sys.argv[1:]))
