@@ -1,13 +1,17 @@
 #!/usr/bin/env python3
-"""Runs the gate and writes docs/GATE.md, what it takes: minutes.py [--blank], at the top of a checkout.
+"""Runs the gate and writes docs/GATE.md, what it takes: minutes.py [--blank | --again], at the top of a checkout.
 
 It runs `rt ci` and hands on what that prints. The functions of a crate are those of the gate's own lines. The processor time is looked up in
 /proc, twice a second: a process that rt started with `--crate-name NAME` is the proof of NAME, that of its tests where it has the word
 `--test`, and that of an edit where it works in a folder of its own. It ends with the status of the gate, and writes the page only at 0.
 
+--again goes on where an earlier run of this checkout ended, also one that failed or was cut off: a crate that it proved isn't proved once
+more, and the page has what that took. Each run leaves what it measured in out/minutes.json.
+
 --blank writes the page without running anything: the crates and their edits, and no numbers."""
 import collections
 import datetime
+import json
 import os
 import pathlib
 import re
@@ -17,6 +21,7 @@ import threading
 import time
 
 PAGE = pathlib.Path('docs/GATE.md')
+KEPT = pathlib.Path('out/minutes.json')
 TICKS = os.sysconf('SC_CLK_TCK')
 KINDS = ('proof', 'tests', 'edits')
 YARDSTICK = 'ij_bits'
@@ -103,38 +108,58 @@ def page(functions, seconds, facts):
     return HEAD.format(facts=facts) + ''.join('| ' + ' | '.join(it) + ' |\n' for it in rows)
 
 
-def measured(seconds, minutes, kit):
-    total = sum(seconds.values()) / 60
-    return '\n'.join([f'- On {datetime.date.today():%-d %B %Y}, with `{kit}`, on {len(os.sched_getaffinity(0))} processors, from nothing.',
+def kept_before():
+    """What earlier runs of this checkout measured: functions, seconds, minutes in all, and how many runs there were."""
+    if '--again' not in sys.argv or not KEPT.exists():
+        return {}, collections.Counter(), 0.0, 0
+    of = json.loads(KEPT.read_text())
+    return of['functions'], collections.Counter({tuple(key.split()): value for key, value in of['seconds'].items()}), of['minutes'], of['runs']
+
+
+def keep(functions, seconds, minutes, runs):
+    KEPT.parent.mkdir(exist_ok=True)
+    shown = {' '.join(key): value for key, value in seconds.items()}
+    KEPT.write_text(json.dumps({'functions': functions, 'seconds': shown, 'minutes': minutes, 'runs': runs}, indent=1))
+
+
+def measured(seconds, minutes, runs, kit):
+    total = sum(value for (name, _), value in seconds.items() if name in crates()) / 60
+    parts = '' if runs == 1 else f', in {runs} runs of which each went on where the one before ended'
+    return '\n'.join([f'- On {datetime.date.today():%-d %B %Y}, with `{kit}`, on {len(os.sched_getaffinity(0))} processors, from nothing{parts}.',
                       f'- **{total:.0f} minutes of a processor**, {minutes:.0f} minutes in all.',
                       f'- The yardstick for another machine: the proof of `{YARDSTICK}` took\n'
                       f'  {seconds[YARDSTICK, "proof"]:.0f} processor seconds.'])
 
 
 def main():
-    functions, seconds = {}, collections.Counter()
     if '--blank' in sys.argv:
-        PAGE.write_text(page(functions, seconds, '(Not measured yet.)'))
+        PAGE.write_text(page({}, collections.Counter(), '(Not measured yet.)'))
         return 0
+    functions, before, minutes, runs = kept_before()
     kit = subprocess.run(['rt', 'version'], stdout=subprocess.PIPE, text=True, check=True).stdout.strip()
     begin = time.monotonic()
     gate = subprocess.Popen(['rt', 'ci'], stdout=subprocess.PIPE, stderr=subprocess.STDOUT, text=True, errors='replace')
     sampler = Sampler(gate.pid)
     sampler.start()
     name = None
-    for line in gate.stdout:
-        print(line, end='', flush=True)
-        if line.startswith('== '):
-            name = line[3:].strip()
-        elif name and (found := re.match(r'logic=proved\b.* functions=(\d+)', line)):
-            functions[name] = int(found[1])
-    status = gate.wait()
-    sampler.ended.set()
-    sampler.join()
-    # of the tests, the crates that have them say so in the minutes
-    functions = {it: functions[it] for it in functions if ': ' not in it}
+    try:
+        for line in gate.stdout:
+            print(line, end='', flush=True)
+            if line.startswith('== '):
+                name = line[3:].strip()
+            elif name and (found := re.match(r'logic=proved\b.* functions=(\d+)', line)):
+                functions[name] = int(found[1])
+        status = gate.wait()
+    finally:
+        sampler.ended.set()
+        sampler.join()
+        # of a crate that two runs came to, the one that went further counts; of the tests, the crates that have them say so in the minutes
+        seconds = collections.Counter({key: max(before[key], sampler.seconds()[key]) for key in {*before, *sampler.seconds()}})
+        functions = {it: value for it, value in functions.items() if ': ' not in it}
+        minutes, runs = minutes + (time.monotonic() - begin) / 60, runs + 1
+        keep(functions, seconds, minutes, runs)
     if not status:
-        PAGE.write_text(page(functions, sampler.seconds(), measured(sampler.seconds(), (time.monotonic() - begin) / 60, kit)))
+        PAGE.write_text(page(functions, seconds, measured(seconds, minutes, runs, kit)))
     return status
 
 
