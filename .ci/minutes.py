@@ -15,6 +15,7 @@ import json
 import os
 import pathlib
 import re
+import signal
 import subprocess
 import sys
 import threading
@@ -138,6 +139,7 @@ def main():
     functions, before, minutes, runs = kept_before()
     kit = subprocess.run(['rt', 'version'], stdout=subprocess.PIPE, text=True, check=True).stdout.strip()
     begin = time.monotonic()
+    signal.signal(signal.SIGTERM, lambda *_: sys.exit(1))
     gate = subprocess.Popen(['rt', 'ci'], stdout=subprocess.PIPE, stderr=subprocess.STDOUT, text=True, errors='replace')
     sampler = Sampler(gate.pid)
     sampler.start()
