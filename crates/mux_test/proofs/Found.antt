@@ -1,0 +1,151 @@
+-- The test of a network's muxes: on the bench it is quiet, and a stuck mux that is seen is found.
+use Rattle.std.proofs.Common.{◌≡◌, ⊎_elim, ℕ, ◌+◌, ◌<◌, ◌≤◌, true, false, List, [], ◌∷◌, ◌++◌, length, refl, sym, ap, ◌∙◌, subst, arith, length-append}
+use Rattle.std.specs.Prelude.{map, All}
+use Rattle.std.specs.List.{flat_map}
+use Rattle.std.proofs.lemmas.Bool.{cases_lt, true≢false}
+use Rattle.std.proofs.lemmas.List.Elements.{All-head, All-tail}
+use Rattle.instruments.specs.Machine.{Event, Log, Machine, whole_log}
+use Rattle.net_graph.specs.declared.branch.Branch.{Branch}
+use Rattle.net_graph.specs.declared.device.Device.{Device}
+use Rattle.net_graph.specs.declared.net.Net.{Net}
+use Rattle.net_graph.specs.declared.net.Reg.{Reg}
+use Rattle.net_graph.specs.Devices.{IsDevice}
+use Rattle.net_graph.specs.Nets.{IsReg}
+use Rattle.net_graph.specs.Path.{is_select, route_of}
+use Rattle.net_graph.specs.Resets.{start_holds}
+use Rattle.net_graph.specs.Signals.{Holds, hold_at}
+use Rattle.net_graph.proofs.Routes.{route_is}
+use Rattle.net_graph.proofs.Shapes.{capture_widths, widths}
+use Rattle.net_graph.specs.Stuck.{stuck_route}
+use Rattle.net_graph.proofs.Stuck.{stuck_route_is}
+use Rattle.net_tree.specs.Form.{Items}
+use Rattle.path_planner.specs.Opening.{AreUnseen, last_holds}
+use Rattle.path_planner.specs.Scannable.{IsScannable}
+use Rattle.path_planner.proofs.Starting.{start_scannable}
+use Rattle.svf_writer.specs.SeenCommands.{SDR, SeenCommand}
+use Rattle.svf_writer.specs.Written.{preface_commands}
+use Rattle.net_bench.specs.Bench.{Chip, State, fault_free, power_up}
+use Rattle.net_bench.specs.Playing.{compares_from, differing, play_from}
+use Rattle.net_bench.proofs.Commanding.{rests_idle}
+use Rattle.net_bench.proofs.Splitting.{play-append, compares_from-append}
+use Rattle.mux_test.specs.Seen.{begins, is_seen, is_seen_in_test}
+use Rattle.mux_test.specs.Test.{flushes, scanned, tested_from, branches}
+use Rattle.mux_test.specs.Laws.{IsTestable, stuck, after_test, compared, TestsAreQuiet, StuckAreFound, RowsAreReached}
+use Rattle.mux_test.proofs.Flushing.{Rests}
+use Rattle.mux_test.proofs.Playing.{AreQuiet, quiet, finds_stuck, flushes_whole, data_as}
+use Rattle.mux_test.proofs.Preface.{preface_plays, preface_compares_nothing, preface_rests}
+use Rattle.mux_test.proofs.Testing.{all_branches, no_branches, not_empty, test_reached, test_unseen}
+
+captures_wide : (net : Net) (regs : List Reg) → All (IsReg net) regs → map (λ reg. length reg.capture.items) regs ≡ map (λ reg. reg.width) regs
+captures_wide net [] a = refl
+captures_wide net (r ∷ rs) a =
+    ap (λ n. n ∷ map (λ reg. length reg.capture.items) rs) (All-head (IsReg net) r rs a).captures
+    ∙ ap (λ ns. r.width ∷ ns) (captures_wide net rs (All-tail (IsReg net) r rs a))
+
+module _ (net : Net) (form : Items) (t : IsTestable net form) where
+  abbrev start : Holds
+  start = start_holds net
+
+  abbrev hs : List Holds
+  hs = scanned net form
+
+  wide : capture_widths net ≡ widths net
+  wide = captures_wide net net.regs.items t.well_formed.regs
+
+  scannable : IsScannable net start
+  scannable = start_scannable net form t.lawful
+
+  unseen : AreUnseen net start hs
+  unseen = test_unseen net form t (branches net) start (all_branches net form t) scannable
+
+  no_scans : length net.muxes.items ≤ 0 → hs ≡ []
+  no_scans none = ap (λ bs. flat_map (λ r. r.after) (tested_from net form start bs)) (no_branches net.muxes.items 0 none)
+
+  module _ {L : Type 0} (log : Log L) (device : Device) (machines : List Machine) (v : IsDevice device) where
+    some : 0 < device.ir
+    some = omega (arith, v.two_bits)
+
+    -- ---- the test behind the preface
+
+    module _ (path : Holds → List ℕ) where
+      abbrev chip : Chip L
+      chip = record { net = net; device = device; machines = machines; log = log; path = path }
+
+      abbrev pre : List SeenCommand
+      pre = preface_commands device
+
+      abbrev s : State L
+      s = play_from chip 0 pre (power_up chip)
+
+      abbrev all : List SeenCommand
+      all = map SDR (flushes net start hs)
+
+      s_rests : Rests chip s
+      s_rests = preface_rests chip some
+
+      s_holds : s.holds ≡ start
+      s_holds = ap (λ (z : State L). z.holds) (preface_plays chip some)
+
+      s_insts : s.insts ≡ (power_up chip).insts
+      s_insts = ap (λ (z : State L). z.insts) (preface_plays chip some)
+
+      plays : after_test chip form ≡ play_from chip 1 all s
+      plays = play-append chip pre all 0 (power_up chip) (flushes_whole net start hs) (rests_idle s s_rests.idle)
+
+      compares : compared chip form ≡ compares_from chip 1 all s
+      compares =
+          compares_from-append chip pre all 0 (power_up chip) (flushes_whole net start hs) (rests_idle s s_rests.idle)
+          ∙ ap (λ cs. cs ++ compares_from chip 1 all s) (preface_compares_nothing chip some)
+
+      here : (P : Holds → Type 0) → P start → P s.holds
+      here P p = subst P (sym s_holds) p
+
+    -- ---- without faults
+
+    abbrev good : Chip L
+    good = fault_free log net device machines
+
+    with_muxes : 0 < length net.muxes.items → AreQuiet good 1 (s (route_of net)) start hs
+    with_muxes some_mux =
+        let s0 = s (route_of net) in
+        subst (λ z. AreQuiet good 1 s0 z hs) (s_holds (route_of net)) (quiet good t.well_formed wide (λ h. route_is net h t.well_formed) (not_empty net form t some_mux) (λ h. refl) hs 1 s0 (s_rests (route_of net)) (here (route_of net) (IsScannable net) scannable) (here (route_of net) (λ z. AreUnseen net z hs) unseen))
+
+    good_quiet : AreQuiet good 1 (s (route_of net)) start hs
+    good_quiet =
+        ⊎_elim (λ some_mux. with_muxes some_mux) (λ none. subst (AreQuiet good 1 (s (route_of net)) start) (sym (no_scans none)) (record { holds = s_holds (route_of net); insts = refl; none = refl })) (cases_lt 0 (length net.muxes.items))
+
+    pub quiet_test : (differing (compared good form) ≡ []) × ((after_test good form).insts ≡ (power_up good).insts) × ((after_test good form).holds ≡ last_holds start hs)
+    quiet_test = (
+      ap differing (compares (route_of net)) ∙ good_quiet.none,
+      ap (λ (z : State L). z.insts) (plays (route_of net)) ∙ good_quiet.insts ∙ s_insts (route_of net),
+      ap (λ (z : State L). z.holds) (plays (route_of net)) ∙ good_quiet.holds,
+    )
+
+    -- ---- with a stuck mux
+
+    module _ (b : Branch) (seen : is_seen_in_test net form b ≡ true) where
+      abbrev bad : Chip L
+      bad = stuck log net device machines b
+
+      abbrev way : Holds → List ℕ
+      way = stuck_route net b
+
+      finds : 0 < length net.muxes.items → 1 ≤ length (differing (compares_from bad 1 (all way) (s way)))
+      finds some_mux =
+          let s0 = s way in
+          subst (λ z. 1 ≤ length (differing (compares_from bad 1 (map SDR (flushes net z hs)) s0))) (s_holds way) (finds_stuck bad t.well_formed wide (λ h. stuck_route_is net b h t.well_formed) (not_empty net form t some_mux) b (λ h. refl) hs 1 s0 (s_rests way) (here way (IsScannable net) scannable) (here way (λ z. AreUnseen net z hs) unseen) (here way (λ z. is_seen net b (begins z hs) ≡ true) seen))
+
+      pub stuck_found : 1 ≤ length (differing (compared bad form))
+      stuck_found =
+          subst (λ cs. 1 ≤ length (differing cs)) (sym (compares way)) (⊎_elim (λ some_mux. finds some_mux) (λ none. absurd (true≢false (sym (sym (ap (λ ks. is_seen net b (begins start ks)) (no_scans none)) ∙ seen)))) (cases_lt 0 (length net.muxes.items)))
+
+pub tests_are_quiet : TestsAreQuiet
+tests_are_quiet net form device machines t v =
+    let (none, insts, holds) = quiet_test net form t whole_log device machines v in
+    record { none_differs = none; no_event = insts; data_stays = λ b f. ap (λ h. hold_at h b) holds ∙ data_as net (start_holds net) (scanned net form) b (unseen net form t) f }
+
+pub stuck_are_found : StuckAreFound
+stuck_are_found net form device machines b t v seen = stuck_found net form t whole_log device machines v b seen
+
+pub rows_are_reached : RowsAreReached
+rows_are_reached net form t = test_reached net form t (branches net) (start_holds net) (all_branches net form t) (start_scannable net form t.lawful)

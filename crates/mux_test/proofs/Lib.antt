@@ -1,0 +1,9 @@
+pub mod Examples
+pub mod Cases
+pub mod Marker
+pub mod Flushing
+pub mod Playing
+pub mod Preface
+pub mod Testing
+pub mod Found
+pub mod Reading

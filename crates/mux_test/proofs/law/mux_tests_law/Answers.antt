@@ -1,0 +1,5 @@
+use Rattle.mux_test.proofs.Found.{tests_are_quiet, stuck_are_found, rows_are_reached}
+use Rattle.mux_test.proofs.law.mux_tests_law.Goals as goal
+
+pub returns : goal.returns
+returns c = record { quiet = tests_are_quiet; found = stuck_are_found; reached = rows_are_reached }

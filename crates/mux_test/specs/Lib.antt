@@ -1,0 +1,6 @@
+pub mod Test
+pub mod Seen
+pub mod Reported
+pub mod Flushes
+pub mod Laws
+pub mod Reading
