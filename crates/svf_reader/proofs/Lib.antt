@@ -15,3 +15,4 @@ pub mod Following
 pub mod Packing
 pub mod Keeping
 pub mod Lone
+pub mod Lines

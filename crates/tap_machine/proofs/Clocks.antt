@@ -9,6 +9,7 @@ use Rattle.tap_machine.specs.declared.Stable.{Stable}
 use Rattle.tap_machine.specs.declared.Stable.TheVariants.{Reset as InReset, Idle as InIdle}
 use Rattle.tap_machine.specs.Clocks.{is_reset, PinsAreClocks}
 use Rattle.tap_machine.specs.Play.{LastScan, Played, no_shift, shifts, sdr_pins, sir_pins, to_idle, pins_with, played, after_scan, no_scan}
+pub use Rattle.svf_writer.proofs.GivenScans.{at_least}
 
 length-shifts : (scan k : ℕ) (ts : List Bool) (es : List (Option Bool)) → length (shifts scan k ts es) ≡ length ts
 length-shifts scan k [] es = refl
@@ -67,10 +68,6 @@ clocks_are (Run n ∷ cs) li ld ir dr from scans fit hi hd =
     let rest = pins_with ir dr InIdle scans cs in
     let here = replicate n (no_shift false) in
     omega (arith, length-append (to_idle from) (here ++ rest), length-append here rest, length-replicate n (no_shift false), length-to_idle from n, clocks_are cs li ld ir dr InIdle scans fit hi hd)
-
-pub at_least : (b : Bool) (n : ℕ) → n ≤ with_leave b n
-at_least true n = omega arith
-at_least false n = omega arith
 
 nothing_held : IsKept None no_scan
 nothing_held n e = absurd (let none : None ≡ Some n = e in cc)
