@@ -1,6 +1,5 @@
 -- What a reader of SVF finds in the text of a mux test (Serial Vector Format, revision E).
-use Rattle.std.specs.Prelude.{◌≡◌, ◌≤◌, Ok, All, IsTrue, length}
-use Rattle.ij_text.specs.Words.{is_name}
+use Rattle.std.specs.Prelude.{◌≡◌, Ok}
 use Rattle.net_graph.specs.declared.device.Device.{Device}
 use Rattle.net_graph.specs.declared.net.Net.{Net}
 use Rattle.net_graph.specs.Devices.{IsDevice}
@@ -9,12 +8,8 @@ use Rattle.svf_reader.specs.Meaning.{svf}
 use Rattle.mux_test.specs.Laws.{IsTestable}
 use Rattle.mux_test.specs.Test.{IsWithinLimit, test_commands, test_text}
 
--- each mux has a name of ICL (no dot, no line end)
-abbrev pub MuxesAreNamed : Net → Type 0
-MuxesAreNamed net = All (λ mux. IsTrue (is_name mux.name.items)) net.muxes.items
-
 -- in the text of a test that isn't too long its commands are found
 abbrev pub TestsAreReadAgain : Type 0
 TestsAreReadAgain =
-    (net : Net) (form : Items) (device : Device) → IsTestable net form → MuxesAreNamed net → IsDevice device → IsWithinLimit net form
+    (net : Net) (form : Items) (device : Device) → IsTestable net form → IsDevice device → IsWithinLimit net form
     → svf (test_text net form device) ≡ Ok (test_commands net form device)
