@@ -13,8 +13,8 @@ use Rattle.retargeter.specs.Scripts.{WritesSteps, WritesStepsPart}
 use Rattle.retargeter.specs.Session.{Session}
 use Rattle.retargeter.proofs.Scripts.{script_part, script_written}
 use Rattle.retargeter.specs.Files.{HoldsScript, HoldsScriptPart}
-use Rattle.retargeter.specs.Pieces.{HoldsFront, IsThere, with_piece}
-use Rattle.retargeter.proofs.Pieces.{all_held, begin_part, first_piece, nothing, part_held}
+use Rattle.ij_io.specs.Pieces.{HoldsFront, IsThere, with_piece}
+use Rattle.ij_io.proofs.Pieces.{all_held, begin_part, first_piece, nothing, part_held}
 
 module _ (net : Net) (form : Items) (device : Device) (steps : List SeenStep) (old : Option Files) (name : List ℕ) where
   pub stays : HoldsScriptPart net form device steps old old name

@@ -8,8 +8,8 @@ use Rattle.retargeter.specs.Scripts.{WritesStepsPart}
 use Rattle.retargeter.specs.Session.{Session}
 use Rattle.retargeter.specs.Writing.{IsAfterStep, WritesStep}
 use Rattle.retargeter.proofs.Scripts.{Go, go_on, part_so_far}
-use Rattle.retargeter.specs.Pieces.{HoldsFront, with_piece}
-use Rattle.retargeter.proofs.Pieces.{piece_adds}
+use Rattle.ij_io.specs.Pieces.{HoldsFront, with_piece}
+use Rattle.ij_io.proofs.Pieces.{piece_adds}
 
 module _ (first : Session) (steps : List SeenStep) (old : Option (List ℕ)) (name : List ℕ) (s : Session) (left : List SeenStep) (files : Option Files) (piece : List ℕ)
     (go : Go first steps old s left (with_piece files name piece)) where

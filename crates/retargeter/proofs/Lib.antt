@@ -7,7 +7,6 @@ pub mod Same
 pub mod Going
 pub mod Steps
 pub mod Scripts
-pub mod Pieces
 pub mod Causes
 pub mod FileSteps
 pub mod FileScripts

@@ -1,16 +1,13 @@
 -- The SVF file of a procedure's bit steps (Serial Vector Format, revision E).
-use Rattle.std.specs.Prelude.{◌≡◌, ◌⊎◌, ℕ, Option, Some, List, take}
+use Rattle.std.specs.Prelude.{◌≡◌, ℕ, Option, Some, List}
 use Rattle.std.specs.Option.{option_map}
 use Rattle.ij_io.specs.Files.{Files, file_at}
+pub use Rattle.ij_io.specs.Pieces.{HoldsPart}
 use Rattle.net_graph.specs.declared.device.Device.{Device}
 use Rattle.net_graph.specs.declared.net.Net.{Net}
 use Rattle.net_graph.specs.SeenSteps.{SeenStep}
 use Rattle.net_tree.specs.Form.{Items}
 use Rattle.retargeter.specs.Scripts.{IsScript}
-
--- the file is as before, or holds some first bytes
-abbrev pub HoldsPart : Option Files → Option Files → List ℕ → List ℕ → Type 0
-HoldsPart old new name bytes = (file_at new name ≡ file_at old name) ⊎ ((count : ℕ) × (file_at new name ≡ option_map (λ _. Some (take count bytes)) old))
 
 module _ (net : Net) (form : Items) (device : Device) (steps : List SeenStep) (old new : Option Files) (name : List ℕ) where
   -- the file holds the text of the script of plans for the bit steps, whatever these plans are

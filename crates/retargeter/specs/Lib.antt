@@ -5,5 +5,4 @@ pub mod Session
 pub mod Plans
 pub mod Writing
 pub mod Scripts
-pub mod Pieces
 pub mod Files

@@ -8,12 +8,11 @@ ghost use Rattle.headline.specs.Retargeting.{IsRetargetable};
 ghost use Rattle.headline.specs.Rounds.{StepIsPlannable};
 ghost use Rattle.retargeter.specs.Scripts.{AreFew, HasScript, ScriptIsRight, WritesSteps, WritesStepsPart};
 ghost use Rattle.retargeter.specs.Files.{HoldsScript, HoldsScriptPart};
-ghost use Rattle.retargeter.specs.Pieces.{HoldsFront, IsThere, with_piece};
+ghost use Rattle.ij_io.specs.Pieces.{HoldsFront, IsThere, with_piece};
 
-use crate::file_piece::{next_piece, put_piece};
 use crate::retargeter::Retargeter;
 use headline::planned_steps_law;
-use ij_io::{Shelf, StoreFault, SureSink};
+use ij_io::{Shelf, StoreFault, SureSink, next_piece, put_piece};
 use merge_order::{BitSteps, next_step};
 use net_graph::{Device, Net};
 use net_tree::Tree;

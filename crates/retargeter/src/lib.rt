@@ -3,7 +3,6 @@
 #![tactic(auto)]
 
 mod buffers;
-mod file_piece;
 mod file_procedure;
 mod procedure;
 mod retargeter;

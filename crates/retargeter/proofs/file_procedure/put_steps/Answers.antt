@@ -4,9 +4,9 @@ use Rattle.ij_io.proofs.Adding.{at_refusal}
 use Rattle.net_graph.specs.SeenSteps.{seen_step}
 use Rattle.merge_order.specs.BitSteps.{BitStepsOf, nothing_left, given_first_bit}
 use Rattle.retargeter.proofs.Scripts.{few_later, plannable_later, few_steps}
-use Rattle.retargeter.specs.Pieces.{with_piece}
+use Rattle.ij_io.specs.Pieces.{with_piece}
 use Rattle.retargeter.proofs.Causes.{one_later}
-use Rattle.retargeter.proofs.Pieces.{front_stays}
+use Rattle.ij_io.proofs.Pieces.{front_stays}
 use Rattle.retargeter.proofs.FileSteps.{is_part, one_more}
 use Rattle.std.proofs.lemmas.Result.{on_err_weaker}
 use Rattle.retargeter.proofs.file_procedure.put_steps.Goals as goal

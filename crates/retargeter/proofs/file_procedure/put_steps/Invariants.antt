@@ -6,7 +6,7 @@ use Rattle.ij_io.specs.Files.{OthersStay}
 use Rattle.pdl_targets.specs.Laws.{rounds_in}
 use Rattle.headline.specs.Rounds.{StepIsPlannable}
 use Rattle.retargeter.proofs.Scripts.{Go}
-use Rattle.retargeter.specs.Pieces.{IsThere, with_piece}
+use Rattle.ij_io.specs.Pieces.{IsThere, with_piece}
 use Rattle.retargeter.proofs.Causes.{Later}
 use Rattle.retargeter.proofs.file_procedure.put_steps.Given as goal
 

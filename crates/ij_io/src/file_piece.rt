@@ -1,21 +1,24 @@
-// Pieces of a file's text.
+// A text that goes into a file piece by piece.
 ghost use Rattle.std.specs.Prelude.{◌≡◌, OnOk, OnErr, IfOk};
 ghost use Rattle.ij_io.specs.Causes.{HasCauseAt, SameCounts};
 ghost use Rattle.ij_io.specs.Files.{OthersStay, told_bytes};
-ghost use Rattle.retargeter.specs.Pieces.{HoldsFront, IsThere, with_piece};
+ghost use Rattle.ij_io.specs.Pieces.{HoldsFront, IsThere, with_piece};
 
-use ij_io::{Shelf, Sink, StoreFault, SureSink};
+use crate::{Shelf, StoreFault, SureSink};
 use std::alloc::Global;
 
-/// A piece of so many bytes goes to the file.
+/// A piece of this many bytes goes to the file.
 const LONG: usize = 65536;
 
-/// Puts a piece at the end of the file.
-pub(crate) fn put_piece<S: Shelf>(
-    name: &str,
-    piece: &SureSink,
-    shelf: &mut S,
-) -> Result<(), StoreFault>
+/// Adds a piece of a text at the end of its file.
+///
+/// # Errors
+///
+/// - `Failed`: the shelf could not take the piece, and its count of failed stores under this name rose.
+/// - `OutOfMemory`: the shelf had no memory for it.
+///
+/// After any refusal the file holds some first bytes of the text. Other files and the counts of failed loads stay.
+pub fn put_piece<S: Shelf>(name: &str, piece: &SureSink, shelf: &mut S) -> Result<(), StoreFault>
     ensures there { OnOk result (IsThere (S.files shelf.new) name.now) }
     ensures whole { OnOk result (told_bytes (S.files shelf.new) name.now ≡ with_piece (S.files shelf.old) name.now piece.now) }
     ensures part { OnErr result (IsThere (S.files shelf.old) name.now → HoldsFront (S.files shelf.new) name.now (with_piece (S.files shelf.old) name.now piece.now)) }
@@ -26,8 +29,13 @@ pub(crate) fn put_piece<S: Shelf>(
     shelf.append(name, piece.bytes())
 }
 
-/// The piece, or, where it is long, an empty one behind it.
-pub(crate) fn next_piece<S: Shelf>(
+/// The piece of a text that is to grow further: the one that is handed in, or, where that has 65,536 bytes or more, an empty
+/// one after it went to the file. So no more than a piece of the text is kept. The file has been begun before.
+///
+/// # Errors
+///
+/// Those of [`put_piece`].
+pub fn next_piece<S: Shelf>(
     alloc: Global,
     name: &str,
     piece: SureSink,

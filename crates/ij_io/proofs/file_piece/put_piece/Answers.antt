@@ -1,8 +1,8 @@
 use Rattle.std.proofs.Common.{List, ℕ, subst}
 use Rattle.ij_io.specs.Files.{GrowsPart}
-use Rattle.retargeter.proofs.Pieces.{grown_part}
+use Rattle.ij_io.proofs.Pieces.{grown_part}
 use Rattle.std.proofs.lemmas.Result.{on_err_weaker}
-use Rattle.retargeter.proofs.file_piece.put_piece.Goals as goal
+use Rattle.ij_io.proofs.file_piece.put_piece.Goals as goal
 
 pub returns-clause-part : goal.returns-clause-part
 returns-clause-part g c =

@@ -1,12 +1,11 @@
--- What a file holds after a piece more, and with the next piece behind it.
+-- What a file holds after a piece more, and with the next piece after it.
 use Rattle.std.specs.Option.{option_map}
 use Rattle.std.specs.Prelude.{unwrap_or}
-use Rattle.std.proofs.Common.{◌≡◌, ◌⊎◌, inl, inr, ⊎_elim, ℕ, zero, suc, ◌+◌, Option, Some, None, List, [], ◌∷◌, ◌++◌, length, take, drop, refl, sym, ap, ◌∙◌, append_assoc, append-nil}
+use Rattle.std.proofs.Common.{◌≡◌, ◌⊎◌, inl, inr, ⊎_elim, ℕ, zero, suc, Option, Some, None, List, [], ◌∷◌, ◌++◌, length, take, drop, refl, sym, ap, ◌∙◌, append_assoc, append-nil}
 use Rattle.std.proofs.lemmas.List.{take-append-drop}
 use Rattle.ij_io.specs.Bytes.{Adds, AddsPart}
 use Rattle.ij_io.specs.Files.{Files, Grows, GrowsPart, bytes_of, file_at, told_bytes}
-use Rattle.retargeter.specs.Files.{HoldsPart}
-use Rattle.retargeter.specs.Pieces.{HoldsFront, IsThere, with_piece}
+use Rattle.ij_io.specs.Pieces.{HoldsFront, HoldsPart, IsThere, with_piece}
 use Rattle.std.proofs.lemmas.Option.{same_Some}
 
 -- ---- maps one after the other
