@@ -7,6 +7,5 @@ pub mod Same
 pub mod Going
 pub mod Steps
 pub mod Scripts
-pub mod Causes
 pub mod FileSteps
 pub mod FileScripts

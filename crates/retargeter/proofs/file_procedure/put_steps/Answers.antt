@@ -5,7 +5,7 @@ use Rattle.net_graph.specs.SeenSteps.{seen_step}
 use Rattle.merge_order.specs.BitSteps.{BitStepsOf, nothing_left, given_first_bit}
 use Rattle.retargeter.proofs.Scripts.{few_later, plannable_later, few_steps}
 use Rattle.ij_io.specs.Pieces.{with_piece}
-use Rattle.retargeter.proofs.Causes.{one_later}
+use Rattle.ij_io.proofs.Later.{one_later}
 use Rattle.ij_io.proofs.Pieces.{front_stays}
 use Rattle.retargeter.proofs.FileSteps.{is_part, one_more}
 use Rattle.std.proofs.lemmas.Result.{on_err_weaker}

@@ -7,7 +7,7 @@ use Rattle.pdl_targets.specs.Laws.{rounds_in}
 use Rattle.headline.specs.Rounds.{StepIsPlannable}
 use Rattle.retargeter.proofs.Scripts.{Go}
 use Rattle.ij_io.specs.Pieces.{IsThere, with_piece}
-use Rattle.retargeter.proofs.Causes.{Later}
+use Rattle.ij_io.proofs.Later.{Later}
 use Rattle.retargeter.proofs.file_procedure.put_steps.Given as goal
 
 abbrev pub invariant-loop-piece : goal.invariant-loop-piece
