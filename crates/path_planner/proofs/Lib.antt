@@ -23,3 +23,6 @@ pub mod RowOpening
 pub mod Again
 pub mod Repeats
 pub mod FirstRows
+pub mod MuxesMet
+pub mod RowScans
+pub mod RowPlans

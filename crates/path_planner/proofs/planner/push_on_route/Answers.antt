@@ -1,10 +1,9 @@
 use Rattle.std.proofs.Common.{ℕ, [], List, ◌∷◌, ◌++◌, ap, ◌∙◌}
 use Rattle.std.specs.Prelude.{map}
 use Rattle.ij_bits.specs.Room.{Listed}
-use Rattle.net_graph.specs.SeenSteps.{SeenGroup, seen_group}
+use Rattle.net_graph.specs.SeenSteps.{seen_group}
 use Rattle.net_tree.specs.declared.plan.ScanPlan.{ScanPlan}
 use Rattle.net_tree.specs.ScanPlans.{seen_plan}
-use Rattle.path_planner.specs.Plans.{ArePlans}
 use Rattle.path_planner.proofs.PlanSteps.{last_plan}
 use Rattle.path_planner.proofs.Repeats.{added_places}
 use Rattle.path_planner.proofs.planner.push_on_route.Goals as goal

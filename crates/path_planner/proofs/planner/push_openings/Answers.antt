@@ -1,4 +1,4 @@
-use Rattle.std.proofs.Common.{ℕ, [], false, length, ap, ◌∙◌}
+use Rattle.std.proofs.Common.{ℕ, false, length, ap, ◌∙◌}
 use Rattle.ij_bits.specs.Room.{Listed}
 use Rattle.std.specs.Prelude.{replicate}
 use Rattle.net_graph.specs.declared.net.Point.TheVariants.{Reg as FromReg}
