@@ -7,3 +7,5 @@ pub mod Preface
 pub mod Testing
 pub mod Found
 pub mod Reading
+pub mod Texts
+pub mod Filed

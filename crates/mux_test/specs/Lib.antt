@@ -4,3 +4,4 @@ pub mod Reported
 pub mod Flushes
 pub mod Laws
 pub mod Reading
+pub mod Texts
