@@ -59,7 +59,12 @@ fn put_all_unseen<K: Sink>(net: &Net, unseen: &[Branch], k: &mut K) -> Result<()
 
 /// Writes the line of the counts.
 #[tactic(auto, unfolding(ij_io::specs::Words::words_text))]
-fn put_counts<K: Sink>(scans: u32, rows: u32, unseen: usize, k: &mut K) -> Result<(), StoreFault>
+fn put_counts<K: Sink>(
+    scans: usize,
+    rows: usize,
+    unseen: usize,
+    k: &mut K,
+) -> Result<(), StoreFault>
     ensures whole { OnOk result (Adds (K.taken k.old) (K.taken k.new) (counts_line scans rows unseen)) }
     ensures part { OnErr result (AddsPart (K.taken k.old) (K.taken k.new) (counts_line scans rows unseen)) }
     ensures cause { HasCause (K.faults k.old) (K.faults k.new) result StoreFault.Failed }
