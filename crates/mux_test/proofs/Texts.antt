@@ -31,12 +31,12 @@ use Rattle.mux_test.proofs.Testing.{all_branches}
 -- ---- a row has a scan
 
 some_scan : (net : Net) (bs : List Branch) (n : ℕ) (h : Holds) → (k : Holds) × (ks : List Holds) × (row_scans net bs n h ≡ k ∷ ks)
-some_scan net bs zero h = (h, ([], refl))
+some_scan net bs zero h = (h, [], refl)
 some_scan net bs (suc n) h = by (all_in net bs h)
   where
     by : (b : Bool) → (k : Holds) × (ks : List Holds) × (elim b [ true ↦ h ∷ [] | false ↦ let next = settle net bs h in next ∷ row_scans net bs n next ] ≡ k ∷ ks)
-    by true = (h, ([], refl))
-    by false = (settle net bs h, (row_scans net bs n (settle net bs h), refl))
+    by true = (h, [], refl)
+    by false = (settle net bs h, row_scans net bs n (settle net bs h), refl)
 
 -- ---- the texts
 
