@@ -8,6 +8,7 @@ use Rattle.svf_writer.specs.RowMarks.{row_mark}
 use Rattle.svf_writer.specs.Written.{preface, text_of}
 use Rattle.mux_test.specs.Flushes.{SeenTestScan, test_scans}
 use Rattle.mux_test.specs.Laws.{IsTestable}
+use Rattle.mux_test.specs.Seen.{unseen}
 use Rattle.mux_test.specs.Test.{test_text}
 
 -- the comment before the first scan of a row
@@ -26,9 +27,10 @@ pub record CanWrite (net : Net) (s : SeenTestScan) : Type 0 where
   pub there : s.branch.mux < length net.muxes.items
   pub written : IsWrittenCommand s.scan
 
--- the scans of a test can be written, and their texts make the text of the test
+-- the scans of a test can be written, their texts make the text of the test, and the muxes of its unseen rows are there
 pub record IsTheText (net : Net) (form : Items) : Type 0 where
   pub can : All (CanWrite net) (test_scans net form)
+  pub there : All (λ b. b.mux < length net.muxes.items) (unseen net form)
   pub text : (device : Device) → preface device ++ scans_text net (test_scans net form) ≡ test_text net form device
 
 abbrev pub ScansMakeTheText : Type 0

@@ -32,16 +32,16 @@ fn put_mark_of<K: Sink>(net: &Net, scan: &TestScan, k: &mut K) -> Result<(), Sto
     }
 }
 
-/// Writes a scan, the comment of its row before the row's first.
+/// Writes a scan, the comment of its row before the row's first, and drops it.
 #[tactic(auto, using(ij_io::proofs::Adding::adding))]
-fn put_scan<K: Sink>(net: &Net, scan: &TestScan, k: &mut K) -> Result<(), StoreFault>
+fn put_scan<K: Sink>(net: &Net, scan: TestScan, k: &mut K) -> Result<(), StoreFault>
     requires well_formed { IsNet net.now }
-    requires can { CanWrite net.now (seen_test_scan scan.now) }
-    ensures whole { OnOk result (Adds (K.taken k.old) (K.taken k.new) (scan_text net.now (seen_test_scan scan.now))) }
-    ensures part { OnErr result (AddsPart (K.taken k.old) (K.taken k.new) (scan_text net.now (seen_test_scan scan.now))) }
+    requires can { CanWrite net.now (seen_test_scan scan) }
+    ensures whole { OnOk result (Adds (K.taken k.old) (K.taken k.new) (scan_text net.now (seen_test_scan scan))) }
+    ensures part { OnErr result (AddsPart (K.taken k.old) (K.taken k.new) (scan_text net.now (seen_test_scan scan))) }
     ensures cause { HasCause (K.faults k.old) (K.faults k.new) result StoreFault.Failed }
 {
-    put_mark_of(net, scan, k)?;
+    put_mark_of(net, &scan, k)?;
     put(&scan.scan, k)?;
     Ok(())
 }
@@ -70,7 +70,7 @@ fn put_scans<'a, S: Shelf>(
 {
     let mut piece = piece;
     while let Some(scan) = test.next()? {
-        put_scan(net, &scan, &mut piece)?;
+        put_scan(net, scan, &mut piece)?;
         piece = next_piece(alloc, name, piece, shelf)?;
     }
     put_piece(name, &piece, shelf)

@@ -4,7 +4,7 @@ ghost use Rattle.std.specs.List.{flat_map};
 ghost use Rattle.ij_io.specs.Bytes.{Adds, AddsPart};
 ghost use Rattle.ij_io.specs.Causes.{HasCause};
 ghost use Rattle.net_graph.specs.Nets.{IsNet};
-ghost use Rattle.mux_test.specs.Reported.{counts_line, unseen_line};
+ghost use Rattle.mux_test.specs.Reported.{counts_line, report_lines, unseen_line};
 
 use crate::test::MuxTest;
 use ij_io::{Sink, StoreFault, Word, put_words};
@@ -51,8 +51,8 @@ fn put_all_unseen<K: Sink>(net: &Net, unseen: &[Branch], k: &mut K) -> Result<()
     ensures part { OnErr result (AddsPart (K.taken k.old) (K.taken k.new) (flat_map (unseen_line net.now) unseen.now)) }
     ensures cause { HasCause (K.faults k.old) (K.faults k.new) result StoreFault.Failed }
 {
-    for branch in unseen {
-        put_unseen(net, *branch, k)?;
+    for row in unseen {
+        put_unseen(net, *row, k)?;
     }
     Ok(())
 }
@@ -83,20 +83,41 @@ fn put_counts<K: Sink>(
     )
 }
 
-/// Writes the lines of a test: `unseen PATH row Q` for each row that a multiplexer may be stuck in unseen, by the multiplexers'
-/// order in the network and then by row, and `muxtest scans N rows R unseen U`: how many scans the test has in all, how many
-/// rows all multiplexers have, and how many of these lines came before (IEEE 1687-2014, ICL: `ScanMux`).
+/// Writes the line of each of these rows, and the counts.
+fn put_lines<K: Sink>(
+    net: &Net,
+    unseen: &[Branch],
+    scans: usize,
+    rows: usize,
+    k: &mut K,
+) -> Result<(), StoreFault>
+    requires well_formed { IsNet net.now }
+    requires there { All (λ b. b.mux < length net.now.muxes.items) unseen.now }
+    ensures whole { OnOk result (Adds (K.taken k.old) (K.taken k.new) (report_lines net.now unseen.now scans rows)) }
+    ensures part { OnErr result (AddsPart (K.taken k.old) (K.taken k.new) (report_lines net.now unseen.now scans rows)) }
+    ensures cause { HasCause (K.faults k.old) (K.faults k.new) result StoreFault.Failed }
+{
+    put_all_unseen(net, unseen, k)?;
+    put_counts(scans, rows, unseen.len(), k)?;
+    Ok(())
+}
+
+/// Writes the lines of a test: `unseen PATH row Q` for each row that a multiplexer may be stuck in unseen, by the
+/// multiplexers' order in the network and then by row, and `muxtest scans N rows R unseen U`: how many scans the test has
+/// in all, how many rows all multiplexers have, and how many of these lines came before (IEEE 1687-2014, ICL: `ScanMux`).
 ///
 /// The refusals are those of the sink, which then took some first bytes of the lines. It takes no memory itself.
-pub fn put_test_report<'a, K: Sink>(net: &Net, test: &MuxTest<'a>, k: &mut K) -> Result<(), StoreFault>
+pub fn put_test_report<'a, K: Sink>(
+    net: &Net,
+    test: &MuxTest<'a>,
+    k: &mut K,
+) -> Result<(), StoreFault>
     requires well_formed { IsNet net.now }
     requires there { All (λ b. b.mux < length net.now.muxes.items) test.now.unseen }
-    ensures whole { OnOk result (Adds (K.taken k.old) (K.taken k.new) (flat_map (unseen_line net.now) test.now.unseen ++ counts_line test.now.scan_count test.now.row_count (length test.now.unseen))) }
-    ensures part { OnErr result (AddsPart (K.taken k.old) (K.taken k.new) (flat_map (unseen_line net.now) test.now.unseen ++ counts_line test.now.scan_count test.now.row_count (length test.now.unseen))) }
+    ensures whole { OnOk result (Adds (K.taken k.old) (K.taken k.new) (report_lines net.now test.now.unseen test.now.scan_count test.now.row_count)) }
+    ensures part { OnErr result (AddsPart (K.taken k.old) (K.taken k.new) (report_lines net.now test.now.unseen test.now.scan_count test.now.row_count)) }
     ensures cause { HasCause (K.faults k.old) (K.faults k.new) result StoreFault.Failed }
 {
     let unseen = test.unseen().as_slice();
-    put_all_unseen(net, unseen, k)?;
-    put_counts(test.scan_count(), test.row_count(), unseen.len(), k)?;
-    Ok(())
+    put_lines(net, unseen, test.scan_count(), test.row_count(), k)
 }
