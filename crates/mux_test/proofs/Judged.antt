@@ -89,7 +89,7 @@ module _ (net : Net) where
 -- what doesn't change the path says nothing
 pub says_nothing : (h : Holds) (own other : List ℕ) → other ≡ own → Open ≡ verdict_of h own other
 says_nothing h own other e =
-    let same : same_registers own other ≡ true = decides_true (bytes_eq-Decides own other) (sym e) in
+    let same : same_registers own other ≡ true = (bytes_eq-Decides own other).1 (sym e) in
     ap (λ (t : Bool). elim t as (λ _. Verdict) [ true ↦ Open | false ↦ elim (length (chain own h) == length (chain other h)) as (λ _. Verdict) [ true ↦ Unseen | false ↦ Seen ] ]) (sym same)
 
 -- a path of a network is short

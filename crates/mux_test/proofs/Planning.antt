@@ -2,7 +2,7 @@
 use Rattle.std.proofs.Common.{◌≡◌, ℕ, suc, ◌+◌, ◌<◌, ◌≤◌, Bool, true, false, List, [], ◌∷◌, ◌++◌, length, drop, get_or, refl, sym, ap, ◌∙◌, subst, arith, length-append, append_assoc}
 use Rattle.std.specs.Prelude.{All, map, reverse, IsTrue}
 use Rattle.std.specs.List.{flat_map}
-use Rattle.std.proofs.lemmas.List.{append-nil}
+use Rattle.std.proofs.lemmas.List.{append-nil, drop_more, length-map}
 use Rattle.std.proofs.lemmas.List.Elements.{All-nil, All-weaker}
 use Rattle.ij_bits.specs.Different.{AreDifferent}
 use Rattle.net_graph.specs.declared.branch.Branch.{Branch}
@@ -19,7 +19,9 @@ use Rattle.net_graph.specs.SeenSteps.{SeenGroup}
 use Rattle.net_graph.specs.Signals.{Holds}
 use Rattle.net_graph.specs.Writes.{write_all}
 use Rattle.net_graph.proofs.Selecting.{is_held}
+use Rattle.net_tree.specs.declared.plan.ScanPlan.{ScanPlan}
 use Rattle.net_tree.specs.Form.{Items}
+use Rattle.net_tree.specs.ScanPlans.{seen_plan}
 use Rattle.path_planner.specs.Least.{AreOnPath}
 use Rattle.path_planner.specs.Opening.{last_holds}
 use Rattle.path_planner.specs.Planning.{IsBranchOf}
@@ -28,14 +30,17 @@ use Rattle.path_planner.specs.RowScans.{AreRowPlans, CanOpenRow, RowPlanned, Set
 use Rattle.path_planner.specs.Scannable.{IsScannable}
 use Rattle.path_planner.proofs.Among.{all_among, among_all}
 use Rattle.path_planner.proofs.Apart.{in_part}
+use Rattle.path_planner.proofs.Starting.{start_scannable}
 use Rattle.path_planner.proofs.Step.{selected}
 use Rattle.path_planner.proofs.Values.{select_there}
 use Rattle.net_graph.specs.Groups.{registers_of}
 use Rattle.scan_packer.specs.Packing.{CanScan}
 use Rattle.mux_test.specs.Flushes.{row_flushes, rows_flushes, test_scans}
 use Rattle.mux_test.specs.Laws.{IsTestable}
-use Rattle.mux_test.specs.Planned.{AreFlushable, ArePlannedTest, AreWritable, SeenPlanned, holds_after, last_planned, planned_flushes, row_planned}
+use Rattle.mux_test.specs.declared.planned.PlannedScan.{PlannedScan}
+use Rattle.mux_test.specs.Planned.{AreFlushable, ArePlannedTest, AreWritable, SeenPlanned, holds_after, last_planned, planned_flushes, row_planned, seen_planned}
 use Rattle.mux_test.specs.Test.{branches, scanned, tested_from}
+use Rattle.mux_test.proofs.Testing.{all_branches}
 
 -- ---- more scans behind some
 
@@ -183,3 +188,43 @@ module _ (net : Net) (form : Items) where
               ∙ w.after;
           can = subst (AreFlushable net start) (sym m) (flushable-append net start scans row w.can (subst (λ h. AreFlushable net h row) w.now f));
         }
+
+-- ---- one row after the other, as a loop plans them
+
+module _ (net : Net) (form : Items) (t : IsTestable net form) where
+  pub can_start : IsScannable net (start_holds net)
+  can_start = start_scannable net form t.lawful
+
+  module _ (scans : List PlannedScan) (holds : Holds) (bs : List Branch) (i : ℕ) (d : Branch) (all : bs ≡ branches net) (l : i < length bs) (w : IsOnTheWay net form (map seen_planned scans) holds (drop i bs)) where
+    next_way : IsOnTheWay net form (map seen_planned scans) holds (get_or bs i d ∷ drop (i + 1) bs)
+    next_way = subst (IsOnTheWay net form (map seen_planned scans) holds) (drop_more bs i d l) w
+
+    pub can_open : CanOpenRow net form (get_or bs i d) holds
+    can_open = record {
+      well_formed = t.well_formed;
+      describes = t.describes;
+      lawful = t.lawful;
+      there = subst (All (IsBranchOf net)) (sym all) (all_branches net form t) i d l;
+      listed = subst (IsScannable net) (sym w.now) (flushable_last net (start_holds net) (map seen_planned scans) w.can);
+    }
+
+    module _ (plans : List ScanPlan) (are : AreRowPlans net form (get_or bs i d) holds (map seen_plan plans)) (p : RowPlanned net form (get_or bs i d) holds (map seen_plan plans)) where
+      can_flush : AreFlushable net holds (row_planned (get_or bs i d) true (map seen_plan plans))
+      can_flush = row_flushable net form (get_or bs i d) true holds (map seen_plan plans) can_open are p.scans
+
+      pub can_write : AreWritable holds (map seen_plan plans)
+      can_write = row_writable net (get_or bs i d) true holds (map seen_plan plans) can_flush
+
+      pub test_has : length scans + length plans ≤ length (scanned net form)
+      test_has =
+          let many = as_many net form (map seen_planned scans) holds (get_or bs i d) (drop (i + 1) bs) (map seen_plan plans) next_way p in
+          omega (arith, many, length-map scans seen_planned, length-map plans seen_plan)
+
+      module _ (more : List PlannedScan) (next : Holds) (m : map seen_planned more ≡ map seen_planned scans ++ row_planned (get_or bs i d) true (map seen_plan plans)) (n : next ≡ last_holds holds (holds_after_each holds (map seen_plan plans))) where
+        pub next_row : IsOnTheWay net form (map seen_planned more) next (drop (i + 1) bs)
+        next_row =
+            go_on net form (map seen_planned scans) holds (get_or bs i d) (drop (i + 1) bs) (map seen_plan plans) next_way p (map seen_planned more) next m n can_flush
+
+        pub next_length : length more ≡ length scans + length plans
+        next_length =
+            omega (arith, length-map more seen_planned, length-map scans seen_planned, length-map plans seen_plan, ap length m, length-append (map seen_planned scans) (row_planned (get_or bs i d) true (map seen_plan plans)), row-length (get_or bs i d) true (map seen_plan plans))

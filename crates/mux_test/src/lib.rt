@@ -2,12 +2,16 @@
 #![tactic(auto)]
 
 mod fault;
+mod file;
 mod judge;
 mod law;
 mod planned;
+mod report;
 mod stuck;
 mod test;
 
 pub use fault::MuxFault;
+pub use file::put_test_file;
 pub use law::mux_tests_law;
+pub use report::put_test_report;
 pub use test::{MuxTest, TestScan};
