@@ -93,6 +93,15 @@ each-length : (h : Holds) (ps : List SeenGroup) → length (holds_after_each h p
 each-length h [] = refl
 each-length h (p ∷ ps) = ap suc (each-length (write_all h p.writes) ps)
 
+after-length : (h : Holds) (xs : List SeenPlanned) → length (holds_after h xs) ≡ length xs
+after-length h [] = refl
+after-length h (x ∷ xs) = ap suc (after-length (write_all h x.plan.writes) xs)
+
+-- a planned test has as many scans as the test
+pub as_long : (net : Net) (form : Items) (scans : List PlannedScan) → ArePlannedTest net form (map seen_planned scans) → length scans ≡ length (scanned net form)
+as_long net form scans p =
+    sym (length-map scans seen_planned) ∙ sym (after-length (start_holds net) (map seen_planned scans)) ∙ ap length p.after
+
 -- the bits that a scan writes are there
 pub scan_held : (net : Net) (h : Holds) (p : SeenGroup) → CanScan net h p → All (λ w. IsHeld h w.bit) p.writes
 scan_held net h p (path, e, can) =
@@ -158,10 +167,6 @@ module _ (net : Net) (form : Items) where
         let rest = flat_map (λ t. t.after) (tested_from net form (last_holds holds hs) bs) in
         let all : length (holds_after (start_holds net) scans) + length (hs ++ rest) ≡ length (scanned net form) = sym (length-append (holds_after (start_holds net) scans) (hs ++ rest)) ∙ ap length w.after in
         omega (arith, all, length-append hs rest, ap length p.lead, each-length holds ps, after-length (start_holds net) scans)
-      where
-        after-length : (h : Holds) (xs : List SeenPlanned) → length (holds_after h xs) ≡ length xs
-        after-length h [] = refl
-        after-length h (x ∷ xs) = ap suc (after-length (write_all h x.plan.writes) xs)
 
     -- with the plans of the next row
     pub go_on : (more : List SeenPlanned) (next : Holds) → more ≡ scans ++ row_planned b true ps → next ≡ last_holds holds (holds_after_each holds ps) → AreFlushable net holds (row_planned b true ps) → IsOnTheWay net form more next bs
