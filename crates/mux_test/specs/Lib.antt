@@ -5,3 +5,9 @@ pub mod Flushes
 pub mod Laws
 pub mod Reading
 pub mod Texts
+pub mod Steps
+pub mod Planned
+pub mod Judged
+pub mod Judging
+pub mod Given
+pub mod GivenCode

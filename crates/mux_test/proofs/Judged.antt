@@ -1,0 +1,146 @@
+-- Rows that are judged scan by scan are judged as the whole test judges them.
+use Rattle.std.proofs.Common.{◌≡◌, ℕ, zero, suc, ◌+◌, ◌<◌, ◌≤◌, Bool, true, false, List, [], ◌∷◌, ◌++◌, length, drop, get_or, refl, sym, ap, ◌∙◌, subst, arith}
+use Rattle.std.specs.Prelude.{◌==◌, not, cond, map, filter, take, slice_set, All}
+use Rattle.std.specs.Str.{bytes_eq as same_registers}
+use Rattle.std.proofs.lemmas.List.{drop_more}
+use Rattle.std.proofs.lemmas.List.Elements.{All-nil, All-cons, All-head, All-tail}
+use Rattle.std.proofs.lemmas.Slice.Eq.{bytes_eq-Decides}
+use Rattle.net_graph.specs.Chain.{chain, IsRoute}
+use Rattle.net_graph.specs.Held.{AreHolds}
+use Rattle.net_graph.specs.Nets.{IsNet}
+use Rattle.net_graph.specs.Writes.{write_all}
+use Rattle.net_graph.proofs.Widths.{chain_fits}
+use Rattle.net_tree.specs.ScanPlans.{seen_plan}
+use Rattle.path_planner.specs.Planning.{IsBranchOf}
+use Rattle.path_planner.specs.Scannable.{IsScannable}
+use Rattle.scan_packer.specs.Packing.{CanScan}
+use Rattle.net_graph.specs.declared.branch.Branch.{Branch}
+use Rattle.net_graph.specs.declared.net.Net.{Net}
+use Rattle.net_graph.specs.Path.{route_of}
+use Rattle.net_graph.specs.Signals.{Holds}
+use Rattle.net_graph.specs.Stuck.{stuck_route}
+use Rattle.mux_test.specs.declared.judge.JudgedRow.{JudgedRow}
+use Rattle.mux_test.specs.declared.judge.Verdict.{Verdict}
+use Rattle.mux_test.specs.declared.judge.Verdict.TheVariants.{Open, Seen, Unseen}
+use Rattle.mux_test.specs.Judged.{judge, judged_row, judged_rows, verdict_of, open_row, is_untold, untold_rows, unseen_rows}
+use Rattle.mux_test.specs.Seen.{begins, is_seen}
+use Rattle.mux_test.specs.declared.planned.PlannedScan.{PlannedScan}
+use Rattle.mux_test.specs.Planned.{AreFlushable, holds_after, seen_planned}
+
+module _ (net : Net) where
+  -- one row after all scans
+  judged : List Holds → JudgedRow → JudgedRow
+  judged [] r = r
+  judged (h ∷ hs) r = judged hs (judged_row net h r)
+
+  each : (hs : List Holds) (r : JudgedRow) (rs : List JudgedRow) → judged_rows net hs (r ∷ rs) ≡ judged hs r ∷ judged_rows net hs rs
+  unfolding judged
+  each [] r rs = refl
+  each (h ∷ hs) r rs = each hs (judged_row net h r) (map (judged_row net h) rs)
+
+  none : (hs : List Holds) → judged_rows net hs [] ≡ []
+  none [] = refl
+  none (h ∷ hs) = none hs
+
+  same_branch : (hs : List Holds) (r : JudgedRow) → (judged hs r).branch ≡ r.branch
+  unfolding judged
+  same_branch [] r = refl
+  same_branch (h ∷ hs) r = same_branch hs (judged_row net h r)
+
+  -- what was found stays
+  seen_stays : (hs : List Holds) (b : Branch) → is_untold (judged hs (record { branch = b; verdict = Seen })) ≡ false
+  unfolding judged
+  seen_stays [] b = refl
+  seen_stays (h ∷ hs) b = seen_stays hs b
+
+  unseen_stays : (hs : List Holds) (b : Branch) → is_untold (judged hs (record { branch = b; verdict = Unseen })) ≡ true
+  unfolding judged
+  unseen_stays [] b = refl
+  unseen_stays (h ∷ hs) b = unseen_stays hs b
+
+  -- a row that no scan was judged for
+  from_open : (hs : List Holds) (b : Branch) → is_untold (judged hs (open_row b)) ≡ not (is_seen net b hs)
+  unfolding judged
+  from_open [] b = refl
+  from_open (h ∷ hs) b =
+      on (same_registers (route_of net h) (stuck_route net b h)) (length (chain (route_of net h) h) == length (chain (stuck_route net b h) h)) (from_open hs b)
+    where
+      on : (s t : Bool) → is_untold (judged hs (open_row b)) ≡ not (is_seen net b hs)
+        → is_untold (judged hs (record { branch = b; verdict = elim s as (λ _. Verdict) [ true ↦ Open | false ↦ elim t as (λ _. Verdict) [ true ↦ Unseen | false ↦ Seen ] ] })) ≡ not (elim s as (λ _. Bool) [ true ↦ is_seen net b hs | false ↦ not t ])
+      on true t later = later
+      on false true later = unseen_stays hs b
+      on false false later = seen_stays hs b
+
+  -- all rows, from the beginning of the test
+  pub judged_is : (bs : List Branch) (hs : List Holds) → untold_rows (judged_rows net hs (map open_row bs)) ≡ unseen_rows net bs hs
+  judged_is [] hs = ap untold_rows (none hs)
+  judged_is (b ∷ bs) hs =
+      ap untold_rows (each hs (open_row b) (map open_row bs))
+      ∙ ap (λ (t : Bool). map (λ r. r.branch) (cond t (judged hs (open_row b) ∷ filter is_untold (judged_rows net hs (map open_row bs))) (filter is_untold (judged_rows net hs (map open_row bs))))) (from_open hs b)
+      ∙ on (not (is_seen net b hs)) (judged_is bs hs)
+    where
+      on : (t : Bool) → untold_rows (judged_rows net hs (map open_row bs)) ≡ unseen_rows net bs hs
+        → map (λ r. r.branch) (cond t (judged hs (open_row b) ∷ filter is_untold (judged_rows net hs (map open_row bs))) (filter is_untold (judged_rows net hs (map open_row bs)))) ≡ cond t (b ∷ unseen_rows net bs hs) (unseen_rows net bs hs)
+      on true later = ap (λ x. x ∷ untold_rows (judged_rows net hs (map open_row bs))) (same_branch hs (open_row b)) ∙ ap (λ xs. b ∷ xs) later
+      on false later = later
+
+-- ---- judging, as loops do it
+
+-- what doesn't change the path says nothing
+pub says_nothing : (h : Holds) (own other : List ℕ) → other ≡ own → Open ≡ verdict_of h own other
+says_nothing h own other e =
+    let same : same_registers own other ≡ true = (bytes_eq-Decides own other).1 (sym e) in
+    ap (λ (t : Bool). elim t as (λ _. Verdict) [ true ↦ Open | false ↦ elim (length (chain own h) == length (chain other h)) as (λ _. Verdict) [ true ↦ Unseen | false ↦ Seen ] ]) (sym same)
+
+-- a path of a network is short
+pub path_short : (net : Net) (p : List ℕ) (h : Holds) → IsNet net → AreHolds net h → IsRoute (length h) p → length (chain p h) ≤ 4096
+path_short net p h w a r = omega (arith, chain_fits net p h a r, w.bits_within_limit)
+
+mixed : {A : Type 0} (f : A → A) (xs : List A) (i : ℕ) (d : A) → i < length xs → slice_set (map f (take i xs) ++ drop i xs) i (f (get_or (map f (take i xs) ++ drop i xs) i d)) ≡ map f (take (suc i) xs) ++ drop (suc i) xs
+mixed f [] i d l = absurd (omega (arith, l))
+mixed f (x ∷ xs) zero d l = refl
+mixed f (x ∷ xs) (suc i) d l = ap (λ ys. f x ∷ ys) (mixed f xs i d (omega (arith, l)))
+
+-- one more of them is replaced
+pub replaced : {A : Type 0} (f : A → A) (xs ys now : List A) (i : ℕ) (y d : A) → i < length xs → ys ≡ map f (take i xs) ++ drop i xs → y ≡ f (get_or ys i d) → now ≡ slice_set ys i y → now ≡ map f (take (i + 1) xs) ++ drop (i + 1) xs
+replaced {A} f xs ys now i y d l e g n =
+    let one : i + 1 ≡ suc i = omega arith in
+    n ∙ ap (slice_set ys i) g ∙ ap (λ (zs : List A). slice_set zs i (f (get_or zs i d))) e ∙ mixed f xs i d l
+    ∙ ap (λ k. map f (take k xs) ++ drop k xs) (sym one)
+
+pub all_judged : (net : Net) (h : Holds) (rows now : List JudgedRow) → now ≡ map (judged_row net h) rows → All (λ r. IsBranchOf net r.branch) rows → All (λ r. IsBranchOf net r.branch) now
+all_judged net h rows now e a = subst (All (λ r. IsBranchOf net r.branch)) (sym e) (each_judged rows a)
+  where
+    each_judged : (rows : List JudgedRow) → All (λ r. IsBranchOf net r.branch) rows → All (λ r. IsBranchOf net r.branch) (map (judged_row net h) rows)
+    each_judged [] a = All-nil (λ (r : JudgedRow). IsBranchOf net r.branch)
+    each_judged (r ∷ rs) a =
+        All-cons (λ (r : JudgedRow). IsBranchOf net r.branch) (judged_row net h r) (map (judged_row net h) rs) (All-head (λ (r : JudgedRow). IsBranchOf net r.branch) r rs a) (each_judged rs (All-tail (λ (r : JudgedRow). IsBranchOf net r.branch) r rs a))
+
+pub all_open : (net : Net) (bs : List Branch) (rows : List JudgedRow) → rows ≡ map open_row bs → All (IsBranchOf net) bs → All (λ r. IsBranchOf net r.branch) rows
+all_open net bs rows e a = subst (All (λ r. IsBranchOf net r.branch)) (sym e) (each_open bs a)
+  where
+    each_open : (bs : List Branch) → All (IsBranchOf net) bs → All (λ r. IsBranchOf net r.branch) (map open_row bs)
+    each_open [] a = All-nil (λ (r : JudgedRow). IsBranchOf net r.branch)
+    each_open (b ∷ bs) a =
+        All-cons (λ (r : JudgedRow). IsBranchOf net r.branch) (open_row b) (map open_row bs) (All-head (IsBranchOf net) b bs a) (each_open bs (All-tail (IsBranchOf net) b bs a))
+
+module _ (net : Net) (scans : List PlannedScan) (i : ℕ) (x : PlannedScan) (l : i < length scans) (is : x ≡ get_or scans i x) (h next : Holds) (n : next ≡ write_all h x.plan.writes.items) where
+  -- the next scan, and those behind it
+  pub left_is : map seen_planned (drop i scans) ≡ seen_planned x ∷ map seen_planned (drop (i + 1) scans)
+  left_is = ap (map seen_planned) (drop_more scans i x l ∙ ap (λ y. y ∷ drop (i + 1) scans) (sym is))
+
+  pub next_can : AreFlushable net h (map seen_planned (drop i scans)) → AreFlushable net next (map seen_planned (drop (i + 1) scans))
+  next_can a =
+      let b = subst (AreFlushable net h) left_is a in
+      subst (λ k. AreFlushable net k (map seen_planned (drop (i + 1) scans))) (sym n) b.2
+
+  pub scan_can : AreFlushable net h (map seen_planned (drop i scans)) → IsScannable net h × CanScan net h (seen_plan x.plan)
+  scan_can a = let b = subst (AreFlushable net h) left_is a in (b.0, b.1)
+
+  pub next_judged : (rows now all : List JudgedRow) → now ≡ map (judged_row net h) rows → judged_rows net (begins h (holds_after h (map seen_planned (drop i scans)))) rows ≡ all → judged_rows net (begins next (holds_after next (map seen_planned (drop (i + 1) scans)))) now ≡ all
+  next_judged rows now all e j =
+      let ps = map seen_planned (drop (i + 1) scans) in
+      ap (λ rs. judged_rows net (begins next (holds_after next ps)) rs) e
+      ∙ ap (λ k. judged_rows net (begins k (holds_after k ps)) (map (judged_row net h) rows)) n
+      ∙ ap (λ qs. judged_rows net (begins h (holds_after h qs)) rows) (sym left_is)
+      ∙ j

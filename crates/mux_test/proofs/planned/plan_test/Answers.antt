@@ -1,0 +1,42 @@
+use Rattle.std.proofs.Common.{◌≡◌, ◌<◌, ℕ, List, length, sym, ap, subst, arith, ◌∙◌}
+use Rattle.std.specs.Prelude.{map}
+use Rattle.net_graph.specs.declared.branch.Branch.{Branch}
+use Rattle.mux_test.specs.declared.planned.PlannedScan.{PlannedScan}
+use Rattle.mux_test.specs.Planned.{seen_planned}
+use Rattle.mux_test.specs.Test.{branches, scanned}
+use Rattle.mux_test.proofs.Planning.{IsOnTheWay, at_start, can_open, can_start, can_write, next_length, next_row, test_has}
+use Rattle.mux_test.proofs.planned.plan_test.Goals as goal
+
+
+pub loop-branch-init : goal.loop-branch-init
+loop-branch-init c =
+    let net = c.args.net.now in
+    let form = c.args.tree.now in
+    let start = at_start net form c.in_ok-holds.holds c.in_ok-holds.ensures (can_start net form c.requires.network) in
+    let empty = subst (λ (xs : List PlannedScan). IsOnTheWay net form (map seen_planned xs) c.in_ok-holds.holds (branches net)) (sym c.new-scans.ensures) start in
+    record {
+      way = subst (IsOnTheWay net form (map seen_planned c.new-scans.result.items) c.in_ok-holds.holds) (sym c.requires.branches) empty;
+      short = omega (arith, ap length c.new-scans.ensures);
+    }
+
+pub plan_row-requires : goal.plan_row-requires
+plan_row-requires c =
+    can_open c.args.net.now c.args.tree.now c.requires.network c.loop-branch.scans.items c.loop-branch.holds c.args.branches.now c.loop-branch.branch-index (record { mux = 0; row = 0 }) c.requires.branches c.loop-branch-test.true c.loop-branch.invariant.way
+
+pub returns-then-len-clause-limit : goal.returns-then-len-clause-limit
+returns-then-len-clause-limit c number e =
+    let has = test_has c.args.net.now c.args.tree.now c.requires.network c.loop-branch.scans.items c.loop-branch.holds c.args.branches.now c.loop-branch.branch-index (record { mux = 0; row = 0 }) c.requires.branches c.loop-branch-test.true c.loop-branch.invariant.way c.in_ok-plans.plans.items c.in_ok-plans.ensures.plans c.in_ok-plans.ensures.planned in
+    let same : number ≡ 8192 = cc e in
+    (same, omega (arith, has, c.if-len.true, c.len.ensures, c.len-in-loop-branch.ensures))
+
+pub push_scans-requires : goal.push_scans-requires
+push_scans-requires c =
+    can_write c.args.net.now c.args.tree.now c.requires.network c.loop-branch.scans.items c.loop-branch.holds c.args.branches.now c.loop-branch.branch-index (record { mux = 0; row = 0 }) c.requires.branches c.loop-branch-test.true c.loop-branch.invariant.way c.in_ok-plans.plans.items c.in_ok-plans.ensures.plans c.in_ok-plans.ensures.planned
+
+pub loop-branch-preserved : goal.loop-branch-preserved
+loop-branch-preserved c =
+    let long = next_length c.args.net.now c.args.tree.now c.requires.network c.loop-branch.scans.items c.loop-branch.holds c.args.branches.now c.loop-branch.branch-index (record { mux = 0; row = 0 }) c.requires.branches c.loop-branch-test.true c.loop-branch.invariant.way c.in_ok-plans.plans.items c.in_ok-plans.ensures.plans c.in_ok-plans.ensures.planned c.push_scans.new.scans.items c.push_scans.new.holds c.in_ok-push_scans.ensures.scans c.in_ok-push_scans.ensures.holds in
+    record {
+      way = next_row c.args.net.now c.args.tree.now c.requires.network c.loop-branch.scans.items c.loop-branch.holds c.args.branches.now c.loop-branch.branch-index (record { mux = 0; row = 0 }) c.requires.branches c.loop-branch-test.true c.loop-branch.invariant.way c.in_ok-plans.plans.items c.in_ok-plans.ensures.plans c.in_ok-plans.ensures.planned c.push_scans.new.scans.items c.push_scans.new.holds c.in_ok-push_scans.ensures.scans c.in_ok-push_scans.ensures.holds;
+      short = omega (arith, long, c.if-len.false, c.len.ensures, c.len-in-loop-branch.ensures, c.loop-branch.invariant.short);
+    }

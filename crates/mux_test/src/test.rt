@@ -1,0 +1,197 @@
+// The scans of a network's mux test, one after the other.
+ghost use Rattle.std.specs.Prelude.{◌≡◌, ◌<◌, ◌≤◌, [], ◌∷◌, ℕ, length, IfOk, IsErr, IsErrOf, IsNone, MatchOption, OnErr, OnOk};
+ghost use Rattle.net_graph.specs.Nets.{IsNet};
+ghost use Rattle.net_graph.specs.Writes.{write_all};
+ghost use Rattle.net_graph.specs.Path as paths;
+ghost use Rattle.net_tree.specs.Form.{Describes};
+ghost use Rattle.net_tree.specs.Routes.{HasRoom};
+ghost use Rattle.net_tree.specs.ScanPlans.{seen_plan};
+ghost use Rattle.scan_packer.specs.Flushed.{HasFlushRoom};
+ghost use Rattle.scan_packer.specs.Packing.{CanScan};
+ghost use Rattle.svf_writer.specs.SeenCommands.{SDR, seen_command};
+ghost use Rattle.mux_test.specs.Flushes.{test_scans};
+ghost use Rattle.mux_test.specs.Given.{seen_test_scan};
+ghost use Rattle.mux_test.specs.Laws.{IsTestable};
+ghost use Rattle.mux_test.specs.Seen.{unseen};
+ghost use Rattle.mux_test.specs.Test.{IsWithinLimit, branches, flush, scanned};
+ghost use Rattle.mux_test.specs.declared.fault.MuxFault.TheVariants as fault;
+
+use crate::fault::MuxFault;
+use crate::judge::unseen_rows;
+use crate::planned::{PlannedScan, branches_of, plan_test};
+use ij_bits::{Bits, List, OutOfMemory};
+use net_graph::{Branch, Holds, Net};
+use net_tree::{Route, ScanPlan, Tree};
+use path_planner::advance;
+use scan_packer::pack_flush;
+use std::alloc::Global;
+use std::marker::Model;
+use svf_writer::{Command, Part, Scan};
+
+/// One scan of a mux test.
+#[derive(Drop)]
+pub struct TestScan {
+    /// The row that it is for: a scan before brings it in, or it goes through it.
+    pub branch: Branch,
+    /// Whether it is the row's first.
+    pub first: bool,
+    /// The scan, an SDR: a marker goes through the active path.
+    pub scan: Command,
+}
+
+/// The test of a network's scan muxes: scans that take a marker through every row of every mux, from power-up on
+/// (IEEE 1687-2014: ScanMux; Serial Vector Format, revision E: SDR).
+///
+/// Contracts see the scans that are still to come, the rows that a mux may be stuck in unseen, and how many scans and rows
+/// there are in all.
+#[derive(Drop)]
+pub struct MuxTest<'a> {
+    alloc: Global,
+    net: &'a Net,
+    tree: &'a Tree,
+    /// All scans of the test.
+    scans: List<PlannedScan>,
+    /// How many of them were given.
+    given: usize,
+    /// What the update stages hold before the next one.
+    holds: Holds,
+    route: Route,
+    unseen: List<Branch>,
+    rows: usize,
+}
+
+impl<'a> Model for MuxTest<'a> {
+    ghost use Rattle.std.specs.Prelude.{◌≤◌, drop, length, map};
+    ghost use Rattle.net_tree.specs.Routes.{HasRoom};
+    ghost use Rattle.mux_test.specs.Given.{SeenTest};
+    ghost use Rattle.mux_test.specs.GivenCode.{test_code};
+    ghost use Rattle.mux_test.specs.Laws.{IsTestable};
+    ghost use Rattle.mux_test.specs.Planned.{AreFlushable, planned_flushes, seen_planned};
+
+    ghost Value = { SeenTest };
+
+    ghost coded = { test_code };
+
+    ghost view = { λ t. record { scans = planned_flushes t.net.now t.holds (map seen_planned (drop t.given t.scans.items)); unseen = t.unseen.items; scan_count = length t.scans.items; row_count = t.rows } };
+
+    ghost invariant = { λ t. IsTestable t.net.now t.tree.now × AreFlushable t.net.now t.holds (map seen_planned (drop t.given t.scans.items)) × HasRoom t.net.now t.route × (t.given ≤ length t.scans.items) };
+}
+
+/// The greatest number of bits that a flush has: a network has at most 4096 scan bits.
+const FLUSH_BITS: u32 = 2 * 4096 + 1;
+
+/// The flush of a plan, as a command. The route becomes the active path.
+fn flush_of(
+    alloc: Global,
+    net: &Net,
+    tree: &Tree,
+    holds: &Holds,
+    plan: &ScanPlan,
+    route: &mut Route,
+) -> Result<Command, OutOfMemory>
+    requires well_formed { IsNet net.now }
+    requires tree { Describes net.now tree.now }
+    requires listed { paths.AreListed net.now holds.now }
+    requires plan { CanScan net.now holds.now (seen_plan plan.now) }
+    requires room { HasRoom net.now route.old }
+    ensures scan { IfOk result (λ c. seen_command c ≡ SDR (flush net.now holds.now (write_all holds.now plan.now.writes.items))) }
+    ensures room { HasRoom net.now route.new }
+{
+    let mut tdi = Bits::with_room(alloc, FLUSH_BITS)?;
+    let mut tdo = Bits::with_room(alloc, FLUSH_BITS)?;
+    let mut mask = Bits::with_room(alloc, FLUSH_BITS)?;
+    pack_flush(
+        net, tree, holds, plan, route, &mut tdi, &mut tdo, &mut mask,
+    );
+    Ok(Command::Sdr(Scan {
+        len: tdi.len(),
+        tdi: Part::of_bits(alloc, tdi)?,
+        tdo: Part::of_bits(alloc, tdo)?,
+        mask: Part::of_bits(alloc, mask)?,
+        smask: Part::absent(),
+    }))
+}
+
+impl<'a> MuxTest<'a> {
+    /// Plans the whole test of a network.
+    ///
+    /// # Errors
+    ///
+    /// - `Limit`: the test has more than 8192 scans, which is the number that it carries.
+    /// - `OutOfMemory`: there was no memory for it.
+    pub fn new(alloc: Global, net: &'a Net, tree: &'a Tree) -> Result<MuxTest<'a>, MuxFault>
+        requires { IsTestable net.now tree.now }
+        ensures scans { IfOk result (λ t. t.scans ≡ test_scans net.now tree.now) }
+        ensures unseen { IfOk result (λ t. t.unseen ≡ unseen net.now tree.now) }
+        ensures scan_count { IfOk result (λ t. t.scan_count ≡ length (scanned net.now tree.now)) }
+        ensures row_count { IfOk result (λ t. t.row_count ≡ length (branches net.now)) }
+        ensures within { OnOk result (IsWithinLimit net.now tree.now) }
+        ensures limit { (number : ℕ) → IsErrOf result (fault.Limit number) → (number ≡ 8192) × (8192 < length (scanned net.now tree.now)) }
+        ensures limited { 8192 < length (scanned net.now tree.now) → IsErr result }
+    {
+        let rows = branches_of(alloc, net)?;
+        let scans = plan_test(alloc, net, tree, rows.as_slice())?;
+        let unseen = unseen_rows(alloc, net, rows.as_slice(), scans.as_slice())?;
+        Ok(MuxTest {
+            alloc,
+            net,
+            tree,
+            scans,
+            given: 0,
+            holds: Holds::power_up(alloc, net)?,
+            route: Route::new(alloc, net)?,
+            unseen,
+            rows: rows.len(),
+        })
+    }
+
+    /// The next scan, and `None` exactly after the last one. After a want of memory all is as it was.
+    pub fn next(&mut self) -> Result<Option<TestScan>, OutOfMemory>
+        ensures gives { IfOk result (λ o. MatchOption o (self.old.scans ≡ []) (λ t. self.old.scans ≡ seen_test_scan t ∷ self.new.scans)) }
+        ensures end { IfOk result (λ o. IsNone o → self.new.scans ≡ []) }
+        ensures others { self.new ≡ record self.old { scans = self.new.scans } }
+        ensures stays { OnErr result (self.new ≡ self.old) }
+    {
+        if self.given == self.scans.len() {
+            return Ok(None);
+        }
+        let planned = self.scans.get(self.given);
+        let scan = flush_of(
+            self.alloc,
+            self.net,
+            self.tree,
+            &self.holds,
+            &planned.plan,
+            &mut self.route,
+        )?;
+        let next = TestScan {
+            branch: planned.branch,
+            first: planned.first,
+            scan,
+        };
+        advance(&mut self.holds, &planned.plan);
+        self.given += 1;
+        Ok(Some(next))
+    }
+
+    /// The rows that a mux may be stuck in unseen, by the muxes' numbers and then from row 0 up. Takes no memory.
+    pub fn unseen(&self) -> &List<Branch>
+        ensures { result.now.items ≡ self.now.unseen }
+    {
+        &self.unseen
+    }
+
+    /// How many scans the whole test has. Takes no memory.
+    pub fn scan_count(&self) -> usize
+        ensures { result ≡ self.now.scan_count }
+    {
+        self.scans.len()
+    }
+
+    /// How many rows all muxes have. Takes no memory.
+    pub fn row_count(&self) -> usize
+        ensures { result ≡ self.now.row_count }
+    {
+        self.rows
+    }
+}
