@@ -74,5 +74,5 @@ for name in ('docs/ARCHITECTURE.md', 'ijtag', '.ci/build.py'):
 
 for line in failed:
     print(line)
-print(f'pages: {count - len(failed)} passed, {len(failed)} failed')
+print(f'pages: {count - len(failed)} passed, {len(failed)} failed, {size} bytes')
 sys.exit(1 if failed or not count else 0)
