@@ -1,8 +1,8 @@
 #!/usr/bin/env python3
 """Looks at the pages' form: pages.py, run at the top of a checkout.
 
-Prose has at most 100 columns (tables, code and headings may have more), README.md at most 160 lines, and no sentence more than 34 words, in
-README.md 32. README.md and docs/ have at most 150,000 bytes in all, without the table that .ci/minutes.py writes. Each link leads to a
+Prose has at most 100 columns (tables, code and headings may have more), README.md at most 160 lines, and no sentence more than 32 words.
+README.md and docs/ have at most 150,000 bytes in all, without the table that .ci/minutes.py writes. Each link leads to a
 file, and to a heading of it. No page has one of the words that this project writes otherwise. The time of the first build is that of
 README.md wherever it is said."""
 import pathlib
@@ -55,12 +55,11 @@ first = pathlib.Path('README.md').read_text()
 if len(first.splitlines()) > 160:
     failed.append(f'README.md: {len(first.splitlines())} lines')
 for page in pages:
-    longest = 32 if page.name == 'README.md' and page.parent.name == '' else 34
     text = '\n'.join(line for _, line in prose(re.sub(r'(?m)^(\||    |#).*$', '', page.read_text())))
     for block in re.split(r'\n\s*\n|\n(?=- |\d+\. )', text):
         for sentence in re.split(r'(?<=[.:;?])\s', re.sub(r'\s+', ' ', block)):
             count += 1
-            if len(sentence.split()) > longest:
+            if len(sentence.split()) > 32:
                 failed.append(f'{page}: {len(sentence.split())} words: {sentence}')
 
 texts = [re.sub(r'(?m)^\|.*\n', '', page.read_text()) if page.name == 'GATE.md' else page.read_text() for page in pages if page.parts[0] != 'examples']
