@@ -2,9 +2,9 @@
 """Looks at the pages' form: pages.py, run at the top of a checkout.
 
 Prose has at most 100 columns (tables, code and headings may have more), README.md at most 160 lines, and no sentence more than 32 words.
-README.md and docs/ have at most 150,000 bytes in all, without the table that .ci/minutes.py writes. Each link leads to a
-file, and to a heading of it. No page has one of the words that this project writes otherwise. The time of the first build is that of
-README.md wherever it is said."""
+README.md and docs/ have at most 150,000 bytes in all, without the table that .ci/minutes.py writes. Each link leads to a file, and to a
+heading of it. No page has one of the words that this project writes otherwise. The time of the first build is that of README.md wherever
+it is said."""
 import pathlib
 import re
 import sys
@@ -57,7 +57,7 @@ if len(first.splitlines()) > 160:
 for page in pages:
     text = '\n'.join(line for _, line in prose(re.sub(r'(?m)^(\||    |#).*$', '', page.read_text())))
     for block in re.split(r'\n\s*\n|\n(?=- |\d+\. )', text):
-        for sentence in re.split(r'(?<=[.:;?])\s', re.sub(r'\s+', ' ', block)):
+        for sentence in re.split(r'(?<=[.:;?])\*{0,2}\s', re.sub(r'\s+', ' ', block)):
             count += 1
             if len(sentence.split()) > 32:
                 failed.append(f'{page}: {len(sentence.split())} words: {sentence}')
@@ -65,7 +65,7 @@ for page in pages:
 texts = [re.sub(r'(?m)^\|.*\n', '', page.read_text()) if page.name == 'GATE.md' else page.read_text() for page in pages if page.parts[0] != 'examples']
 if (size := sum(len(text.encode()) for text in texts)) > 150_000:
     failed.append(f'README.md and docs/ have {size} bytes')
-first_build = re.search(r'proves and builds all of the program: ([^.]+)\.', re.sub(r'\s+', ' ', first))
+first_build = re.search(r'proves and builds all of the program: (.+?)\. ', re.sub(r'\s+', ' ', first))
 for name in ('docs/ARCHITECTURE.md', 'ijtag', '.ci/build.py'):
     count += 1
     if not first_build or first_build[1] not in re.sub(r'\s+', ' ', pathlib.Path(name).read_text()):
