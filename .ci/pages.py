@@ -1,8 +1,10 @@
 #!/usr/bin/env python3
 """Looks at the pages' form: pages.py, run at the top of a checkout.
 
-Prose has at most 100 columns (tables, code and headings may have more), README.md at most 160 lines, and no sentence of README.md more than
-32 words. Each link leads to a file, and to a heading of it. No page has one of the words that this project writes otherwise."""
+Prose has at most 100 columns (tables, code and headings may have more), README.md at most 160 lines, and no sentence more than 32 words.
+README.md and docs/ have at most 150,000 bytes in all, without the table that .ci/minutes.py writes. Each link leads to a file, and to a
+heading of it. No page has one of the words that this project writes otherwise. The time of the first build is that of README.md wherever
+it is said."""
 import pathlib
 import re
 import sys
@@ -52,12 +54,24 @@ for page in pages:
 first = pathlib.Path('README.md').read_text()
 if len(first.splitlines()) > 160:
     failed.append(f'README.md: {len(first.splitlines())} lines')
-blocks = re.split(r'\n\s*\n|\n(?=- )', '\n'.join(line if line else '' for _, line in prose(re.sub(r'(?m)^(\||    |#).*$', '', first))))
-for sentence in (it for block in blocks for it in re.split(r'(?<=[.:;?])\s', re.sub(r'\s+', ' ', block))):
-    if len(sentence.split()) > 32:
-        failed.append(f'README.md: {len(sentence.split())} words: {sentence}')
+for page in pages:
+    text = '\n'.join(line for _, line in prose(re.sub(r'(?m)^(\||    |#).*$', '', page.read_text())))
+    for block in re.split(r'\n\s*\n|\n(?=- |\d+\. )', text):
+        for sentence in re.split(r'(?<=[.:;?])\*{0,2}\s', re.sub(r'\s+', ' ', block)):
+            count += 1
+            if len(sentence.split()) > 32:
+                failed.append(f'{page}: {len(sentence.split())} words: {sentence}')
+
+texts = [re.sub(r'(?m)^\|.*\n', '', page.read_text()) if page.name == 'GATE.md' else page.read_text() for page in pages if page.parts[0] != 'examples']
+if (size := sum(len(text.encode()) for text in texts)) > 150_000:
+    failed.append(f'README.md and docs/ have {size} bytes')
+first_build = re.search(r'proves and builds all of the program: (.+?)\. ', re.sub(r'\s+', ' ', first))
+for name in ('docs/ARCHITECTURE.md', 'ijtag', '.ci/build.py'):
+    count += 1
+    if not first_build or first_build[1] not in re.sub(r'\s+', ' ', pathlib.Path(name).read_text()):
+        failed.append(f"{name}: the time of the first build isn't that of README.md")
 
 for line in failed:
     print(line)
-print(f'pages: {count - len(failed)} passed, {len(failed)} failed')
+print(f'pages: {count - len(failed)} passed, {len(failed)} failed, {size} bytes')
 sys.exit(1 if failed or not count else 0)

@@ -2,7 +2,7 @@
 """Draws the rings of crates.txt into docs/ARCHITECTURE.md: rings.py, at the top of a checkout.
 
     rings.py            says whether each crate is in a ring and stands on earlier ones alone, and whether the page has this picture, each
-                        crate's row with its ring and what it stands on, and of each ring a paragraph whose "Never below it: .." is true
+                        crate's row, and of each ring a paragraph whose "Never below it: .." is true
     rings.py --write    draws the picture
 
 A line `# NAME: ..` of crates.txt begins a ring. In the picture a ring lies on those that it stands on, without those that follow from
@@ -16,9 +16,10 @@ import textwrap
 
 PAGE, WIDTH, MARGIN = pathlib.Path('docs/ARCHITECTURE.md'), 96, '    '
 BEGIN, END = '<!-- drawn by .ci/rings.py -->\n\n', '\n<!-- end of what is drawn -->'
+CRATES = '| Crate | The question'
 RING = re.compile(r"# ([A-Za-z][A-Za-z' ]*): \S")
 UP, DOWN, LEFT, RIGHT = 1, 2, 4, 8
-GLYPHS = dict(zip((0, 3, 12, 10, 6, 9, 5, 11, 7, 14, 13, 15), ' │─┌┐└┘├┤┬┴┼'))
+GLYPHS = {it: '|' if it == UP | DOWN else '-' if it == LEFT | RIGHT else '+' if it else ' ' for it in range(16)}
 wrong = []
 
 
@@ -177,22 +178,14 @@ def picture(rings, below):
     return ''.join(MARGIN + ''.join(line).rstrip() + '\n' for line in lines)
 
 
-def look_at_page(page, rings, stands_on, of_ring):
+def look_at_page(page, rings, stands_on):
     """Looks at the page's rows of crates and at its paragraphs of rings; the number of what is never below a ring or crate of it."""
     own = {crate: [it for it in its if it in stands_on] for crate, its in stands_on.items()}
-    rows = [[cell.strip() for cell in line.split('|')[1:-1]] for line in page[page.index('| Crate | Ring |'):].split('\n\n')[0].splitlines()[2:]]
-    if [row[0].strip('`') for row in rows] != list(stands_on):
+    table = page[page.index(CRATES):].split('\n\n')[0]
+    if re.findall(r'(?m)^\| `(\w+)` \|', table) != list(stands_on):
         wrong.append(f'the rows of {PAGE} are not the crates of crates.txt in their order')
-    shortest = least(own)
-    for crate, ring, _, cell in rows:
-        crate = crate.strip('`')
-        if ring != of_ring.get(crate):
-            wrong.append(f'{PAGE} has {crate} in {ring}, crates.txt in {of_ring.get(crate)}')
-        wanted = {*shortest.get(crate, ()), *(it for it in stands_on.get(crate, ()) if it not in stands_on)}
-        if set(re.findall(r'`(\w+)`', cell)) != wanted:
-            wrong.append(f'{PAGE}: what {crate} stands on is {" ".join(sorted(wanted))}')
     everything = reach(own)
-    paragraphs = re.findall(r'(?m)^- \*\*(.+?)\*\*((?:.*\n)(?:  .*\n)*)', page[page.index(END):page.index('| Crate | Ring |')])
+    paragraphs = re.findall(r'(?m)^- \*\*(.+?)\*\*((?:.*\n)(?:  .*\n)*)', page[page.index(END):page.index(CRATES)])
     if [ring for ring, _ in paragraphs] != list(rings):
         wrong.append(f'the paragraphs of {PAGE} are not the rings of crates.txt in their order')
     claims = 0
@@ -235,7 +228,7 @@ def main():
         elif drawn != made:
             wrong.append(f'the picture of {PAGE} is not that of crates.txt: run .ci/rings.py --write')
         wrong.extend(f'{len(line)} columns: {line}' for line in made.splitlines() if len(line) > 100)
-        claims = look_at_page(PAGE.read_text(), rings, stands_on, of_ring)
+        claims = look_at_page(PAGE.read_text(), rings, stands_on)
     for line in wrong:
         print(f'rings: {line}')
     print(f'rings: {len(rings)} rings, {len(stands_on)} crates, {claims} times "never below", {len(wrong)} failed')
