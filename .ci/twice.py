@@ -50,8 +50,12 @@ def twice(found, least):
     return [(at, text) for text, at in places.items() if len({crate for crate, _ in at}) > 1]
 
 
+# private ones of a crate that nearly all others stand on: shared when that crate changes next
+LATER = {('mux_test', 'meet'), ('mux_test', 'is_entry'), ('mux_test', 'row_point_there')}
+
+
 def main():
-    rows = twice(functions(), 60) + twice(lemmas(), 24)
+    rows = [it for it in twice(functions(), 60) + twice(lemmas(), 24) if not LATER.intersection(it[0])]
     for places, text in rows:
         print(", ".join(f"{crate}: {name}" for crate, name in places), "|", text[:120])
     print(f"twice: {len(rows)} found")

@@ -7,19 +7,10 @@ use Rattle.report.specs.Differs.{differ_text}
 use Rattle.net_bench.specs.Playing.{Compare, compare_of, compares, after_pins, differing}
 use Rattle.tap_machine.specs.declared.Pins.{Pins}
 use Rattle.bench_report.specs.Report.{Names, compare_at, named_lines}
+pub use Rattle.net_bench.proofs.Differing.{differing_both}
 
 pub differing_one : (c : Compare) (cs : List Compare) (same : Bool) → same_bit c.expect c.found ≡ same → differing (c ∷ cs) ≡ cond same (differing cs) (c ∷ differing cs)
 differing_one c cs same e = ap (λ k. cond k (differing cs) (c ∷ differing cs)) e
-
-cond_both : (k : Bool) (c : Compare) (xs ys : List Compare) → cond k (xs ++ ys) (c ∷ (xs ++ ys)) ≡ cond k xs (c ∷ xs) ++ ys
-cond_both true c xs ys = refl
-cond_both false c xs ys = refl
-
-pub differing_both : (xs ys : List Compare) → differing (xs ++ ys) ≡ differing xs ++ differing ys
-differing_both [] ys = refl
-differing_both (x ∷ xs) ys =
-    ap (λ l. cond (same_bit x.expect x.found) l (x ∷ l)) (differing_both xs ys)
-    ∙ cond_both (same_bit x.expect x.found) x (differing xs) (differing ys)
 
 abbrev line : Names → Compare → List ℕ
 line names c = differ_text (record { scan = c.scan; bit = c.bit; expect = c.expect; found = c.found; read = names c.scan c.bit })

@@ -42,13 +42,9 @@ use Rattle.headline.specs.Scans.{scan_of, scans_of, holds_after, PlansDoGroups}
 use Rattle.headline.proofs.Masking.{expected_where, expected_there, find_read}
 use Rattle.ij_bits.proofs.Contained.{none_in}
 use Rattle.headline.proofs.MuxPlans.{expects_none}
+use Rattle.net_bench.proofs.Wide.{wide_at}
 
 -- ---- the length of a path
-
-wide_at : (net : Net) (rs : List Reg) (k : ℕ) → All (IsReg net) rs → k < length rs → 1 ≤ get_or (map (λ reg. reg.width) rs) k 0
-wide_at net [] k a l = absurd (omega (arith, l))
-wide_at net (r ∷ rs) zero a l = (All-head (IsReg net) r rs a).at_least_one_bit
-wide_at net (r ∷ rs) (suc k) a l = wide_at net rs k (All-tail (IsReg net) r rs a) (omega (arith, l))
 
 module _ (net : Net) (w : IsNet net) (holds : Holds) (e : shape holds ≡ widths net) where
   first_wide : (r : ℕ) → r < length net.regs.items → 1 ≤ length (bits_at holds r)

@@ -35,12 +35,7 @@ use Rattle.mux_test.proofs.Flushing.{Rests}
 use Rattle.mux_test.proofs.Playing.{AreQuiet, quiet, finds_stuck, flushes_whole, data_as}
 use Rattle.mux_test.proofs.Preface.{preface_plays, preface_compares_nothing, preface_rests}
 use Rattle.mux_test.proofs.Testing.{all_branches, no_branches, not_empty, test_reached, test_unseen}
-
-captures_wide : (net : Net) (regs : List Reg) → All (IsReg net) regs → map (λ reg. length reg.capture.items) regs ≡ map (λ reg. reg.width) regs
-captures_wide net [] a = refl
-captures_wide net (r ∷ rs) a =
-    ap (λ n. n ∷ map (λ reg. length reg.capture.items) rs) (All-head (IsReg net) r rs a).captures
-    ∙ ap (λ ns. r.width ∷ ns) (captures_wide net rs (All-tail (IsReg net) r rs a))
+use Rattle.net_bench.proofs.Wide.{captures_wide}
 
 module _ (net : Net) (form : Items) (t : IsTestable net form) where
   abbrev start : Holds

@@ -9,3 +9,7 @@ pub mod Found
 pub mod Reading
 pub mod Texts
 pub mod Filed
+pub mod StuckPaths
+pub mod Judged
+pub mod Listing
+pub mod Planning

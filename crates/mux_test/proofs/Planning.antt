@@ -41,6 +41,7 @@ use Rattle.mux_test.specs.declared.planned.PlannedScan.{PlannedScan}
 use Rattle.mux_test.specs.Planned.{AreFlushable, ArePlannedTest, AreWritable, SeenPlanned, holds_after, last_planned, planned_flushes, row_planned, seen_planned}
 use Rattle.mux_test.specs.Test.{branches, scanned, tested_from}
 use Rattle.mux_test.proofs.Testing.{all_branches}
+use Rattle.scan_packer.proofs.Held.{plan_held}
 
 -- ---- more scans behind some
 
@@ -102,14 +103,9 @@ pub as_long : (net : Net) (form : Items) (scans : List PlannedScan) → ArePlann
 as_long net form scans p =
     sym (length-map scans seen_planned) ∙ sym (after-length (start_holds net) (map seen_planned scans)) ∙ ap length p.after
 
--- the bits that a scan writes are there
-pub scan_held : (net : Net) (h : Holds) (p : SeenGroup) → CanScan net h p → All (λ w. IsHeld h w.bit) p.writes
-scan_held net h p (path, e, can) =
-    All-weaker (λ (w : WriteBit). IsBitOf net w.bit) (λ (w : WriteBit). IsHeld h w.bit) (λ w b. is_held net h w.bit can.widths b) p.writes can.writes
-
 pub row_writable : (net : Net) (b : Branch) (first : Bool) (h : Holds) (ps : List SeenGroup) → AreFlushable net h (row_planned b first ps) → AreWritable h ps
 row_writable net b first h [] a = tt
-row_writable net b first h (p ∷ ps) a = (scan_held net h p a.1, row_writable net b false (write_all h p.writes) ps a.2)
+row_writable net b first h (p ∷ ps) a = (plan_held net h p a.1, row_writable net b false (write_all h p.writes) ps a.2)
 
 module _ (net : Net) (form : Items) (b : Branch) where
   module _ (h : Holds) (c : CanOpenRow net form b h) where

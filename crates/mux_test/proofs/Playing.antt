@@ -38,16 +38,7 @@ use Rattle.net_bench.proofs.Splitting.{play-append, compares_from-append}
 use Rattle.mux_test.specs.Seen.{begins, is_seen}
 use Rattle.mux_test.specs.Test.{flush, flushes}
 use Rattle.mux_test.proofs.Flushing.{Rests, found, none, rests_on, holds_on, idle_on, insts_on}
-
--- ---- the compares of two parts of a play
-
-pub differing-both : (cs ds : List Compare) → differing (cs ++ ds) ≡ differing cs ++ differing ds
-differing-both [] ds = refl
-differing-both (c ∷ cs) ds = by (same_bit c.expect c.found) (differing-both cs ds)
-  where
-    by : (b : Bool) → differing (cs ++ ds) ≡ differing cs ++ differing ds → cond b (differing (cs ++ ds)) (c ∷ differing (cs ++ ds)) ≡ cond b (differing cs) (c ∷ differing cs) ++ differing ds
-    by true e = e
-    by false e = ap (λ x. c ∷ x) e
+use Rattle.net_bench.proofs.Differing.{differing_both}
 
 -- ---- inputs that stay
 
@@ -150,7 +141,7 @@ module _ {L : Type 0} (chip : Chip L) (w : IsNet chip.net) (wide : capture_width
     pub compares_on : differing (compares_from chip scans (map SDR (flushes net s.holds (k ∷ ks))) s) ≡ differing (compares_from chip scans (SDR (flush net s.holds k) ∷ []) s) ++ differing (compares_from chip (scans + 1) rest (play_from chip scans (SDR (flush net s.holds k) ∷ []) s))
     compares_on =
         ap differing (compares_from-append chip (SDR (flush net s.holds k) ∷ []) rest scans s (flushes_whole net k ks) idle)
-        ∙ differing-both (compares_from chip scans (SDR (flush net s.holds k) ∷ []) s) _
+        ∙ differing_both (compares_from chip scans (SDR (flush net s.holds k) ∷ []) s) _
 
   -- ---- on the path that is meant
 

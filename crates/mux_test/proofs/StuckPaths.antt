@@ -73,9 +73,6 @@ no_row k (r ∷ rs) bits e = on (some_matches r.values.items bits) e (no_row (su
     on true f later = absurd (none-some k (sym f))
     on false f later = later f
 
-pub selects_none : (net : Net) (holds : Holds) (m : ℕ) → row_of net holds m ≡ None → mux_source net holds m ≡ None
-selects_none net holds m e = no_row 0 (rows_of net m) (select_value net holds m) e
-
 pub stuck_here : (net : Net) (b : Branch) (holds : Holds) (m : ℕ) → m ≡ b.mux → row_source net b ≡ stuck_source net b holds m
 stuck_here net b holds m e =
     ap (λ (t : Bool). elim t as (λ _. Option Point) [ true ↦ row_source net b | false ↦ mux_source net holds m ]) (sym (eq-eqb m b.mux e))
@@ -86,17 +83,6 @@ stuck_elsewhere net b holds m n = on (m == b.mux) (λ t. n (eqb-true m b.mux t))
     on : (t : Bool) → (t ≡ true → ⊥) → mux_source net holds m ≡ elim t as (λ _. Option Point) [ true ↦ row_source net b | false ↦ mux_source net holds m ]
     on true h = absurd (h refl)
     on false h = refl
-
-pub same_is : (a b : Point) → same_point a b ≡ true → a ≡ b
-same_is Entry Entry e = refl
-same_is Entry (Reg y) e = absurd (false≢true e)
-same_is Entry (FromMux y) e = absurd (false≢true e)
-same_is (Reg x) Entry e = absurd (false≢true e)
-same_is (Reg x) (Reg y) e = ap Reg (eqb-true x y e)
-same_is (Reg x) (FromMux y) e = absurd (false≢true e)
-same_is (FromMux x) Entry e = absurd (false≢true e)
-same_is (FromMux x) (Reg y) e = absurd (false≢true e)
-same_is (FromMux x) (FromMux y) e = ap FromMux (eqb-true x y e)
 
 -- ---- what is met next is there
 

@@ -32,6 +32,7 @@ use Rattle.path_planner.proofs.RowScans.{last-both, rows_are_scanned, unseen-bot
 use Rattle.path_planner.proofs.Step.{has_path, select_reg}
 use Rattle.mux_test.specs.Test.{branches, branches_from, row_branches, tested_from}
 use Rattle.mux_test.specs.Laws.{AreReached, IsTestable}
+use Rattle.net_bench.proofs.Wide.{wide_at}
 
 -- ---- a path isn't empty where there is a mux: the select bits of one that stands in no row are on it
 
@@ -43,11 +44,6 @@ some_select net (x ∷ xs) (suc m) a l = some_select net xs m (All-tail (IsMux n
 first_select : (xs : List BitId) → 1 ≤ length xs → (s : BitId) × Among s xs
 first_select [] h = absurd (omega (arith, h))
 first_select (x ∷ xs) h = (x, inl refl)
-
-some_width : (net : Net) (regs : List Reg) (r : ℕ) → All (IsReg net) regs → r < length regs → 1 ≤ get_or (map (λ reg. reg.width) regs) r 0
-some_width net [] r a l = absurd (omega (arith, l))
-some_width net (x ∷ xs) zero a l = (All-head (IsReg net) x xs a).at_least_one_bit
-some_width net (x ∷ xs) (suc r) a l = some_width net xs r (All-tail (IsReg net) x xs a) (omega (arith, l))
 
 long_enough : (path : List ℕ) (h : Holds) (r : ℕ) → Among r path → 1 ≤ length (bits_at h r) → 0 < length (chain path h)
 long_enough [] h r a l = absurd a
@@ -94,7 +90,7 @@ module _ (net : Net) (form : Items) (t : IsTestable net form) where
       let in_front : AreIn net h (place_of form (FromReg r)) = subst (AreIn net h) (sym free) (λ b a. absurd a) in
       let on = open_path net form t.describes h path r traced there in_front in
       let width : length (bits_at h r) ≡ get_or (map (λ reg. reg.width) net.regs.items) r 0 = length_at h r ∙ ap (λ ws. get_or ws r 0) s.widths in
-      let wide = some_width net net.regs.items r t.well_formed.regs there in
+      let wide = wide_at net net.regs.items r t.well_formed.regs there in
       subst (λ p. 0 < length (chain p h)) (ap (λ o. unwrap_or o []) (sym traced)) (long_enough path h r on (omega (arith, width, wide)))
 
   -- ---- the branches are rows of muxes

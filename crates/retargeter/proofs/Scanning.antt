@@ -26,12 +26,8 @@ use Rattle.path_planner.proofs.PlanSteps.{can_go_on}
 use Rattle.path_planner.proofs.Step.{selected}
 use Rattle.path_planner.proofs.Values.{select_there}
 use Rattle.scan_packer.specs.Packing.{CanScan}
+pub use Rattle.scan_packer.proofs.Held.{plan_held}
 use Rattle.retargeter.specs.Scanning.{CanScanAll}
-
--- the bits that a scan writes are there
-pub plan_held : (net : Net) (holds : Holds) (plan : SeenGroup) → CanScan net holds plan → All (λ w. IsHeld holds w.bit) plan.writes
-plan_held net holds plan (path, e, can) =
-    All-weaker (λ (w : WriteBit). IsBitOf net w.bit) (λ (w : WriteBit). IsHeld holds w.bit) (λ w b. is_held net holds w.bit can.widths b) plan.writes can.writes
 
 module _ (net : Net) (form : Items) (g : SeenGroup) where
   module _ (holds : Holds) (c : CanOpen net form g holds) where

@@ -1,5 +1,6 @@
 use Rattle.std.proofs.Common.{sym, ◌∙◌}
-use Rattle.mux_test.proofs.StuckPaths.{selected, selects_none}
+use Rattle.net_graph.proofs.Tracing.{source_of_none}
+use Rattle.mux_test.proofs.StuckPaths.{selected}
 use Rattle.mux_test.proofs.stuck.selected_source.Goals as goal
 
 pub row_source-requires : goal.row_source-requires
@@ -13,4 +14,4 @@ returns-in-Some c =
     c.row_source.ensures ∙ sym found.source
 
 pub returns-in-None : goal.returns-in-None
-returns-in-None c = sym (selects_none c.args.net.now c.args.holds.now c.args.mux (sym c.in-None.ensures))
+returns-in-None c = sym (source_of_none c.args.net.now c.args.holds.now c.args.mux (sym c.in-None.ensures))
