@@ -6,7 +6,7 @@ use Rattle.std.specs.Option.{option_map}
 use Rattle.ij_io.specs.Bytes.{Adds, AddsPart}
 use Rattle.ij_io.specs.Files.{Files, file_at, told_bytes}
 use Rattle.ij_io.specs.Pieces.{HoldsFront, HoldsPart, IsThere, with_piece}
-use Rattle.ij_io.proofs.Adding.{adds_as, adds_both, adds_front, adds_then_part, adds_none}
+use Rattle.ij_io.proofs.Adding.{adds_both, adds_then_part, adds_none}
 use Rattle.ij_io.proofs.Pieces.{all_held, first_piece, part_held, piece_adds}
 use Rattle.net_graph.specs.declared.device.Device.{Device}
 use Rattle.net_graph.specs.declared.net.Net.{Net}

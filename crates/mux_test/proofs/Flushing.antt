@@ -1,7 +1,7 @@
 -- One flush on a bench that rests with the link's instruction, whatever its path is.
-use Rattle.std.proofs.Common.{◌≡◌, ◌≢◌, ℕ, suc, ◌+◌, ◌<◌, ◌≤◌, Bool, true, false, List, [], ◌∷◌, ◌++◌, length, Option, Some, refl, sym, ap, ◌∙◌, subst, arith, length-append}
-use Rattle.std.specs.Prelude.{map, replicate}
-use Rattle.std.proofs.lemmas.List.{length-map, length-replicate}
+use Rattle.std.proofs.Common.{◌≡◌, ◌≢◌, ℕ, suc, ◌<◌, ◌≤◌, Bool, true, false, List, [], ◌∷◌, ◌++◌, length, Some, refl, sym, ap, ◌∙◌, subst, arith, length-append}
+use Rattle.std.specs.Prelude.{replicate}
+use Rattle.std.proofs.lemmas.List.{length-replicate}
 use Rattle.ij_bits.specs.BitLists.{bits_of}
 use Rattle.ij_bits.proofs.SameBits.{bits_same_self}
 use Rattle.instruments.specs.OnNetwork.{changes}
@@ -11,14 +11,14 @@ use Rattle.net_graph.specs.declared.net.Net.{Net}
 use Rattle.net_graph.specs.Nets.{IsNet}
 use Rattle.net_graph.specs.Path.{route_of}
 use Rattle.net_graph.specs.Signals.{Holds}
-use Rattle.net_graph.proofs.Routes.{route_is, route_in}
+use Rattle.net_graph.proofs.Routes.{route_in}
 use Rattle.net_graph.proofs.Shapes.{shape, widths, capture_widths, length-chain_same}
 use Rattle.net_graph.proofs.Steps.{DifferOn, put_chain-to}
 use Rattle.net_graph.proofs.Widths.{as_many_held, chain_fits}
 use Rattle.svf_writer.specs.SeenCommands.{SDR, SeenScan}
 use Rattle.tap_machine.specs.declared.Stable.TheVariants.{Idle as InIdle}
 use Rattle.tap_machine.specs.declared.TapState.TheVariants.{RunTestIdle}
-use Rattle.tap_machine.specs.Play.{masked, no_scan, pins, played}
+use Rattle.tap_machine.specs.Play.{masked, pins}
 use Rattle.net_bench.specs.Bench.{Chip, State, select_of}
 use Rattle.net_bench.specs.Instruction.{Selected, Network, Identity, Bypass, selected, selects_identity}
 use Rattle.net_bench.specs.Laws.{Ready, captured, exchanged}

@@ -1,17 +1,14 @@
 -- The test of a network's muxes: on the bench it is quiet, and a stuck mux that is seen is found.
-use Rattle.std.proofs.Common.{◌≡◌, ⊎_elim, ℕ, ◌+◌, ◌<◌, ◌≤◌, true, false, List, [], ◌∷◌, ◌++◌, length, refl, sym, ap, ◌∙◌, subst, arith, length-append}
-use Rattle.std.specs.Prelude.{map, All}
+use Rattle.std.proofs.Common.{◌≡◌, ⊎_elim, ℕ, ◌<◌, ◌≤◌, true, List, [], ◌++◌, length, refl, sym, ap, ◌∙◌, subst, arith}
+use Rattle.std.specs.Prelude.{map}
 use Rattle.std.specs.List.{flat_map}
 use Rattle.std.proofs.lemmas.Bool.{cases_lt, true≢false}
-use Rattle.std.proofs.lemmas.List.Elements.{All-head, All-tail}
-use Rattle.instruments.specs.Machine.{Event, Log, Machine, whole_log}
+use Rattle.instruments.specs.Machine.{Log, Machine, whole_log}
 use Rattle.net_graph.specs.declared.branch.Branch.{Branch}
 use Rattle.net_graph.specs.declared.device.Device.{Device}
 use Rattle.net_graph.specs.declared.net.Net.{Net}
-use Rattle.net_graph.specs.declared.net.Reg.{Reg}
 use Rattle.net_graph.specs.Devices.{IsDevice}
-use Rattle.net_graph.specs.Nets.{IsReg}
-use Rattle.net_graph.specs.Path.{is_select, route_of}
+use Rattle.net_graph.specs.Path.{route_of}
 use Rattle.net_graph.specs.Resets.{start_holds}
 use Rattle.net_graph.specs.Signals.{Holds, hold_at}
 use Rattle.net_graph.proofs.Routes.{route_is}

@@ -22,7 +22,7 @@ use Rattle.net_graph.specs.Stuck.{stuck_route}
 use Rattle.mux_test.specs.declared.judge.JudgedRow.{JudgedRow}
 use Rattle.mux_test.specs.declared.judge.Verdict.{Verdict}
 use Rattle.mux_test.specs.declared.judge.Verdict.TheVariants.{Open, Seen, Unseen}
-use Rattle.mux_test.specs.Judged.{judge, judged_row, judged_rows, verdict_of, open_row, is_untold, untold_rows, unseen_rows}
+use Rattle.mux_test.specs.Judged.{judged_row, judged_rows, verdict_of, open_row, is_untold, untold_rows, unseen_rows}
 use Rattle.mux_test.specs.Seen.{begins, is_seen}
 use Rattle.mux_test.specs.declared.planned.PlannedScan.{PlannedScan}
 use Rattle.mux_test.specs.Planned.{AreFlushable, holds_after, seen_planned}

@@ -1,24 +1,21 @@
 -- Scans that are planned row by row are those of the test.
 use Rattle.std.proofs.Common.{◌≡◌, ℕ, suc, ◌+◌, ◌<◌, ◌≤◌, Bool, true, false, List, [], ◌∷◌, ◌++◌, length, drop, get_or, refl, sym, ap, ◌∙◌, subst, arith, length-append, append_assoc}
-use Rattle.std.specs.Prelude.{All, map, reverse, IsTrue}
+use Rattle.std.specs.Prelude.{All, map, IsTrue}
 use Rattle.std.specs.List.{flat_map}
 use Rattle.std.proofs.lemmas.List.{append-nil, drop_more, length-map}
-use Rattle.std.proofs.lemmas.List.Elements.{All-nil, All-weaker}
+use Rattle.std.proofs.lemmas.List.Elements.{All-nil}
 use Rattle.ij_bits.specs.Different.{AreDifferent}
 use Rattle.net_graph.specs.declared.branch.Branch.{Branch}
 use Rattle.net_graph.specs.declared.net.BitId.{BitId}
 use Rattle.net_graph.specs.declared.net.Net.{Net}
 use Rattle.net_graph.specs.declared.step.ReadBit.{ReadBit}
 use Rattle.net_graph.specs.declared.step.WriteBit.{WriteBit}
-use Rattle.net_graph.specs.Held.{IsHeld}
 use Rattle.net_graph.specs.Named.{IsBitOf}
-use Rattle.net_graph.specs.Nets.{IsNet}
 use Rattle.net_graph.specs.Path.{is_select, select_bits}
 use Rattle.net_graph.specs.Resets.{start_holds}
 use Rattle.net_graph.specs.SeenSteps.{SeenGroup}
 use Rattle.net_graph.specs.Signals.{Holds}
 use Rattle.net_graph.specs.Writes.{write_all}
-use Rattle.net_graph.proofs.Selecting.{is_held}
 use Rattle.net_tree.specs.declared.plan.ScanPlan.{ScanPlan}
 use Rattle.net_tree.specs.Form.{Items}
 use Rattle.net_tree.specs.ScanPlans.{seen_plan}

@@ -1,17 +1,15 @@
 -- Flushes, one behind the other, on a bench without faults and on one with a stuck mux.
-use Rattle.std.proofs.Common.{◌≡◌, ◌≢◌, ⊎_elim, ℕ, suc, ◌+◌, ◌<◌, ◌≤◌, Bool, true, false, List, [], ◌∷◌, ◌++◌, length, refl, sym, ap, ◌∙◌, subst, arith, length-append}
-use Rattle.std.specs.Prelude.{map, All, cond, get_or, not, ◌==◌, Contains, unwrap_or}
+use Rattle.std.proofs.Common.{◌≡◌, ◌≢◌, ⊎_elim, ℕ, ◌+◌, ◌<◌, ◌≤◌, Bool, true, false, List, [], ◌∷◌, ◌++◌, length, refl, sym, ap, ◌∙◌, subst, arith, length-append}
+use Rattle.std.specs.Prelude.{map, All, get_or, not, ◌==◌, Contains, unwrap_or}
 use Rattle.std.specs.Str.{bytes_eq as same_registers}
 use Rattle.std.proofs.lemmas.Bool.{cases_Bool, true≢false, eq-eqb}
 use Rattle.std.proofs.lemmas.List.Elements.{All-head, All-tail}
 use Rattle.std.proofs.lemmas.Slice.Eq.{bytes_eq-Decides}
-use Rattle.ij_bits.specs.BitLists.{same_bit, number_of}
+use Rattle.ij_bits.specs.BitLists.{number_of}
 use Rattle.instruments.proofs.Changing.{changes_none}
-use Rattle.instruments.specs.Machine.{Machine}
-use Rattle.instruments.specs.OnNetwork.{changes, inputs_at, port_numbers}
+use Rattle.instruments.specs.OnNetwork.{inputs_at, port_numbers}
 use Rattle.net_graph.specs.Chain.{IsRoute, chain}
 use Rattle.net_graph.specs.declared.branch.Branch.{Branch}
-use Rattle.net_graph.specs.declared.device.Device.{Device}
 use Rattle.net_graph.specs.declared.net.BitId.{BitId}
 use Rattle.net_graph.specs.declared.net.Inst.{Inst}
 use Rattle.net_graph.specs.declared.net.Net.{Net}
@@ -22,15 +20,13 @@ use Rattle.net_graph.specs.Path.{is_select, route_of}
 use Rattle.net_graph.specs.Signals.{Holds, Outputs, hold_at, signal}
 use Rattle.net_graph.specs.Stuck.{stuck_route}
 use Rattle.net_graph.proofs.Placing.{not_contained}
-use Rattle.net_graph.proofs.Routes.{route_is}
 use Rattle.net_graph.proofs.Shapes.{capture_widths, widths}
 use Rattle.net_graph.proofs.Steps.{DifferOn}
-use Rattle.net_graph.proofs.Stuck.{stuck_route_is}
 use Rattle.path_planner.specs.Opening.{InputsStay, IsUnseen, AreUnseen, last_holds}
 use Rattle.path_planner.specs.Scannable.{IsScannable}
-use Rattle.svf_writer.specs.SeenCommands.{SDR, SeenCommand, SeenScan}
+use Rattle.svf_writer.specs.SeenCommands.{SDR, SeenCommand}
 use Rattle.tap_machine.specs.declared.Stable.TheVariants.{Idle as InIdle}
-use Rattle.tap_machine.specs.Play.{AreWhole, rests_after, scans_in}
+use Rattle.tap_machine.specs.Play.{AreWhole}
 use Rattle.net_bench.specs.Bench.{Chip, State}
 use Rattle.net_bench.specs.Playing.{Compare, compares_from, differing, play_from, resting}
 use Rattle.net_bench.proofs.Commanding.{rests_idle}

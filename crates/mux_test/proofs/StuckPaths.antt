@@ -2,12 +2,12 @@
 use Rattle.std.proofs.Common.{◌≡◌, ◌⊎◌, inl, inr, ℕ, zero, suc, ◌+◌, ◌-◌, ◌<◌, ◌≤◌, ◌≢◌, Bool, true, false, List, [], ◌∷◌, ◌++◌, length, get_or, Option, Some, None, refl, sym, ap, ◌∙◌, subst, arith, length-append}
 use Rattle.std.specs.Prelude.{map, All, option_map, ◌==◌, unwrap_or, slice_set}
 use Rattle.std.specs.List.{slice_get}
-use Rattle.std.specs.Option.{option_and_then, ForSome}
-use Rattle.std.proofs.lemmas.Bool.{cases_eq, eq-eqb, eqb-true, false≢true, true≢false}
-use Rattle.std.proofs.lemmas.List.{append_assoc, append-nil, get_or-map, get_or-set_same, get_or-set_other, length-set, length-map}
+use Rattle.std.specs.Option.{option_and_then}
+use Rattle.std.proofs.lemmas.Bool.{cases_eq, eq-eqb, eqb-true, true≢false}
+use Rattle.std.proofs.lemmas.List.{append_assoc, append-nil, get_or-map, get_or-set_same, get_or-set_other, length-set}
 use Rattle.std.proofs.lemmas.List.Elements.{All-head, All-tail}
 use Rattle.std.proofs.lemmas.Option.{same_Some, none-some}
-use Rattle.ij_bits.proofs.Lists.{map_some, then_some}
+use Rattle.ij_bits.proofs.Lists.{map_some}
 use Rattle.net_graph.specs.Chain.{NotIn, IsRoute}
 use Rattle.net_graph.specs.declared.branch.Branch.{Branch}
 use Rattle.net_graph.specs.declared.net.Mux.{Mux}
@@ -20,11 +20,9 @@ use Rattle.net_graph.specs.Named.{IsPointOf}
 use Rattle.net_graph.specs.Nets.{IsNet}
 use Rattle.net_graph.specs.Path.{reg_source, rows_of, row_from, row_of, select_value, mux_source}
 use Rattle.net_graph.specs.Signals.{Holds, row_point, some_matches}
-use Rattle.net_graph.specs.Stuck.{trace_by, row_source, stuck_source, stuck_route}
+use Rattle.net_graph.specs.Stuck.{trace_by, row_source, stuck_source}
 use Rattle.net_graph.specs.Tracing.{registers_at}
-use Rattle.net_graph.proofs.Stuck.{stuck_route_is}
 use Rattle.net_graph.proofs.Tracing.{before_is_point, mux_points, route_fits}
-use Rattle.net_tree.specs.Places.{same_point}
 use Rattle.path_planner.specs.Planning.{IsBranchOf}
 use Rattle.mux_test.specs.Steps.{HasMark, before, marked, source_of}
 

@@ -1,9 +1,9 @@
 -- The whole test: its scans can be done one after the other, and each goes through a path that isn't empty.
-use Rattle.std.proofs.Common.{◌≡◌, ◌⊎◌, inl, inr, ⊎_elim, ℕ, zero, suc, ◌+◌, ◌<◌, ◌≤◌, List, [], ◌∷◌, ◌++◌, length, get_or, refl, sym, ap, ◌∙◌, subst, arith, length-append, append_assoc}
+use Rattle.std.proofs.Common.{◌≡◌, inl, ⊎_elim, ℕ, zero, suc, ◌+◌, ◌<◌, ◌≤◌, List, [], ◌∷◌, ◌++◌, length, get_or, refl, sym, ap, ◌∙◌, subst, arith, length-append, append_assoc}
 use Rattle.std.specs.Prelude.{map, take, All, Contains, unwrap_or}
 use Rattle.std.specs.List.{flat_map}
 use Rattle.std.proofs.Math.Seq.{get_or-append_seam}
-use Rattle.std.proofs.lemmas.List.{get_or-map, length-map}
+use Rattle.std.proofs.lemmas.List.{get_or-map}
 use Rattle.std.proofs.lemmas.List.Elements.{All-nil, All-cons, All-append, All-head, All-tail}
 use Rattle.net_graph.specs.Chain.{chain}
 use Rattle.net_graph.specs.declared.branch.Branch.{Branch}
@@ -11,9 +11,8 @@ use Rattle.net_graph.specs.declared.net.BitId.{BitId}
 use Rattle.net_graph.specs.declared.net.Mux.{Mux}
 use Rattle.net_graph.specs.declared.net.Net.{Net}
 use Rattle.net_graph.specs.declared.net.Point.TheVariants.{Reg as FromReg, Mux as FromMux}
-use Rattle.net_graph.specs.declared.net.Reg.{Reg}
 use Rattle.net_graph.specs.declared.net.Row.{Row}
-use Rattle.net_graph.specs.Nets.{IsMux, IsNet, IsReg}
+use Rattle.net_graph.specs.Nets.{IsMux}
 use Rattle.net_graph.specs.MuxesMet.{active_muxes}
 use Rattle.net_graph.specs.Path.{route_of, row_of, rows_of}
 use Rattle.net_graph.specs.Signals.{Holds, bits_at}

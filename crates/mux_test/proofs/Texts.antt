@@ -1,9 +1,8 @@
 -- The text of a test is that of its scans, one after the other.
-use Rattle.std.proofs.Common.{◌≡◌, ℕ, zero, suc, Bool, true, false, List, [], ◌∷◌, ◌++◌, length, refl, sym, ap, ◌∙◌, subst, append_assoc}
-use Rattle.std.specs.Prelude.{◌<◌, filter, map, not, All}
-use Rattle.std.proofs.lemmas.List.Elements.{All-nil, All-cons, All-append, All-head, All-tail}
+use Rattle.std.proofs.Common.{◌≡◌, ℕ, zero, suc, Bool, true, false, List, [], ◌∷◌, ◌++◌, length, refl, sym, ap, ◌∙◌, append_assoc}
+use Rattle.std.specs.Prelude.{◌<◌, map, not, All}
+use Rattle.std.proofs.lemmas.List.Elements.{All-nil, All-cons, All-append, All-filter, All-head, All-tail, All-weaker}
 use Rattle.net_graph.specs.declared.branch.Branch.{Branch}
-use Rattle.net_graph.specs.declared.device.Device.{Device}
 use Rattle.net_graph.specs.declared.net.Net.{Net}
 use Rattle.net_graph.specs.Held.{AreHolds}
 use Rattle.net_graph.specs.Nets.{IsNet}
@@ -21,11 +20,11 @@ use Rattle.path_planner.proofs.Starting.{start_scannable}
 use Rattle.svf_writer.specs.RowMarks.{row_mark}
 use Rattle.svf_writer.specs.SeenCommands.{SDR}
 use Rattle.svf_writer.specs.Written.{preface, text_of, texts_of}
-use Rattle.mux_test.specs.Flushes.{SeenTestScan, row_flushes, rows_flushes, test_scans}
+use Rattle.mux_test.specs.Flushes.{SeenTestScan, row_flushes, rows_flushes}
 use Rattle.mux_test.specs.Laws.{IsTestable}
-use Rattle.mux_test.specs.Seen.{is_seen_in_test}
-use Rattle.mux_test.specs.Test.{TestedRow, branches, flush, flushes, rows_text, tested_from}
-use Rattle.mux_test.specs.Texts.{CanWrite, IsTheText, ScansMakeTheText, scan_text, scans_text}
+use Rattle.mux_test.specs.Seen.{is_seen_in_test, unseen}
+use Rattle.mux_test.specs.Test.{branches, flush, flushes, rows_text, tested_from}
+use Rattle.mux_test.specs.Texts.{CanWrite, ScansMakeTheText, scan_text, scans_text}
 use Rattle.mux_test.proofs.Reading.{flush_given}
 use Rattle.mux_test.proofs.Testing.{all_branches}
 
@@ -87,19 +86,15 @@ rows_can net form t h (b ∷ bs) a s =
 
 -- ---- the muxes of unseen rows are there
 
-picked_there : (net : Net) (pick : Branch → Bool) (bs : List Branch) → All (IsBranchOf net) bs → All (λ b. b.mux < length net.muxes.items) (filter pick bs)
-picked_there net pick [] a = All-nil (λ (b : Branch). b.mux < length net.muxes.items)
-picked_there net pick (b ∷ bs) a =
-    by (pick b) (picked_there net pick bs (All-tail (IsBranchOf net) b bs a)) (All-head (IsBranchOf net) b bs a).mux
-  where
-    by : (p : Bool) → All (λ (c : Branch). c.mux < length net.muxes.items) (filter pick bs) → b.mux < length net.muxes.items → All (λ (c : Branch). c.mux < length net.muxes.items) (elim p [ true ↦ b ∷ filter pick bs | false ↦ filter pick bs ])
-    by true more here = All-cons (λ (c : Branch). c.mux < length net.muxes.items) b (filter pick bs) here more
-    by false more here = more
+unseen_there : (net : Net) (form : Items) → IsTestable net form → All (λ b. b.mux < length net.muxes.items) (unseen net form)
+unseen_there net form t =
+    All-weaker (IsBranchOf net) (λ (b : Branch). b.mux < length net.muxes.items) (λ b there. there.mux) (unseen net form)
+    (All-filter (λ b. not (is_seen_in_test net form b)) (IsBranchOf net) (branches net) (all_branches net form t))
 
 pub scans_make_the_text : ScansMakeTheText
 scans_make_the_text net form t =
     record {
       can = rows_can net form t (start_holds net) (branches net) (all_branches net form t) (start_scannable net form t.lawful);
-      there = picked_there net (λ b. not (is_seen_in_test net form b)) (branches net) (all_branches net form t);
+      there = unseen_there net form t;
       text = λ device. ap (λ l. preface device ++ l) (rows_are net form (start_holds net) (branches net));
     }

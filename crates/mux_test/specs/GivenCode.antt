@@ -1,5 +1,5 @@
 -- A code for mux tests as contracts see them, so that a struct may have one as its value.
-use Rattle.std.specs.Prelude.{◌≡◌, ℕ, Bool, List, refl}
+use Rattle.std.specs.Prelude.{ℕ, Bool, List, refl}
 use Rattle.std.specs.Coded.{Coded, code_by, coded×, coded_ℕ, coded_bool, coded_list}
 use Rattle.net_graph.specs.declared.branch.Branch.{Branch}
 use Rattle.svf_writer.specs.SeenCode.{command_code}

@@ -1,4 +1,3 @@
-use Rattle.std.proofs.Common.{sym, subst}
 use Rattle.mux_test.proofs.Judged.{all_judged, next_can, next_judged}
 use Rattle.mux_test.proofs.judge.judge_scans.Goals as goal
 

@@ -1,5 +1,5 @@
 -- What is left to judge leads to what the whole test says.
-use Rattle.std.proofs.Common.{◌≡◌, drop, List}
+use Rattle.std.proofs.Common.{◌≡◌, drop}
 use Rattle.std.specs.Prelude.{map, All}
 use Rattle.net_graph.specs.Resets.{start_holds}
 use Rattle.path_planner.specs.Planning.{IsBranchOf}

@@ -1,9 +1,8 @@
-use Rattle.std.proofs.Common.{◌≡◌, ◌<◌, ℕ, List, length, sym, ap, subst, arith, ◌∙◌}
+use Rattle.std.proofs.Common.{◌≡◌, List, length, sym, ap, subst, arith}
 use Rattle.std.specs.Prelude.{map}
-use Rattle.net_graph.specs.declared.branch.Branch.{Branch}
 use Rattle.mux_test.specs.declared.planned.PlannedScan.{PlannedScan}
 use Rattle.mux_test.specs.Planned.{seen_planned}
-use Rattle.mux_test.specs.Test.{branches, scanned}
+use Rattle.mux_test.specs.Test.{branches}
 use Rattle.mux_test.proofs.Planning.{IsOnTheWay, at_start, can_open, can_start, can_write, next_length, next_row, test_has}
 use Rattle.mux_test.proofs.planned.plan_test.Goals as goal
 

@@ -1,4 +1,4 @@
-use Rattle.std.proofs.Common.{◌≡◌, ◌≤◌, List, length, sym, ap, ◌∙◌, subst, arith}
+use Rattle.std.proofs.Common.{List, length, sym, ap, ◌∙◌, subst, arith}
 use Rattle.std.specs.Prelude.{map, All}
 use Rattle.net_graph.specs.declared.branch.Branch.{Branch}
 use Rattle.net_graph.specs.Resets.{start_holds}
@@ -7,7 +7,7 @@ use Rattle.mux_test.specs.declared.planned.PlannedScan.{PlannedScan}
 use Rattle.mux_test.specs.Judged.{unseen_rows}
 use Rattle.mux_test.specs.Planned.{holds_after, seen_planned}
 use Rattle.mux_test.specs.Seen.{begins}
-use Rattle.mux_test.specs.Test.{branches, scanned}
+use Rattle.mux_test.specs.Test.{branches}
 use Rattle.mux_test.proofs.Planning.{as_long}
 use Rattle.mux_test.proofs.Testing.{all_branches}
 use Rattle.mux_test.proofs.test.MuxTest.new.Goals as goal
