@@ -13,6 +13,8 @@ mod icl_printed;
 #[cfg(test)]
 mod icl_tokens;
 #[cfg(test)]
+mod mux_tests;
+#[cfg(test)]
 mod nested_forms;
 mod network_texts;
 #[cfg(test)]

@@ -66,7 +66,7 @@ module _ (net : Net) where
       on (same_registers (route_of net h) (stuck_route net b h)) (length (chain (route_of net h) h) == length (chain (stuck_route net b h) h)) (from_open hs b)
     where
       on : (s t : Bool) → is_untold (judged hs (open_row b)) ≡ not (is_seen net b hs)
-        → is_untold (judged hs (record { branch = b; verdict = elim s as (λ _. Verdict) [ true ↦ Open | false ↦ elim t as (λ _. Verdict) [ true ↦ Unseen | false ↦ Seen ] ] })) ≡ not (elim s as (λ _. Bool) [ true ↦ is_seen net b hs | false ↦ not t ])
+          → is_untold (judged hs (record { branch = b; verdict = elim s as (λ _. Verdict) [ true ↦ Open | false ↦ elim t as (λ _. Verdict) [ true ↦ Unseen | false ↦ Seen ] ] })) ≡ not (elim s as (λ _. Bool) [ true ↦ is_seen net b hs | false ↦ not t ])
       on true t later = later
       on false true later = unseen_stays hs b
       on false false later = seen_stays hs b
@@ -80,7 +80,7 @@ module _ (net : Net) where
       ∙ on (not (is_seen net b hs)) (judged_is bs hs)
     where
       on : (t : Bool) → untold_rows (judged_rows net hs (map open_row bs)) ≡ unseen_rows net bs hs
-        → map (λ r. r.branch) (cond t (judged hs (open_row b) ∷ filter is_untold (judged_rows net hs (map open_row bs))) (filter is_untold (judged_rows net hs (map open_row bs)))) ≡ cond t (b ∷ unseen_rows net bs hs) (unseen_rows net bs hs)
+          → map (λ r. r.branch) (cond t (judged hs (open_row b) ∷ filter is_untold (judged_rows net hs (map open_row bs))) (filter is_untold (judged_rows net hs (map open_row bs)))) ≡ cond t (b ∷ unseen_rows net bs hs) (unseen_rows net bs hs)
       on true later = ap (λ x. x ∷ untold_rows (judged_rows net hs (map open_row bs))) (same_branch hs (open_row b)) ∙ ap (λ xs. b ∷ xs) later
       on false later = later
 

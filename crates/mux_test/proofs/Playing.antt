@@ -92,7 +92,6 @@ module _ {L : Type 0} (chip : Chip L) where
     pub insts : (play_from chip scans (map SDR (flushes chip.net h hs)) s).insts ≡ s.insts
     pub none : differing (compares_from chip scans (map SDR (flushes chip.net h hs)) s) ≡ []
 
-
 module _ {L : Type 0} (chip : Chip L) (w : IsNet chip.net) (wide : capture_widths chip.net ≡ widths chip.net) (routes : (h : Holds) → IsRoute (length chip.net.regs.items) (chip.path h)) (some_bits : (h : Holds) → IsScannable chip.net h → 0 < length (chain (route_of chip.net h) h)) where
   abbrev net : Net
   net = chip.net
@@ -179,11 +178,11 @@ module _ {L : Type 0} (chip : Chip L) (w : IsNet chip.net) (wide : capture_width
         let s1 = play_from chip scans (SDR (flush net h k) ∷ []) s in
         let ask : Bool → Bool = λ t. elim t as (λ _. Bool) [ true ↦ is_seen net b (begins k ks) | false ↦ not (length (chain own h) == length (chain other h)) ] in
         ⊎_elim (λ t. let alike : own ≡ other = (bytes_eq-Decides own other).0 t in
-            let meant : chip.path h ≡ own = is_stuck h ∙ sym alike in
-            let r1 = next_rests scans s r g k u.0 meant in
-            let e1 = next_holds scans s r g k u.0 meant in
-            let idle = rests_idle s1 r1.idle in
-            let later = finds_stuck ks (scans + 1) s1 r1 (next_scannable scans s r g k u.0 meant) (subst (λ z. AreUnseen net z ks) (sym e1) u.1) (subst (λ x. is_seen net b (begins x ks) ≡ true) (sym e1) (sym (ap ask t) ∙ z)) in
-            subst (λ cs. 1 ≤ length cs) (sym (compares_on scans s k ks idle)) (more_right (differing (compares_from chip scans (SDR (flush net h k) ∷ []) s)) _ (subst (λ x. 1 ≤ length (differing (compares_from chip (scans + 1) (map SDR (flushes net x ks)) s1))) e1 later))) (λ t. let other_length : length (chain other h) ≢ length (chain own h) = lengths_differ own other h (sym (ap ask t) ∙ z) in
-            let idle = idle_on chip w wide scans s r k u.0.scan.shape (routes h) (some_bits h g) in
-            subst (λ cs. 1 ≤ length cs) (sym (compares_on scans s k ks idle)) (more_left _ _ (found chip w wide scans s r k u.0.scan.shape (routes h) (some_bits h g) (λ e. other_length (ap (λ p. length (chain p h)) (sym (is_stuck h)) ∙ e))))) (cases_Bool (same_registers own other))
+        let meant : chip.path h ≡ own = is_stuck h ∙ sym alike in
+        let r1 = next_rests scans s r g k u.0 meant in
+        let e1 = next_holds scans s r g k u.0 meant in
+        let idle = rests_idle s1 r1.idle in
+        let later = finds_stuck ks (scans + 1) s1 r1 (next_scannable scans s r g k u.0 meant) (subst (λ z. AreUnseen net z ks) (sym e1) u.1) (subst (λ x. is_seen net b (begins x ks) ≡ true) (sym e1) (sym (ap ask t) ∙ z)) in
+        subst (λ cs. 1 ≤ length cs) (sym (compares_on scans s k ks idle)) (more_right (differing (compares_from chip scans (SDR (flush net h k) ∷ []) s)) _ (subst (λ x. 1 ≤ length (differing (compares_from chip (scans + 1) (map SDR (flushes net x ks)) s1))) e1 later))) (λ t. let other_length : length (chain other h) ≢ length (chain own h) = lengths_differ own other h (sym (ap ask t) ∙ z) in
+        let idle = idle_on chip w wide scans s r k u.0.scan.shape (routes h) (some_bits h g) in
+        subst (λ cs. 1 ≤ length cs) (sym (compares_on scans s k ks idle)) (more_left _ _ (found chip w wide scans s r k u.0.scan.shape (routes h) (some_bits h g) (λ e. other_length (ap (λ p. length (chain p h)) (sym (is_stuck h)) ∙ e))))) (cases_Bool (same_registers own other))

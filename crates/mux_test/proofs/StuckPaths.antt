@@ -48,8 +48,8 @@ row_found k [] bits q e = absurd (none-some q e)
 row_found k (r ∷ rs) bits q e = on (some_matches r.values.items bits) e (row_found (suc k) rs bits q)
   where
     on : (t : Bool) → elim t as (λ _. Option ℕ) [ true ↦ Some k | false ↦ row_from (suc k) rs bits ] ≡ Some q
-      → (row_from (suc k) rs bits ≡ Some q → (i : ℕ) × (suc k + i ≡ q) × (i < length rs) × (row_point rs bits ≡ slice_get (map (λ r. r.from) rs) i))
-      → (i : ℕ) × (k + i ≡ q) × (i < length (r ∷ rs)) × (elim t as (λ _. Option Point) [ true ↦ Some r.from | false ↦ row_point rs bits ] ≡ slice_get (map (λ r. r.from) (r ∷ rs)) i)
+        → (row_from (suc k) rs bits ≡ Some q → (i : ℕ) × (suc k + i ≡ q) × (i < length rs) × (row_point rs bits ≡ slice_get (map (λ r. r.from) rs) i))
+        → (i : ℕ) × (k + i ≡ q) × (i < length (r ∷ rs)) × (elim t as (λ _. Option Point) [ true ↦ Some r.from | false ↦ row_point rs bits ] ≡ slice_get (map (λ r. r.from) (r ∷ rs)) i)
     on true f later = (0, (let s : k ≡ q = same_Some k q f in omega (arith, s)), omega arith, refl)
     on false f later = let (i, s, l, p) = later f in (suc i, omega (arith, s), omega (arith, l), p)
 
@@ -140,9 +140,9 @@ module _ (net : Net) (source : ℕ → Option Point) where
       let n = moves net - (i + 1) in
       let z : moves net - i ≡ suc n = omega (arith, l) in
       subst (IsTracedBy n q) (sym a) (
-        subst (λ k. IsTracedBy k p met) z t
-        ∙ ap (option_map (λ rs. met ++ rs)) (by_step n p ∙ ap (option_and_then (λ x. option_map (λ rs. registers_at p ++ rs) (trace_by net source n x))) (sym e))
-        ∙ map_twice met (registers_at p) (trace_by net source n q)
+      subst (λ k. IsTracedBy k p met) z t
+      ∙ ap (option_map (λ rs. met ++ rs)) (by_step n p ∙ ap (option_and_then (λ x. option_map (λ rs. registers_at p ++ rs) (trace_by net source n x))) (sym e))
+      ∙ map_twice met (registers_at p) (trace_by net source n q)
       )
 
   empty : (n : ℕ) (p : Point) (met : List ℕ) → trace_by net source n p ≡ None → IsTracedBy n p met → [] ≡ route

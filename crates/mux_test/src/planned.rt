@@ -51,7 +51,11 @@ pub(crate) fn branches_of(alloc: Global, net: &Net) -> Result<List<Branch>, OutO
 {
     let mut branches = List::new(alloc);
     for mux in 0..net.muxes.len() {
-        push_rows(mux as u32, net.muxes.get(mux).rows.as_slice(), &mut branches)?;
+        push_rows(
+            mux as u32,
+            net.muxes.get(mux).rows.as_slice(),
+            &mut branches,
+        )?;
     }
     Ok(branches)
 }

@@ -100,9 +100,7 @@ fn flush_of(
     let mut tdi = Bits::with_room(alloc, FLUSH_BITS)?;
     let mut tdo = Bits::with_room(alloc, FLUSH_BITS)?;
     let mut mask = Bits::with_room(alloc, FLUSH_BITS)?;
-    pack_flush(
-        net, tree, holds, plan, route, &mut tdi, &mut tdo, &mut mask,
-    );
+    pack_flush(net, tree, holds, plan, route, &mut tdi, &mut tdo, &mut mask);
     Ok(Command::Sdr(Scan {
         len: tdi.len(),
         tdi: Part::of_bits(alloc, tdi)?,

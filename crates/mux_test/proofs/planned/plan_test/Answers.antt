@@ -6,7 +6,6 @@ use Rattle.mux_test.specs.Test.{branches}
 use Rattle.mux_test.proofs.Planning.{IsOnTheWay, at_start, can_open, can_start, can_write, next_length, next_row, test_has}
 use Rattle.mux_test.proofs.planned.plan_test.Goals as goal
 
-
 pub loop-branch-init : goal.loop-branch-init
 loop-branch-init c =
     let net = c.args.net.now in
