@@ -20,7 +20,9 @@ STAGES = {
     # a file that isn't written is no refusal, but `write fault`
     'StoreFault': None,
     # they hold the refusals of the others
-    'StepFault': None, 'StageFault': None}
+    'StepFault': None, 'StageFault': None,
+    # of a test that no command makes yet
+    'MuxFault': None}
 
 # what no text can bring about
 PASSED_OVER = {
