@@ -2,7 +2,7 @@
 use Rattle.std.proofs.Common.{◌≡◌, ℕ, suc, ◌+◌, ◌<◌, ◌≤◌, Bool, true, false, List, [], ◌∷◌, ◌++◌, length, drop, get_or, refl, sym, ap, ◌∙◌, subst, arith, length-append, append_assoc}
 use Rattle.std.specs.Prelude.{All, map, IsTrue}
 use Rattle.std.specs.List.{flat_map}
-use Rattle.std.proofs.lemmas.List.{append-nil, drop_more, length-map}
+use Rattle.std.proofs.lemmas.List.{append-nil, drop_all, drop_more, length-map}
 use Rattle.std.proofs.lemmas.List.Elements.{All-nil}
 use Rattle.ij_bits.specs.Different.{AreDifferent}
 use Rattle.net_graph.specs.declared.branch.Branch.{Branch}
@@ -151,6 +151,10 @@ module _ (net : Net) (form : Items) where
     after = sym (append-nil (holds_after (start_holds net) scans)) ∙ w.after;
     can = w.can;
   }
+
+  -- no row is left
+  pub done : (scans : List SeenPlanned) (holds : Holds) (bs : List Branch) (i : ℕ) → length bs ≤ i → IsOnTheWay net form scans holds (drop i bs) → IsOnTheWay net form scans holds []
+  done scans holds bs i l w = subst (IsOnTheWay net form scans holds) (drop_all i bs l) w
 
   module _ (scans : List SeenPlanned) (holds : Holds) (b : Branch) (bs : List Branch) (ps : List SeenGroup) (w : IsOnTheWay net form scans holds (b ∷ bs)) (p : RowPlanned net form b holds ps) where
     -- the test has these scans, too

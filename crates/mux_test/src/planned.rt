@@ -28,7 +28,7 @@ pub(crate) struct PlannedScan {
 }
 
 /// The most scans that a test may have.
-const MOST_SCANS: usize = 8192;
+const LIMIT: u32 = 8192;
 
 /// Adds the rows of a mux, from row 0 up.
 fn push_rows(mux: u32, rows: &[Row], branches: &mut List<Branch>) -> Result<(), OutOfMemory>
@@ -103,10 +103,8 @@ pub(crate) fn plan_test(
     let mut scans = List::new(alloc);
     for branch in branches {
         let plans = plan_row(alloc, net, tree, &holds, *branch)?;
-        if MOST_SCANS - scans.len() < plans.len() {
-            return Err(MuxFault::Limit {
-                number: MOST_SCANS as u32,
-            });
+        if LIMIT as usize - scans.len() < plans.len() {
+            return Err(MuxFault::Limit { number: LIMIT });
         }
         push_scans(*branch, plans, &mut holds, &mut scans)?;
     }

@@ -3,7 +3,7 @@ use Rattle.std.specs.Prelude.{map}
 use Rattle.mux_test.specs.declared.planned.PlannedScan.{PlannedScan}
 use Rattle.mux_test.specs.Planned.{seen_planned}
 use Rattle.mux_test.specs.Test.{branches}
-use Rattle.mux_test.proofs.Planning.{IsOnTheWay, at_start, can_open, can_start, can_write, next_length, next_row, test_has}
+use Rattle.mux_test.proofs.Planning.{IsOnTheWay, at_end, at_start, can_open, can_start, can_write, done, next_length, next_row, test_has}
 use Rattle.mux_test.proofs.planned.plan_test.Goals as goal
 
 pub loop-branch-init : goal.loop-branch-init
@@ -38,3 +38,7 @@ loop-branch-preserved c =
       way = next_row c.args.net.now c.args.tree.now c.requires.network c.loop-branch.scans.items c.loop-branch.holds c.args.branches.now c.loop-branch.branch-index (record { mux = 0; row = 0 }) c.requires.branches c.loop-branch-test.true c.loop-branch.invariant.way c.in_ok-plans.plans.items c.in_ok-plans.ensures.plans c.in_ok-plans.ensures.planned c.push_scans.new.scans.items c.push_scans.new.holds c.in_ok-push_scans.ensures.scans c.in_ok-push_scans.ensures.holds;
       short = omega (arith, long, c.if-len.false, c.len.ensures, c.len-in-loop-branch.ensures, c.loop-branch.invariant.short);
     }
+
+pub returns-clause-planned : goal.returns-clause-planned
+returns-clause-planned c =
+    at_end c.args.net.now c.args.tree.now (map seen_planned c.loop-branch.scans.items) c.loop-branch.holds (done c.args.net.now c.args.tree.now (map seen_planned c.loop-branch.scans.items) c.loop-branch.holds c.args.branches.now c.loop-branch.branch-index c.loop-branch-test.false c.loop-branch.invariant.way)
