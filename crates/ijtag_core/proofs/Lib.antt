@@ -1,8 +1,10 @@
-pub mod Faults
-pub mod Names
-pub mod Lists
-pub mod Exits
-pub mod Writing
-pub mod Taking
-pub mod Playing
-pub mod Making
+mod Acting
+mod Exits
+mod Faults
+mod Headlines
+mod Lists
+mod Making
+mod Names
+mod Playing
+mod Taking
+mod Writing

@@ -6,19 +6,21 @@ use Rattle.ijtag_stages.specs.Follows.{IsFault}
 use Rattle.ijtag_stages.specs.Seen.{seen_refusal}
 use Rattle.ijtag_stages.specs.declared.refusal.StageFault.{StageFault}
 use Rattle.ijtag_stages.specs.declared.refusal.StageFault.TheVariants.{Refused, OutOfMemory}
-use Rattle.ijtag_work.specs.Command.{Make, Makes, IsNoneOf, IsOneOf, made_names, writes}
-use Rattle.ijtag_work.specs.Headline.{IsMadeRetargeted}
+use Rattle.ijtag_work.specs.Command.{Make, made_names}
+use Rattle.ijtag_work.specs.Loads.{IsNoneOf, IsOneOf}
 use Rattle.ijtag_work.specs.Late.{IsPartOf}
 use Rattle.ijtag_work.specs.Leaves.{Leaves, Written}
-use Rattle.ijtag_work.specs.Order.{SeenRunnable, accepted_made, made_files, made_of, reads_differ, runnable, work, written_text}
+use Rattle.ijtag_work.specs.Accepted.{SeenAccepted}
+use Rattle.ijtag_work.specs.Order.{accepted_made, made_files, made_of, make}
 use Rattle.ijtag_work.specs.Runs.{AllHold, AreFirstWritten, Counts, HoldInTurn, IsDone, IsPartDone, IsStop, OnlyTheseChange, OnlyTheseRise}
 use Rattle.ijtag_work.specs.Seen.{seen_stop, stop_from}
+use Rattle.ijtag_work.specs.Task.{work}
 use Rattle.ijtag_work.specs.Stops.{Stop, Usage, Refuses, ReadFault, WriteFault, OutputFault, NoMemory, IsEarly}
 use Rattle.ijtag_work.proofs.Deciding.{made_decided}
 use Rattle.ijtag_core.specs.Files.{IsWriteStopOf, OthersAllStay, file_names}
 use Rattle.ijtag_core.specs.Svf.{IsPlayStop}
-use Rattle.ijtag_core.proofs.Taking.{bytes_of_all, taken_are}
-use Rattle.ijtag_core.proofs.Writing.{AreToldAlike, all_and, all_in_turn, one_in_turn, part_from, turn_and}
+use Rattle.ijtag_work.proofs.Whole.{all_in_turn}
+use Rattle.ijtag_core.proofs.Writing.{AreToldAlike, all_and, one_in_turn, part_from, turn_and}
 
 -- ---- names in lists
 
@@ -49,7 +51,7 @@ pub early_refused : (m : Make) (old : Option Files) (fault : StageFault) → IsF
 early_refused m old (Refused r) is early = record { whole = λ written given. absurd ((made_decided m).apart written (seen_refusal r) given is); others = λ other none. refl; same = λ none. refl }
 early_refused m old OutOfMemory is early = absurd early
 
-pub size_stop : (files : Option Files) (m : Make) (c : Counts) (fault : StageFault) → IsFault (made_files m) fault → IsStop files (Makes m) c (seen_stop (stop_from fault))
+pub size_stop : (files : Option Files) (m : Make) (c : Counts) (fault : StageFault) → IsFault (made_files m) fault → IsStop files (make m) c (seen_stop (stop_from fault))
 size_stop files m c (Refused r) is = inr ([], refl, inl is)
 size_stop files m c OutOfMemory is = tt
 
@@ -64,7 +66,7 @@ write_not_early names before now (ReadFault n) is early = is
 write_not_early names before now OutputFault is early = is
 
 module _ (files : Option Files) (m : Make) (ws : List Written) (given : (made_files m).gives ws) where
-  pub write_stop : (c : Counts) (stop : Stop) → IsWriteStopOf (made_names m.stem) c.store c.store_now stop → IsStop files (Makes m) c stop
+  pub write_stop : (c : Counts) (stop : Stop) → IsWriteStopOf (made_names m.stem) c.store c.store_now stop → IsStop files (make m) c stop
   write_stop c (WriteFault n) is =
       (inr ((ws, given), is.0), (one_front (made_names m.stem) ((m.stem ++ codes ".svf") ∷ []) n is.0, is.1))
   write_stop c NoMemory is = tt
@@ -73,13 +75,13 @@ module _ (files : Option Files) (m : Make) (ws : List Written) (given : (made_fi
   write_stop c (ReadFault n) is = absurd is
   write_stop c OutputFault is = absurd is
 
-  pub write_part : (new : Option Files) (printed : Option (List ℕ)) → HoldInTurn ws files new → OthersAllStay (made_names m.stem) files new → IsPartDone files (Makes m) (record { files = files; printed = printed }) (record { files = new; printed = printed })
+  pub write_part : (new : Option Files) (printed : Option (List ℕ)) → HoldInTurn ws files new → OthersAllStay (made_names m.stem) files new → IsPartDone files (make m) (record { files = files; printed = printed }) (record { files = new; printed = printed })
   write_part new printed turn others =
       inr (inr (record { written = ws; given = given; files = turn; others = others; printed = refl }))
 
   -- ---- behind them
 
-  pub accept_stop : (c : Counts) (fault : StageFault) → IsFault (accepted_made ws) fault → IsStop files (Makes m) c (seen_stop (stop_from fault))
+  pub accept_stop : (c : Counts) (fault : StageFault) → IsFault (accepted_made ws) fault → IsStop files (make m) c (seen_stop (stop_from fault))
   accept_stop c (Refused r) is = inr ([], refl, inr (ws, given, inl is))
   accept_stop c OutOfMemory is = tt
 
@@ -90,7 +92,7 @@ module _ (files : Option Files) (m : Make) (ws : List Written) (given : (made_fi
     same = λ none. absurd (none ws given);
   }
 
-  module _ (it : SeenRunnable) (is : (accepted_made ws).gives it) where
+  module _ (it : SeenAccepted) (is : (accepted_made ws).gives it) where
     abbrev svf : List ℕ
     svf = m.stem ++ codes ".svf"
 
@@ -98,7 +100,7 @@ module _ (files : Option Files) (m : Make) (ws : List Written) (given : (made_fi
     abbrev all_left : Leaves → Leaves
     all_left l = record { files = ws ++ l.files; printed = l.printed; differs = l.differs }
 
-    all_given : (l : Leaves) → (made_of [] svf it).gives l → (work files (Makes m)).gives (all_left l)
+    all_given : (l : Leaves) → (made_of [] svf it).gives l → (work files (make m)).gives (all_left l)
     unfolding made_of
     all_given l g = ([], refl, (ws, given, (it, is, (g.0, g.1, (g.2.0, g.2.1, ap all_left g.2.2)))))
 
@@ -124,12 +126,12 @@ module _ (files : Option Files) (m : Make) (ws : List Written) (given : (made_fi
 
       module _ (p q : Option (List ℕ)) where
         pub make_done : (differs : Bool) → IsDone (made_of [] svf it) (record { files = mid; printed = p }) (record { files = new; printed = q }) differs
-            → IsDone (work files (Makes m)) (record { files = files; printed = p }) (record { files = new; printed = q }) differs
+            → IsDone (work files (make m)) (record { files = files; printed = p }) (record { files = new; printed = q }) differs
         make_done differs d =
             record { leaves = all_left d.leaves; given = all_given d.leaves d.given; files = all_hold d.leaves d.given d.files; printed = d.printed; verdict = d.verdict }
 
         pub make_part : OthersAllStay (made_names m.stem) files mid → IsPartOf (made_of [] svf it) (record { files = mid; printed = p }) (record { files = new; printed = q })
-            → IsPartDone files (Makes m) (record { files = files; printed = p }) (record { files = new; printed = q })
+            → IsPartDone files (make m) (record { files = files; printed = p }) (record { files = new; printed = q })
         make_part four either = elim either [
           | inl same ↦
               inr
@@ -149,22 +151,6 @@ module _ (files : Option Files) (m : Make) (ws : List Written) (given : (made_fi
           }))
         ]
 
-        pub make_right : (differs : Bool) → IsDone (made_of [] svf it) (record { files = mid; printed = p }) (record { files = new; printed = q }) differs → differs ≡ reads_differ it
-            → IsMadeRetargeted files m (file_at new svf) differs
-        unfolding made_of written_text accepted_made made_files
-        make_right differs d same =
-            let g = d.given in
-            let one = one_file d.leaves d.given in
-            let held = subst (λ (vs : List Written). AllHold vs mid new) (ap (λ (x : Leaves). x.files) g.2.2) d.files in
-            record {
-              it = it;
-              bytes = g.0;
-              accepted = subst (λ (ts : List (List ℕ)). (runnable (codes "chip") (codes "p") ts).gives it) (taken_are ws is.0 is.1 ∙ ap bytes_of_all given.2) is.2;
-              written = held.0 ∙ alike (Some g.0);
-              right = g.1;
-              alike = same;
-            }
-
     -- ---- its stops
 
     -- behind the stores of the four files, which raise no count of the SVF file
@@ -172,7 +158,7 @@ module _ (files : Option Files) (m : Make) (ws : List Written) (given : (made_fi
       abbrev before : Counts
       before = record { load = load; load_now = load_now; store = store; store_now = mid.store_now; output = mid.output; output_now = mid.output_now }
 
-      pub play_stop : (stop : Stop) → IsPlayStop (made_of [] svf it) svf mid stop → IsStop files (Makes m) before stop
+      pub play_stop : (stop : Stop) → IsPlayStop (made_of [] svf it) svf mid stop → IsStop files (make m) before stop
       play_stop (WriteFault n) is =
           let rose : Rose (mid.store svf) (mid.store_now svf) = subst (λ (x : List ℕ). Rose (mid.store x) (mid.store_now x)) is.1.0 is.1.1 in
           let here : Rose (store svf) (mid.store_now svf) = subst (λ (k : ℕ). Rose k (mid.store_now svf)) same rose in
@@ -184,7 +170,7 @@ module _ (files : Option Files) (m : Make) (ws : List Written) (given : (made_fi
       play_stop (Refuses refusal) is = absurd is
       play_stop (ReadFault n) is = absurd is
 
-pub play_not_early : (it : SeenRunnable) (name : List ℕ) (c : Counts) (stop : Stop) → IsPlayStop (made_of [] name it) name c stop → IsEarly stop → ⊥
+pub play_not_early : (it : SeenAccepted) (name : List ℕ) (c : Counts) (stop : Stop) → IsPlayStop (made_of [] name it) name c stop → IsEarly stop → ⊥
 play_not_early it name c (WriteFault n) is early = early
 play_not_early it name c OutputFault is early = early
 play_not_early it name c NoMemory is early = early
@@ -198,16 +184,16 @@ module _ (m : Make) where
   abbrev svf_name : List ℕ
   svf_name = m.stem ++ codes ".svf"
 
-  pub four_change : (old new : Option Files) → OthersAllStay (made_names m.stem) old new → OnlyTheseChange (writes (Makes m)) old new
+  pub four_change : (old new : Option Files) → OthersAllStay (made_names m.stem) old new → OnlyTheseChange (make m).writes old new
   four_change old new others = λ other none. others other (none_front (made_names m.stem) (svf_name ∷ []) other none)
 
-  pub five_change : (old mid new : Option Files) → OthersAllStay (made_names m.stem) old mid → OthersStay mid new svf_name → OnlyTheseChange (writes (Makes m)) old new
+  pub five_change : (old mid new : Option Files) → OthersAllStay (made_names m.stem) old mid → OthersStay mid new svf_name → OnlyTheseChange (make m).writes old new
   five_change old mid new four last = λ other none.
       last other (none_behind (made_names m.stem) (svf_name ∷ []) other none).0 ∙ four other (none_front (made_names m.stem) (svf_name ∷ []) other none)
 
-  pub four_rise : (old now : List ℕ → ℕ) → OnlyTheseRise (made_names m.stem) old now → OnlyTheseRise (writes (Makes m)) old now
+  pub four_rise : (old now : List ℕ → ℕ) → OnlyTheseRise (made_names m.stem) old now → OnlyTheseRise (make m).writes old now
   four_rise old now rise = λ other none. rise other (none_front (made_names m.stem) (svf_name ∷ []) other none)
 
-  pub five_rise : (old mid now : List ℕ → ℕ) → OnlyTheseRise (made_names m.stem) old mid → OnlyTheseRise (svf_name ∷ []) mid now → OnlyTheseRise (writes (Makes m)) old now
+  pub five_rise : (old mid now : List ℕ → ℕ) → OnlyTheseRise (made_names m.stem) old mid → OnlyTheseRise (svf_name ∷ []) mid now → OnlyTheseRise (make m).writes old now
   five_rise old mid now four last = λ other none.
       last other (none_behind (made_names m.stem) (svf_name ∷ []) other none) ∙ four other (none_front (made_names m.stem) (svf_name ∷ []) other none)

@@ -1,6 +1,7 @@
 -- The names of a made design's files are different, since their endings are.
 use Rattle.std.proofs.Common.{◌≡◌, ◌≢◌, ℕ, List, [], ◌∷◌, ◌++◌, codes, ap, arith, get_or, drop}
-use Rattle.ijtag_work.specs.Command.{IsNoneOf, made_names}
+use Rattle.ijtag_work.specs.Command.{made_names}
+use Rattle.ijtag_work.specs.Loads.{IsNoneOf}
 use Rattle.ijtag_work.specs.Order.{written_as}
 use Rattle.ijtag_core.specs.Files.{AreApart}
 

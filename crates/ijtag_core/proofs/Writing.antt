@@ -1,14 +1,14 @@
 -- What is known of files that are written one after the other.
 use Rattle.std.specs.Prelude.{option_map, take}
 use Rattle.std.proofs.Common.{◌≡◌, ◌∙◌, inl, inr, refl, sym, ap, subst, ℕ, Option, Some, None, List, [], ◌∷◌, ◌++◌, length, arith}
-use Rattle.std.proofs.lemmas.List.{take_all}
 use Rattle.retargeter.specs.Files.{HoldsPart}
 use Rattle.ij_io.specs.Causes.{Rose}
 use Rattle.ij_io.specs.Files.{Files, file_at, OthersStay}
-use Rattle.ijtag_work.specs.Command.{IsNoneOf, IsOneOf}
+use Rattle.ijtag_work.specs.Loads.{IsNoneOf, IsOneOf}
 use Rattle.ijtag_work.specs.Leaves.{Written}
 use Rattle.ijtag_work.specs.Runs.{AllHold, AllStay, HoldInTurn, OnlyTheseRise}
 use Rattle.ijtag_work.specs.Stops.{Stop, Usage, Refuses, ReadFault, WriteFault, OutputFault, NoMemory}
+use Rattle.ijtag_work.proofs.Whole.{whole_is_part}
 use Rattle.ijtag_core.specs.Files.{IsWriteStopOf, OthersAllStay, file_names}
 
 -- whether files are told is the same at each state of a run
@@ -24,10 +24,6 @@ told_alike (Some f) None name g e x = absurd (cc)
 pub told_whole : (old mid : Option Files) (w : Written) → file_at mid w.name ≡ option_map (λ _. Some w.bytes) old → AreToldAlike old mid
 told_whole old mid w held = told_alike old mid w.name (λ _. Some w.bytes) held
 
-pub whole_is_part : (old new : Option Files) (name bytes : List ℕ) → file_at new name ≡ option_map (λ _. Some bytes) old → HoldsPart old new name bytes
-whole_is_part old new name bytes held =
-    inr (length bytes, held ∙ ap (λ (bs : List ℕ). option_map (λ _. Some bs) old) (sym (take_all (length bytes) bytes (omega arith))))
-
 -- ---- one file behind others: what these hold stays, and it holds what it does
 
 module _ (w : Written) (old mid new : Option Files) (others : OthersStay mid new w.name) where
@@ -38,10 +34,6 @@ module _ (w : Written) (old mid new : Option Files) (others : OthersStay mid new
   pub turn_and : (ws : List Written) → IsNoneOf (file_names ws) w.name → AllHold ws old mid → HoldsPart old new w.name w.bytes → HoldInTurn (ws ++ w ∷ []) old new
   turn_and [] none whole last = inr (last, tt)
   turn_and (v ∷ ws) none whole last = inl (others v.name (λ e. none.0 (sym e)) ∙ whole.0, turn_and ws none.1 whole.1 last)
-
-pub all_in_turn : (ws : List Written) (old new : Option Files) → AllHold ws old new → HoldInTurn ws old new
-all_in_turn [] old new whole = tt
-all_in_turn (w ∷ ws) old new whole = inl (whole.0, all_in_turn ws old new whole.1)
 
 -- of one file in turn a first part is there
 pub one_in_turn : (w : Written) (old new : Option Files) → HoldInTurn (w ∷ []) old new → HoldsPart old new w.name w.bytes

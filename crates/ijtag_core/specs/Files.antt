@@ -3,7 +3,7 @@ use Rattle.std.specs.Prelude.{◌≡◌, ℕ, List, [], ◌∷◌, Option}
 use Rattle.design_maker.specs.declared.texts.Made.{Made}
 use Rattle.ij_io.specs.Causes.{Rose}
 use Rattle.ij_io.specs.Files.{Files, file_at}
-use Rattle.ijtag_work.specs.Command.{IsNoneOf, IsOneOf}
+use Rattle.ijtag_work.specs.Loads.{IsNoneOf, IsOneOf}
 use Rattle.ijtag_work.specs.Leaves.{Written}
 use Rattle.ijtag_work.specs.Seen.{seen_made_name}
 use Rattle.ijtag_work.specs.Stops.{Stop, Usage, Refuses, ReadFault, WriteFault, OutputFault, NoMemory}

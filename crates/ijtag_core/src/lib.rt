@@ -2,27 +2,32 @@
 //! `run` both, `direct` what a procedure means, `make` a design that is run, `migrate` a file of tables, `audit` an SVF
 //! file for a procedure.
 //!
-//! Each command is a module, and `specs/Order` of `ijtag_work` has the order of its work. Here the words choose among them.
+//! A command that accepts texts is an [`Effect`], and [`accept_and_act`] is its run; a program is a table of [`Command`]s, and
+//! [`run_program`] says how a run of any of them ends. `specs/Order` of `ijtag_work` has the table of this program.
 #![tactic(auto)]
 
-mod audit_command;
-mod compile_command;
-mod compile_svf;
-mod direct_command;
+mod audit;
+mod commands;
+mod compile;
+mod direct;
+mod effect;
 mod in_memory;
 mod made_design;
 mod made_files;
 mod made_rounds;
 mod made_svf;
 mod made_totals;
-mod make_command;
-mod migrate_command;
-mod play_command;
+mod make;
+mod migrate;
+mod play;
+mod program;
 mod run;
-mod run_command;
+mod svf;
 mod top;
 
+pub use effect::{Effect, accept_and_act};
 pub use ij_text::{SOURCE_LIMIT, SVF_LIMIT};
 pub use ijtag_work::{Status, own_texts_pass, works_are_decided};
 pub use in_memory::ijtag_in_memory;
+pub use program::{Command, run_program};
 pub use top::ijtag;

@@ -1,23 +1,23 @@
 // The made design: its texts, and what they are accepted as.
-ghost use Rattle.std.specs.Prelude.{IfOk, codes};
+ghost use Rattle.std.specs.Prelude.{false, true, IfOk};
 ghost use Rattle.ijtag_stages.specs.Follows.{Follows};
 ghost use Rattle.ijtag_work.specs.Command.{made_names};
 ghost use Rattle.ijtag_work.specs.Order.{accepted_made, made_files, written_as};
-ghost use Rattle.ijtag_work.specs.Seen.{IsRunnable, seen_make, seen_runnable};
+ghost use Rattle.ijtag_work.specs.Using.{CanUse, seen_accepted};
+ghost use Rattle.ijtag_work.specs.Words.{seen_make};
 ghost use Rattle.ijtag_core.specs.Files.{texts_of};
 
-use crate::direct_command::accept_four;
 use crate::made_files::{files_of, take_each};
 use design_maker::{Made, MakeFault, make};
 use ijtag_stages::{Stage, StageFault, refused_number};
-use ijtag_work::{MakeWords, Runnable};
+use ijtag_work::{Accepted, MakeWords, Texts, accept};
 use std::alloc::Global;
 
 /// The top module of a made design.
 const TOP: &str = "chip";
 
 /// Its procedure.
-pub(crate) const PROCEDURE: &str = "p";
+const PROCEDURE: &str = "p";
 
 /// The four texts of the design, of 1 to 64 instruments.
 #[tactic(auto, unfolding(ijtag_work::specs::Order::made_files))]
@@ -35,19 +35,22 @@ pub(crate) fn make_design(alloc: Global, words: &MakeWords<'_>) -> Result<Made, 
 
 /// What the texts of a design are accepted as, each of them no longer than a file may be that is loaded.
 #[tactic(auto, unfolding(ijtag_work::specs::Order::accepted_made))]
-pub(crate) fn accept_design(alloc: Global, stem: &str, made: &Made) -> Result<Runnable, StageFault>
-    ensures follows { Follows (accepted_made (written_as (made_names stem.now) (texts_of made.now))) (seen_runnable (codes "p")) result }
-    ensures can { IfOk result (IsRunnable (codes "p")) }
+pub(crate) fn accept_design(alloc: Global, stem: &str, made: &Made) -> Result<Accepted, StageFault>
+    ensures follows { Follows (accepted_made (written_as (made_names stem.now) (texts_of made.now))) seen_accepted result }
+    ensures can { IfOk result (CanUse (record { tables = true; svf = false; pdl = true })) }
 {
     take_each(alloc, &files_of(stem, made))?;
-    let it = accept_four(
+    let it = accept(
         alloc,
-        TOP,
-        PROCEDURE,
-        made.icl.as_slice(),
-        made.pdl.as_slice(),
-        made.device.as_slice(),
-        made.tables.as_slice(),
+        &Texts {
+            icl: made.icl.as_slice(),
+            device: made.device.as_slice(),
+            tables: Some(made.tables.as_slice()),
+            svf: None,
+            top: TOP,
+            pdl: Some(made.pdl.as_slice()),
+            procedure: PROCEDURE,
+        },
     )?;
     Ok(it)
 }

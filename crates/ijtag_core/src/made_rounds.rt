@@ -1,10 +1,10 @@
 // How many rounds a procedure has.
-ghost use Rattle.std.specs.Prelude.{◌≡◌, ◌≤◌, IfOk};
+ghost use Rattle.std.specs.Prelude.{◌≡◌, ◌≤◌, true, IfOk};
 ghost use Rattle.pdl_targets.specs.Laws.{rounds_in};
-ghost use Rattle.ijtag_work.specs.Seen.{IsRunnable, seen_runnable};
+ghost use Rattle.ijtag_work.specs.Using.{IsUsable, seen_accepted, there};
 
 use ij_bits::OutOfMemory;
-use ijtag_work::{Runnable, steps_again};
+use ijtag_work::{Accepted, steps_again};
 use merge_order::{BitSteps, bit_steps_are_few, next_step};
 use pdl_targets::rounds_of;
 use std::alloc::Global;
@@ -22,12 +22,12 @@ fn count_rounds(steps: &mut BitSteps<'_>) -> Result<u32, OutOfMemory>
 }
 
 /// The number of rounds of all iApply commands of an accepted procedure.
-#[tactic(auto, unfolding(ijtag_work::specs::Seen::IsRunnable))]
-pub(crate) fn round_count(alloc: Global, it: &Runnable, procedure: &str) -> Result<u32, OutOfMemory>
-    requires { IsRunnable procedure.now it.now }
-    ensures { IfOk result (λ n. n ≡ rounds_in (seen_runnable procedure.now it.now).steps) }
+pub(crate) fn round_count(alloc: Global, it: &Accepted) -> Result<u32, OutOfMemory>
+    requires usable { IsUsable it.now }
+    requires procedure { there it.now.procedure ≡ true }
+    ensures { IfOk result (λ n. n ≡ rounds_in (seen_accepted it.now).steps) }
 {
     bit_steps_are_few();
-    let mut steps = steps_again(alloc, &it.procs, &it.on.network, procedure)?;
+    let mut steps = steps_again(alloc, &it.network, it.procedure())?;
     count_rounds(&mut steps)
 }

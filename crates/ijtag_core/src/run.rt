@@ -1,58 +1,118 @@
-// A run of the program.
-ghost use Rattle.std.specs.Prelude.{◌≡◌, false, IfOk, OnErr, OnOk, IfErr, IfSome, IsSome};
-ghost use Rattle.std.specs.Bool.{OnFalse};
-ghost use Rattle.ij_io.specs.Files.{file_at};
-ghost use Rattle.ijtag_work.specs.Audited.{IfAudits, IsAudited};
-ghost use Rattle.ijtag_work.specs.Command.{command_in, loads_in, writes_in, prints_in};
-ghost use Rattle.ijtag_work.specs.Headline.{LeavesRightSvf};
-ghost use Rattle.ijtag_work.specs.Order.{work};
-ghost use Rattle.ijtag_work.specs.Runs.{AreKept, IsDone, IsPartDone, IsRunStop, OnlyTheseChange, OnlyTheseRise, counts, seen};
-ghost use Rattle.ijtag_work.specs.Seen.{seen_stop, differing};
-ghost use Rattle.ijtag_work.specs.Stops.{IsEarly};
+// The command `run`.
+ghost use Rattle.std.specs.Prelude.{◌≡◌, ◌≤◌, ℕ, List, false, true, length, OnOk, OnErr, IfOk};
+ghost use Rattle.ij_io.specs.Bytes.{Adds, AddsPart};
+ghost use Rattle.ij_io.specs.Causes.{HasCause};
+ghost use Rattle.merge_order.specs.BitSteps.{bit_steps};
+ghost use Rattle.pdl_parser.specs.Views.{seen_procs};
+ghost use Rattle.run_report.specs.Procedure.{CanRetarget};
+ghost use Rattle.tap_machine.specs.declared.Stable.TheVariants.{Reset as InReset};
+ghost use Rattle.tap_machine.specs.Play.{pins, scans_in};
+ghost use Rattle.ijtag_work.specs.Order.{run, run_differs, run_report};
+ghost use Rattle.ijtag_work.specs.Seen.{differing};
+ghost use Rattle.ijtag_work.specs.Using.{ComesToItsEnd, IsUsable, seen_accepted, there};
+ghost use Rattle.ijtag_work.specs.Words.{seen_run};
 
-use crate::audit_command::audit;
-use crate::compile_command::compile;
-use crate::direct_command::direct;
-use crate::make_command::make;
-use crate::migrate_command::migrate;
-use crate::play_command::play;
-use crate::run_command::run as run_procedure;
-use ij_io::{Shelf, Sink};
-use ijtag_work::{CommandWords, Stop, Verdict, read_words};
+use crate::effect::Effect;
+use crate::svf::{make_svf, read_commands};
+use headline::procedures_are_plannable;
+use ij_io::{Shelf, Sink, StoreFault};
+use ijtag_work::{Accepted, Procedure, RunWords, Stop, Texts, Verdict, write_file};
+use merge_order::{bit_steps_are_few, bit_steps_are_of_the_network};
+use run_report::put_run;
 use std::alloc::Global;
+use svf_writer::Commands;
 
-/// Does what the words say: without a command nothing, and no file changes.
-pub(crate) fn run<'a, S: Shelf, O: Sink>(
-    alloc: Global,
-    words: &'a Vec<String>,
-    shelf: &mut S,
-    out: &mut O,
-) -> Result<Verdict, Stop<'a>>
-    ensures done { IfOk result (λ verdict. IfSome (command_in words.now.items) (λ command. IsDone (work (S.files shelf.old) command)
-        (seen S.files O.taken shelf.old out.old) (seen S.files O.taken shelf.new out.new) (differing verdict))) }
-    ensures command { OnOk result (IsSome (command_in words.now.items)) }
-    ensures headline { IfOk result (λ verdict. LeavesRightSvf (S.files shelf.old) (file_at (S.files shelf.new)) (differing verdict) (command_in words.now.items)) }
-    ensures audited { IfOk result (λ verdict. differing verdict ≡ false
-        → IfSome (command_in words.now.items) (λ command. IfAudits command (IsAudited (S.files shelf.old)))) }
-    ensures stop { IfErr result (λ stop. IsRunStop (command_in words.now.items) (S.files shelf.old)
-        (counts S.load_faults S.store_faults O.faults shelf.old shelf.new out.old out.new) (seen_stop stop)) }
-    ensures early { IfErr result (λ stop. IsEarly (seen_stop stop) → AreKept (command_in words.now.items) (S.files shelf.old) (S.files shelf.new)) }
-    ensures silent { IfErr result (λ stop. IsEarly (seen_stop stop) → out.new ≡ out.old) }
-    ensures part { OnErr result (IfSome (command_in words.now.items) (λ command. IsPartDone (S.files shelf.old) command
-        (seen S.files O.taken shelf.old out.old) (seen S.files O.taken shelf.new out.new))) }
-    ensures files { OnlyTheseChange (writes_in (command_in words.now.items)) (S.files shelf.old) (S.files shelf.new) }
-    ensures out { OnFalse (prints_in (command_in words.now.items)) (out.new ≡ out.old) }
-    ensures loads { OnlyTheseRise (loads_in (command_in words.now.items)) (S.load_faults shelf.old) (S.load_faults shelf.new) }
-    ensures stores { OnlyTheseRise (writes_in (command_in words.now.items)) (S.store_faults shelf.old) (S.store_faults shelf.new) }
+/// An accepted procedure can be retargeted, whatever its bit steps are.
+fn can_be_run(it: &Accepted, procedure: &Procedure)
+    requires usable { IsUsable it.now }
+    requires ends { ComesToItsEnd it.now.network procedure.now }
+    ensures { CanRetarget it.now.network.net it.now.network.form (bit_steps (seen_procs procedure.now.procs) it.now.network.net it.now.network.form procedure.now.name.items) }
 {
-    match read_words(words) {
-        Some(CommandWords::Compile(words)) => compile(alloc, &words, shelf, out),
-        Some(CommandWords::Play(words)) => play(alloc, &words, shelf, out),
-        Some(CommandWords::Direct(words)) => direct(alloc, &words, shelf, out),
-        Some(CommandWords::Run(words)) => run_procedure(alloc, &words, shelf, out),
-        Some(CommandWords::Make(words)) => make(alloc, &words, shelf, out),
-        Some(CommandWords::Migrate(words)) => migrate(alloc, &words, shelf, out),
-        Some(CommandWords::Audit(words)) => audit(alloc, &words, shelf, out),
-        None => Err(Stop::Usage),
+    bit_steps_are_of_the_network();
+    bit_steps_are_few();
+    procedures_are_plannable();
+}
+
+/// Plays the commands of a procedure's SVF on the bench and writes the report, which names iReads. A refusal leaves a first part of the report.
+#[tactic(auto, unfolding(ijtag_work::specs::Order::run_report))]
+fn put_lines<O: Sink>(
+    alloc: Global,
+    it: &Accepted,
+    commands: &Commands,
+    out: &mut O,
+) -> Result<Verdict, StoreFault>
+    requires usable { IsUsable it.now }
+    requires models { there it.now.models ≡ true }
+    requires procedure { there it.now.procedure ≡ true }
+    requires clocks { length (pins InReset 0 commands.now) ≤ 1000000000 }
+    requires scans { scans_in commands.now ≤ 1000000000 }
+    ensures printed { OnOk result ((text : List ℕ) → (run_report (seen_accepted it.now) commands.now).gives text → Adds (O.taken out.old) (O.taken out.new) text) }
+    ensures verdict { IfOk result (λ verdict. differing verdict ≡ run_differs (seen_accepted it.now) commands.now) }
+    ensures part { OnErr result ((text : List ℕ) → (run_report (seen_accepted it.now) commands.now).gives text → AddsPart (O.taken out.old) (O.taken out.new) text) }
+    ensures cause { HasCause (O.faults out.old) (O.faults out.new) result StoreFault.Failed }
+{
+    let models = it.models();
+    let procedure = it.procedure();
+    can_be_run(it, procedure);
+    let network = &it.network;
+    let differs = put_run(
+        alloc,
+        procedure.procs.procs.as_slice(),
+        &network.net,
+        &network.form,
+        procedure.name.as_slice(),
+        &it.device,
+        models.models(),
+        commands,
+        out,
+    )?;
+    Ok(Verdict::of_count(differs))
+}
+
+/// Writes the SVF file, as a compile does, and then plays the commands of its text and prints the report, which names iReads.
+impl<'w> Effect for RunWords<'w> {
+    ghost table_row = { λ words. run (seen_run words) };
+
+    ghost needs = { λ _. record { tables = true; svf = false; pdl = true } };
+
+    ghost promise = { λ _ _ _. Unit {0} };
+
+    fn texts<'t>(&'t self, loaded: &'t [Vec<u8>]) -> Texts<'t> {
+        let [icl, pdl, device, tables] = loaded else {
+            unreachable!()
+        };
+        Texts {
+            icl,
+            device,
+            tables: Some(tables),
+            svf: None,
+            top: self.top,
+            pdl: Some(pdl),
+            procedure: self.procedure,
+        }
+    }
+
+    fn prints(&self) -> bool {
+        true
+    }
+
+    fn act<'a, S: Shelf, O: Sink>(
+        &'a self,
+        alloc: Global,
+        it: &Accepted,
+        shelf: &mut S,
+        out: &mut O,
+    ) -> Result<Verdict, Stop<'a>> {
+        let svf = make_svf(alloc, it)?;
+        let bytes = svf.bytes();
+        match write_file(self.svf, bytes, shelf) {
+            Ok(()) => {}
+            Err(fault) => return Err(Stop::of_file(fault, self.svf)),
+        }
+        let commands = read_commands(alloc, bytes)?;
+        match put_lines(alloc, it, &commands, out) {
+            Ok(verdict) => Ok(verdict),
+            Err(fault) => Err(Stop::of_output(fault)),
+        }
     }
 }

@@ -1,20 +1,21 @@
 // The top call.
 ghost use Rattle.std.specs.Prelude.{◌≡◌, Bool, Some, IsNone, IfSome, List, ℕ};
-ghost use Rattle.std.specs.Bool.{OnFalse};
+ghost use Rattle.std.specs.Bool.{OnTrue, OnFalse};
 ghost use Rattle.ij_io.specs.Bytes.{AddsPart};
 ghost use Rattle.ij_io.specs.Files.{file_at};
+ghost use Rattle.ijtag_stages.specs.Refusals.{Refusal};
 ghost use Rattle.ijtag_work.specs.Audited.{IfAudits, IsAudited, IsOwnText};
-ghost use Rattle.ijtag_work.specs.Command.{command_in, loads, loads_in, writes_in, prints_in};
+ghost use Rattle.ijtag_work.specs.Command.{command_in};
 ghost use Rattle.ijtag_work.specs.Headline.{LeavesRightSvf};
 ghost use Rattle.ijtag_work.specs.Leaves.{Leaves};
-ghost use Rattle.ijtag_work.specs.Order.{work};
-ghost use Rattle.ijtag_stages.specs.Refusals.{Refusal};
-ghost use Rattle.ijtag_work.specs.Runs.{AreKept, IsDone, IsPartDone, IsReadFault, IsRunStop, IsStop, IfTold, LoadRose, FirstRose, WriteRose, OnlyTheseChange, OnlyTheseRise, Tells, IsOrMemory, IsEarlyStatus, IsPartStatus, IsWriteStop, status_if, counts, seen};
+ghost use Rattle.ijtag_work.specs.Order.{task};
+ghost use Rattle.ijtag_work.specs.Runs.{AreKept, IsDone, IsPartDone, IsReadFault, IsRunStop, IsStop, IfTold, LoadRose, FirstRose, WriteRose, OnlyTheseChange, OnlyTheseRise, Tells, IsOrMemory, IsEarlyStatus, IsPartStatus, IsWriteStop, status_if, counts, seen, loads_in, writes_in, prints_in};
 ghost use Rattle.ijtag_work.specs.Stops.{Stop, Usage, Refuses, ReadFault, stop_text};
+ghost use Rattle.ijtag_work.specs.Task.{work};
 
-use crate::run::run;
+use crate::program::run_program;
 use ij_io::{Shelf, Sink};
-use ijtag_work::{Status, own_texts_pass, report, works_are_decided};
+use ijtag_work::{Status, own_texts_pass, read_words, runs_differ_alike};
 use std::alloc::Global;
 
 /// Runs the program with these words, those behind the program's name, over files and streams, and says how it ended.
@@ -59,18 +60,21 @@ pub fn ijtag<S: Shelf, O: Sink, E: Sink>(
         IfAudits command (IsAudited (S.files shelf.old))) }
     ensures own_text { IfTold (command_in words.now.items) (S.files shelf.old) (λ command files.
         let c = counts S.load_faults S.store_faults O.faults shelf.old shelf.new out.old out.new in
-        IfAudits command (λ audit. IsOwnText files audit → ¬ LoadRose command c
-        → ¬ WriteRose command c → IsOrMemory result Status.Good)) }
+        IfAudits command (λ audit. IsOwnText files audit → ¬ LoadRose (task command) c
+        → ¬ WriteRose (task command) c → IsOrMemory result Status.Good)) }
 
-    // Where all of the command's work is done, and that what is accepted is done where no fault is counted.
+    // Where all of the command's work is done, and all that was printed is handed on; and what is accepted is done where no fault is
+    // counted.
     ensures done { (differs : Bool) → result ≡ status_if differs
-        → IfSome (command_in words.now.items) (λ command. IsDone (work (S.files shelf.old) command)
+        → IfSome (command_in words.now.items) (λ command. IsDone (work (S.files shelf.old) (task command))
         (seen S.files O.taken shelf.old out.old)
         (seen S.files O.taken shelf.new out.new) differs) }
+    ensures handed_on { (differs : Bool) → result ≡ status_if differs
+        → OnTrue (prints_in task (command_in words.now.items)) (O.handed out.new ≡ O.taken out.new) }
     ensures complete { IfTold (command_in words.now.items) (S.files shelf.old) (λ command files.
         let c = counts S.load_faults S.store_faults O.faults shelf.old shelf.new out.old out.new in
-        (leaves : Leaves) → (work (Some files) command).gives leaves → ¬ LoadRose command c
-        → ¬ WriteRose command c → IsOrMemory result (status_if leaves.differs)) }
+        (leaves : Leaves) → (work (Some files) (task command)).gives leaves → ¬ LoadRose (task command) c
+        → ¬ WriteRose (task command) c → IsOrMemory result (status_if leaves.differs)) }
     ensures err_stays { (differs : Bool) → result ≡ status_if differs → err.new ≡ err.old }
 
     // Usage exactly where the words are no command.
@@ -82,50 +86,47 @@ pub fn ijtag<S: Shelf, O: Sink, E: Sink>(
     // Refused exactly at the first refusal of the command's work, which is printed, unless a load failed, or a write of the files that
     // come before the texts.
     ensures refused { result ≡ Status.Refused → IfSome (command_in words.now.items) (λ command.
-        (refusal : Refusal) × (work (S.files shelf.old) command).refuses refusal
+        (refusal : Refusal) × (work (S.files shelf.old) (task command)).refuses refusal
         × Tells E.taken E.faults err.old err.new (stop_text (Refuses refusal))) }
     ensures refuses { IfTold (command_in words.now.items) (S.files shelf.old) (λ command files.
         let c = counts S.load_faults S.store_faults O.faults shelf.old shelf.new out.old out.new in
-        (refusal : Refusal) → (work (Some files) command).refuses refusal
-        → ¬ LoadRose command c → ¬ FirstRose command c → IsOrMemory result Status.Refused) }
+        (refusal : Refusal) → (work (Some files) (task command)).refuses refusal
+        → ¬ LoadRose (task command) c → ¬ FirstRose (task command) c → IsOrMemory result Status.Refused) }
 
     // ReadFault only where a load failed that was come to, WriteFault only where a write failed of what could be written: all was
     // accepted, or it is one of the files that are written before.
     ensures read_fault { result ≡ Status.ReadFault → IfSome (command_in words.now.items) (λ command.
-        (name : List ℕ) × IsReadFault (S.files shelf.old) (loads command)
+        (name : List ℕ) × IsReadFault (S.files shelf.old) (task command).loads
         (S.load_faults shelf.old) (S.load_faults shelf.new) name
         × Tells E.taken E.faults err.old err.new (stop_text (ReadFault name))) }
     ensures write_fault { result ≡ Status.WriteFault
         → IfSome (command_in words.now.items) (λ command.
         let c = counts S.load_faults S.store_faults O.faults shelf.old shelf.new out.old out.new in
-        (stop : Stop) × IsStop (S.files shelf.old) command c stop × IsWriteStop command c stop
+        (stop : Stop) × IsStop (S.files shelf.old) (task command) c stop × IsWriteStop (task command) c stop
         × Tells E.taken E.faults err.old err.new (stop_text stop)) }
 
     // Nothing changes before all is accepted but the files that are written before, then a first part of what the command leaves,
     // and never anything else.
     ensures kept { IsEarlyStatus result
-        → AreKept (command_in words.now.items) (S.files shelf.old) (S.files shelf.new)
+        → AreKept task (command_in words.now.items) (S.files shelf.old) (S.files shelf.new)
         × (out.new ≡ out.old) }
     ensures part { IsPartStatus result → IfSome (command_in words.now.items) (λ command.
-        IsPartDone (S.files shelf.old) command
+        IsPartDone (S.files shelf.old) (task command)
         (seen S.files O.taken shelf.old out.old) (seen S.files O.taken shelf.new out.new)) }
     ensures says_part { result ≡ Status.OutOfMemory → (stop : Stop)
-        × IsRunStop (command_in words.now.items) (S.files shelf.old)
+        × IsRunStop task (command_in words.now.items) (S.files shelf.old)
         (counts S.load_faults S.store_faults O.faults shelf.old shelf.new out.old out.new) stop
         × AddsPart (E.taken err.old) (E.taken err.new) (stop_text stop) }
-    ensures only_its_files_change { OnlyTheseChange (writes_in (command_in words.now.items))
+    ensures only_its_files_change { OnlyTheseChange (writes_in task (command_in words.now.items))
         (S.files shelf.old) (S.files shelf.new) }
-    ensures only_reports_print { OnFalse (prints_in (command_in words.now.items))
+    ensures only_reports_print { OnFalse (prints_in task (command_in words.now.items))
         (out.new ≡ out.old) }
-    ensures only_its_loads_fail { OnlyTheseRise (loads_in (command_in words.now.items))
+    ensures only_its_loads_fail { OnlyTheseRise (loads_in task (command_in words.now.items))
         (S.load_faults shelf.old) (S.load_faults shelf.new) }
-    ensures only_its_stores_fail { OnlyTheseRise (writes_in (command_in words.now.items))
+    ensures only_its_stores_fail { OnlyTheseRise (writes_in task (command_in words.now.items))
         (S.store_faults shelf.old) (S.store_faults shelf.new) }
 {
-    works_are_decided();
     own_texts_pass();
-    match run(alloc, words, shelf, out) {
-        Ok(verdict) => verdict.status(),
-        Err(stop) => report(&stop, err),
-    }
+    runs_differ_alike();
+    run_program(alloc, &read_words(words), shelf, out, err)
 }

@@ -1,6 +1,7 @@
 -- What an audit that says yes means, and what it says of the text that a compile of the same files writes.
 use Rattle.std.specs.Prelude.{All, IfSome, ◌<◌, Ok}
-use Rattle.std.proofs.Common.{◌≡◌, ℕ, false, Option, Some, None, List, [], ◌∷◌, length, refl, sym, ap, ◌∙◌, subst, arith}
+use Rattle.std.specs.Option.{option_map}
+use Rattle.std.proofs.Common.{◌≡◌, ℕ, true, false, Option, Some, None, List, [], ◌∷◌, length, refl, sym, ap, ◌∙◌, subst, arith}
 use Rattle.ij_io.specs.Files.{Files, bytes_of}
 use Rattle.net_graph.specs.Devices.{IsDevice}
 use Rattle.net_graph.specs.SeenSteps.{SeenStep}
@@ -18,13 +19,19 @@ use Rattle.pdl_parser.specs.Views.{seen_procs}
 use Rattle.svf_audit.specs.Law.{AuditedPlaysDoAll}
 use Rattle.svf_audit.specs.Own.{PlannedScriptsPass, PlansList}
 use Rattle.svf_audit.specs.Report.{says_no}
+use Rattle.ijtag_stages.specs.Nested.{IsNested}
 use Rattle.ijtag_stages.specs.SvfText.{svf_text}
-use Rattle.ijtag_work.specs.Audited.{IsAudited, IsOwnText, OwnTextsPass, IfAudits}
-use Rattle.ijtag_work.specs.Command.{Command, Compiles, Plays, Directs, Runs, Makes, Migrates, Audit, Audits, own_compile, compile_loads, audit_loads}
+use Rattle.ijtag_stages.specs.declared.network.Network.{Network}
+use Rattle.ijtag_work.specs.Accepted.{SeenAccepted, accepted, accepted_of, if_given, listed}
+use Rattle.ijtag_work.specs.Audited.{IfAudits, IsOwnText, OwnTextsPass, PlayAsMeant}
+use Rattle.ijtag_work.specs.Command.{Command, Compiles, Plays, Directs, Runs, Makes, Migrates, Audit, Audits, own_compile}
 use Rattle.ijtag_work.specs.Leaves.{Leaves, Written}
-use Rattle.ijtag_work.specs.Order.{SeenCompilable, SeenAuditable, loaded, loaded_one, accepted, written_text, filed, told, audited_texts, auditable, verdict_of, line_of, work}
-use Rattle.ijtag_work.specs.Seen.{IsAuditable, seen_auditable}
-use Rattle.ijtag_work.specs.declared.accepted.Auditable.{Auditable}
+use Rattle.ijtag_work.specs.Loads.{loaded, loaded_one}
+use Rattle.ijtag_work.specs.Order.{audit, compile, filed, line_of, task, told, verdict_of, written_text}
+use Rattle.ijtag_work.specs.Task.{work}
+use Rattle.ijtag_work.specs.Using.{ArePlayable, IsUsable, seen_accepted, steps_of, there}
+use Rattle.ijtag_work.specs.declared.accepted.Accepted.{Accepted}
+use Rattle.ijtag_work.specs.declared.accepted.Procedure.{Procedure}
 use Rattle.ijtag_work.specs.Runs.{Counts, LoadRose, WriteRose, IsOrMemory, status_if}
 use Rattle.ijtag_work.specs.declared.status.Status.{Status}
 use Rattle.ijtag_work.specs.declared.status.Status.TheVariants.{Good}
@@ -36,35 +43,40 @@ readings_of (Yes readings) agrees = (readings, refl)
 readings_of (No scan cause) agrees = absurd (cc)
 
 -- commands that can be played, for a procedure of a network that can be compiled for
-pub record IsSound (it : SeenAuditable) : Type 0 where
-  pub network : IsRetargetable it.of.network.net it.of.network.form
-  pub device : IsDevice it.of.device
-  pub steps : All (IsStep it.of.network.net) it.of.steps
-  pub fit : AreFit it.commands
+record IsSound (it : SeenAccepted) : Type 0 where
+  network : IsRetargetable it.network.net it.network.form
+  device : IsDevice it.device
+  steps : All (IsStep it.network.net) it.steps
+  fit : AreFit it.commands
+
+fit_of : (commands : Option (List SeenCommand)) → there commands ≡ true → IfSome commands ArePlayable → AreFit (listed commands)
+fit_of None some is = absurd (cc)
+fit_of (Some cs) some is = is.fit
+
+steps_fit : BitStepsAreOfTheNetwork → (network : Network) → IsNested network.net network.form → (p : Option Procedure) → there p ≡ true → All (IsStep network.net) (listed (option_map (steps_of network) p))
+steps_fit valid network nested None some = absurd (cc)
+steps_fit valid network nested (Some p) some = valid (seen_procs p.procs) network.net network.form p.name.items nested.well_formed
 
 -- so is what an audit accepts
-pub audit_sound : BitStepsAreOfTheNetwork → (procedure : List ℕ) (it : Auditable) → IsAuditable procedure it → IsSound (seen_auditable procedure it)
-unfolding IsAuditable
-audit_sound valid procedure it can = record {
-  network = record { well_formed = can.of.nested.well_formed; describes = can.of.nested.describes; lawful = can.of.nested.lawful };
-  device = can.of.device;
-  steps = valid (seen_procs it.of.procs) it.of.network.net it.of.network.form procedure can.of.nested.well_formed;
-  fit = can.fit;
+audit_sound : BitStepsAreOfTheNetwork → (it : Accepted) → IsUsable it → there it.commands ≡ true → there it.procedure ≡ true → IsSound (seen_accepted it)
+audit_sound valid it can commands procedure = record {
+  network = record { well_formed = can.nested.well_formed; describes = can.nested.describes; lawful = can.nested.lawful };
+  device = can.device;
+  steps = steps_fit valid it.network can.nested it.procedure procedure;
+  fit = fit_of it.commands commands can.commands;
 }
 
-pub is_audited : AuditedPlaysDoAll → (files : Option Files) (a : Audit) (texts : List (List ℕ)) (it : SeenAuditable) → (loaded files (audit_loads a)).gives texts → (auditable a texts).gives it → IsSound it
-    → says_no (verdict_of it) ≡ false → IsAudited files a
-is_audited law files a texts it read is sound agrees =
-    let yes : (readings : List Reading) × (verdict_of it ≡ Yes readings) = readings_of (verdict_of it) agrees in
-    let net = it.of.network.net in
+pub plays_as_meant : AuditedPlaysDoAll → BitStepsAreOfTheNetwork → (it : Accepted) → IsUsable it → there it.commands ≡ true → there it.procedure ≡ true → says_no (verdict_of (seen_accepted it)) ≡ false
+    → PlayAsMeant (seen_accepted it)
+plays_as_meant law valid it can commands procedure agrees =
+    let of : SeenAccepted = seen_accepted it in
+    let sound : IsSound of = audit_sound valid it can commands procedure in
+    let yes : (readings : List Reading) × (verdict_of of ≡ Yes readings) = readings_of (verdict_of of) agrees in
+    let net = of.network.net in
     record {
-      texts = texts;
-      it = it;
       readings = yes.0;
-      read = read;
-      accepted = is;
       yes = yes.1;
-      does = λ machines. law net it.of.device machines it.of.steps it.commands yes.0 sound.network.well_formed (selects_drive_nothing net it.of.network.form sound.network) sound.device sound.steps sound.fit yes.1;
+      does = λ machines. law net of.device machines of.steps of.commands yes.0 sound.network.well_formed (selects_drive_nothing net of.network.form sound.network) sound.device sound.steps sound.fit yes.1;
     }
 
 -- ---- the text that is compiled
@@ -78,7 +90,7 @@ bytes_same : (name : List ℕ) (a b : List ℕ) → filed name a ≡ filed name 
 bytes_same name a b e = ap (λ (l : Leaves). first_bytes l.files) e
 
 module _ (scripts : PlansAreScripts) (pass : PlannedScriptsPass) (listed : PlansList) where
-  own_yes : (it : SeenCompilable) (bytes : List ℕ) (commands : List SeenCommand) (r : DoSteps it.network.net it.network.form it.device it.steps bytes)
+  own_yes : (it : SeenAccepted) (bytes : List ℕ) (commands : List SeenCommand) (r : DoSteps it.network.net it.network.form it.device it.steps bytes)
       → commands ≡ script_commands it.device (script_of it.network.net (start_holds it.network.net) r.plans)
       → says_no (audit_commands it.network.net it.device it.steps commands) ≡ false
   own_yes it bytes commands r same =
@@ -93,28 +105,59 @@ module _ (scripts : PlansAreScripts) (pass : PlannedScriptsPass) (listed : Plans
     abbrev bytes : List ℕ
     bytes = bytes_of files a.svf
 
-    own_loaded : (texts : List (List ℕ)) → length bytes < 90000000 → (loaded (Some files) (compile_loads (own_compile a))).gives texts → (loaded (Some files) (audit_loads a)).gives (bytes ∷ texts)
+    own_loaded : (texts : List (List ℕ)) → length bytes < 90000000 → (loaded (Some files) (compile (own_compile a)).loads).gives texts → (loaded (Some files) (audit a).loads).gives (bytes ∷ texts)
     unfolding loaded_one
     own_loaded texts few read = (bytes, (omega (arith, few), refl), (texts, read, refl))
 
-    own_auditable : (texts : List (List ℕ)) (it : SeenCompilable) (commands : List SeenCommand) → (accepted (own_compile a) texts).gives it → svf bytes ≡ Ok commands
-        → (auditable a (bytes ∷ texts)).gives (record { of = it; commands = commands })
-    unfolding audited_texts svf_text
-    own_auditable (icl ∷ pdl ∷ device ∷ []) it commands is read =
-        (is.0, is.1, (is.2.0, is.2.1, (commands, read, (it, is.2.2, refl))))
-    own_auditable [] it commands is read = absurd is
-    own_auditable (x ∷ []) it commands is read = absurd is
-    own_auditable (x ∷ y ∷ []) it commands is read = absurd is
-    own_auditable (x ∷ y ∷ z ∷ w ∷ rest) it commands is read = absurd is
+    -- what is audited: the commands, for the procedure that is compiled
+    abbrev with_commands : SeenAccepted → List SeenCommand → SeenAccepted
+    with_commands it commands = record { network = it.network; device = it.device; models = it.models; commands = commands; steps = it.steps }
 
-    own_passes : (texts : List (List ℕ)) (it : SeenCompilable) → (loaded (Some files) (compile_loads (own_compile a))).gives texts → (accepted (own_compile a) texts).gives it
-        → DoSteps it.network.net it.network.form it.device it.steps bytes → (text : List ℕ) × (work (Some files) (Audits a)).gives (told text false)
+    own_accepted : (texts : List (List ℕ)) (it : SeenAccepted) (commands : List SeenCommand) → (accepted_of ((compile (own_compile a)).texts texts)).gives it → svf bytes ≡ Ok commands
+        → (accepted_of ((audit a).texts (bytes ∷ texts))).gives (with_commands it commands)
+    unfolding accepted if_given svf_text
+    own_accepted (icl ∷ pdl ∷ device ∷ []) it commands is read = (
+      is.0,
+      is.1,
+      (
+        is.2.0,
+        is.2.1,
+        (
+          is.2.2.0,
+          is.2.2.1,
+          (
+            Some commands,
+            (commands, read, refl),
+            (
+              is.2.2.2.2.0,
+              is.2.2.2.2.1,
+              (
+                is.2.2.2.2.2.0,
+                is.2.2.2.2.2.1,
+                (
+                  is.2.2.2.2.2.2.0,
+                  is.2.2.2.2.2.2.1,
+                  ap (λ (x : SeenAccepted). with_commands x commands) is.2.2.2.2.2.2.2,
+                ),
+              ),
+            ),
+          ),
+        ),
+      ),
+    )
+    own_accepted [] it commands is read = absurd is
+    own_accepted (x ∷ []) it commands is read = absurd is
+    own_accepted (x ∷ y ∷ []) it commands is read = absurd is
+    own_accepted (x ∷ y ∷ z ∷ w ∷ rest) it commands is read = absurd is
+
+    own_passes : (texts : List (List ℕ)) (it : SeenAccepted) → (loaded (Some files) (compile (own_compile a)).loads).gives texts → (accepted_of ((compile (own_compile a)).texts texts)).gives it
+        → DoSteps it.network.net it.network.form it.device it.steps bytes → (text : List ℕ) × (work (Some files) (task (Audits a))).gives (told text false)
     own_passes texts it read is r =
         let net = it.network.net in
         let commands : List SeenCommand = script_commands it.device (script_of net (start_holds net) r.plans) in
-        let found : SeenAuditable = record { of = it; commands = commands } in
+        let found : SeenAccepted = with_commands it commands in
         let agrees : says_no (verdict_of found) ≡ false = own_yes it bytes commands r refl in
-        (line_of found, (bytes ∷ texts, own_loaded texts r.few_bytes read, (found, own_auditable texts it commands is r.read, ap (told (line_of found)) (sym agrees))))
+        (line_of found, (bytes ∷ texts, own_loaded texts r.few_bytes read, (found, own_accepted texts it commands is r.read, ap (told (line_of found)) (sym agrees))))
 
   pub own_texts : OwnTextsPass
   unfolding written_text
@@ -131,8 +174,8 @@ module _ (scripts : PlansAreScripts) (pass : PlannedScriptsPass) (listed : Plans
 -- ---- so the status of such an audit
 
 pub own_good : OwnTextsPass → (words : Option Command) (files : Option Files) (c : Counts) (result : Status)
-    → IfSome words (λ command. IfSome files (λ f. (leaves : Leaves) → (work (Some f) command).gives leaves → (LoadRose command c → ⊥) → (WriteRose command c → ⊥) → IsOrMemory result (status_if leaves.differs)))
-    → IfSome words (λ command. IfSome files (λ f. IfAudits command (λ a. IsOwnText f a → (LoadRose command c → ⊥) → (WriteRose command c → ⊥) → IsOrMemory result Good)))
+    → IfSome words (λ command. IfSome files (λ f. (leaves : Leaves) → (work (Some f) (task command)).gives leaves → (LoadRose (task command) c → ⊥) → (WriteRose (task command) c → ⊥) → IsOrMemory result (status_if leaves.differs)))
+    → IfSome words (λ command. IfSome files (λ f. IfAudits command (λ a. IsOwnText f a → (LoadRose (task command) c → ⊥) → (WriteRose (task command) c → ⊥) → IsOrMemory result Good)))
 own_good pass None files c result complete = tt
 own_good pass (Some command) None c result complete = tt
 own_good pass (Some (Audits a)) (Some f) c result complete = λ own no_load no_write. complete (told (pass f a own).0 false) (pass f a own).1 no_load no_write

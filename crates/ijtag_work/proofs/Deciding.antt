@@ -1,5 +1,5 @@
 -- The work of a command comes to one end at most: what is given is one value, and then nothing is refused; and a refusal is one.
-use Rattle.std.proofs.Common.{◌≡◌, ◌⊎◌, inl, inr, ◌<◌, ◌≤◌, ◌∙◌, sym, ap, ℕ, Some, Result, Ok, List, [], ◌∷◌, ◌++◌, length, codes, arith}
+use Rattle.std.proofs.Common.{◌≡◌, ◌⊎◌, inl, inr, ◌<◌, ◌≤◌, ◌∙◌, sym, ap, ℕ, Option, Some, None, Result, Ok, List, [], ◌∷◌, ◌++◌, length, codes, arith}
 use Rattle.ij_io.specs.Files.{Files, bytes_of}
 use Rattle.icl_lexer.specs.Values.{SeenModule}
 use Rattle.net_graph.specs.declared.device.Device.{Device}
@@ -21,11 +21,16 @@ use Rattle.ijtag_stages.specs.Procedure.{procedure}
 use Rattle.ijtag_stages.specs.SvfText.{svf_text}
 use Rattle.ijtag_stages.specs.TablesText.{tables_text}
 use Rattle.table_file.specs.Tables.{SeenTable}
+use Rattle.ijtag_stages.specs.Refusals.{Part}
 use Rattle.ijtag_stages.specs.Work.{IsDecided}
 use Rattle.ijtag_stages.proofs.Turns.{give_decided, never_decided, in_turn_decided}
-use Rattle.ijtag_work.specs.Command.{Command, Compile, Compiles, Play, Plays, Directs, Runs, Make, Makes, Migrates, Audit, Audits, own_compile, Load, loads}
+use Rattle.ijtag_work.specs.Accepted.{SeenAccepted, Texts, accepted, accepted_of, followed, if_given}
+use Rattle.ijtag_work.specs.Command.{Command, Compiles, Plays, Directs, Runs, Make, Makes, made_svf, Migrates, Audits}
 use Rattle.ijtag_work.specs.Leaves.{Written}
-use Rattle.ijtag_work.specs.Order.{SeenCompilable, SeenRunnable, compilable_of, commands_of, run_report, run_of, made_files, taken_one, taken, accepted_made, made_of, make, loaded_one, loaded, compiled_procedure, accepted, written_text, read_tables_of, fitted_network, followed_text, run_network, run_texts, runnable, audited_texts, auditable, SeenFiles, played_files, played_network, played_texts, playable, work_on, work}
+use Rattle.ijtag_work.specs.Loads.{Load, loaded, loaded_one}
+use Rattle.ijtag_work.specs.Order.{accepted_made, audit, commands_of, compile, compiled, direct, direct_texts, made_files, made_of, make_work, play, read_tables_of, run, run_of, run_report, taken, taken_one, task, written_text}
+use Rattle.ijtag_work.specs.Runs.{AreDecided}
+use Rattle.ijtag_work.specs.Task.{Row, row_work}
 
 -- ---- loads
 
@@ -67,7 +72,7 @@ taken_decided (w ∷ ws) =
 
 -- ---- the written text
 
-written_decided : TextsAreOne → (it : SeenCompilable) → IsDecided (written_text it)
+written_decided : TextsAreOne → (it : SeenAccepted) → IsDecided (written_text it)
 unfolding written_text
 written_decided texts it =
     record { one = λ a b p q. texts it.network.net it.network.form it.device it.steps a b p q; apart = λ a r p q. q; alike = λ r s p q. absurd p }
@@ -82,139 +87,86 @@ unfolding commands_of
 commands_decided bytes =
     record { one = λ a b p q. ok_same a b (sym p ∙ q); apart = λ a r p q. q; alike = λ r s p q. absurd p }
 
-one_report : PlacesAreOne → (it : SeenRunnable) (commands : List SeenCommand) (a b : List ℕ) → IsRunReport it.network.net it.network.form it.device it.models it.steps commands a → IsRunReport it.network.net it.network.form it.device it.models it.steps commands b → a ≡ b
+one_report : PlacesAreOne → (it : SeenAccepted) (commands : List SeenCommand) (a b : List ℕ) → IsRunReport it.network.net it.network.form it.device it.models it.steps commands a → IsRunReport it.network.net it.network.form it.device it.models it.steps commands b → a ≡ b
 one_report places_one it commands a b p q =
     let net = it.network.net in
     let same = places_one net it.network.form p.plans q.plans p.planned.planned q.planned.planned (p.planned.of_steps ∙ sym q.planned.of_steps) in
     p.text ∙ ap (λ (ps : List ReadPlace). named_report (read_at ps) net it.device it.models commands) same ∙ sym q.text
 
-report_decided : PlacesAreOne → (it : SeenRunnable) (commands : List SeenCommand) → IsDecided (run_report it commands)
+report_decided : PlacesAreOne → (it : SeenAccepted) (commands : List SeenCommand) → IsDecided (run_report it commands)
 unfolding run_report
 report_decided places_one it commands =
     record { one = one_report places_one it commands; apart = λ a r p q. q; alike = λ r s p q. absurd p }
 
--- ---- the commands
+-- ---- the texts, and what is left of them
+
+given_decided : {T A : Type 0} (it : Option T) (part : T → Part A) → ((t : T) → IsDecided (part t)) → IsDecided (if_given it part)
+unfolding if_given
+given_decided None part is = give_decided None
+given_decided (Some t) part is = in_turn_decided (part t) _ (is t) (λ a. give_decided (Some a))
 
 module _ (stages : StagesAreDecided) (texts_one : TextsAreOne) (places_one : PlacesAreOne) where
-  compiled_decided : (c : Compile) (modules : List SeenModule) (of : Device) (pdl : List ℕ) → IsDecided (compiled_procedure c modules of pdl)
-  unfolding compiled_procedure
-  compiled_decided c modules of pdl =
-      in_turn_decided (network_below modules c.top of) _ (stages.network modules c.top of) (λ network. in_turn_decided (pdl_text pdl) _ (stages.pdl pdl)
-      (λ procs. in_turn_decided (procedure procs network c.procedure) _ (stages.procedure procs network c.procedure) (λ steps. give_decided _)))
+  followed_decided : (network : NestedNet) (name pdl : List ℕ) → IsDecided (followed network name pdl)
+  unfolding followed
+  followed_decided network name pdl = in_turn_decided (pdl_text pdl) _ (stages.pdl pdl) (λ procs. stages.procedure procs network name)
 
-  accepted_decided : (c : Compile) (texts : List (List ℕ)) → IsDecided (accepted c texts)
-  accepted_decided c (icl ∷ pdl ∷ device ∷ []) =
-      in_turn_decided (icl_text icl) _ (stages.icl icl)
-      (λ modules. in_turn_decided (device_text device) _ (stages.device device) (λ of. compiled_decided c modules of pdl))
-  accepted_decided c [] = never_decided
-  accepted_decided c (a ∷ []) = never_decided
-  accepted_decided c (a ∷ b ∷ []) = never_decided
-  accepted_decided c (a ∷ b ∷ d ∷ e ∷ rest) = never_decided
+  accepted_decided : (t : Texts) → IsDecided (accepted t)
+  unfolding accepted
+  accepted_decided t =
+      in_turn_decided (icl_text t.icl) _ (stages.icl t.icl)
+      (λ modules. in_turn_decided (device_text t.device) _ (stages.device t.device)
+      (λ device. in_turn_decided (if_given t.tables tables_text) _ (given_decided t.tables tables_text stages.tables)
+      (λ tables. in_turn_decided (if_given t.svf svf_text) _ (given_decided t.svf svf_text stages.svf)
+      (λ commands. in_turn_decided (network_below modules t.top device) _ (stages.network modules t.top device)
+      (λ network. in_turn_decided (if_given tables (models_of network.net)) _ (given_decided tables (models_of network.net) (stages.fit network.net))
+      (λ models. in_turn_decided (if_given t.pdl (followed network t.procedure)) _ (given_decided t.pdl (followed network t.procedure) (followed_decided network t.procedure))
+      (λ steps. give_decided _)))))))
 
-  files_decided : (svf device tables : List ℕ) → IsDecided (played_files svf device tables)
-  unfolding played_files
-  files_decided svf device tables =
-      in_turn_decided (device_text device) _ (stages.device device) (λ of. in_turn_decided (tables_text tables) _ (stages.tables tables)
-      (λ ts. in_turn_decided (svf_text svf) _ (stages.svf svf) (λ commands. give_decided _)))
+  accepted_of_decided : (t : Option Texts) → IsDecided (accepted_of t)
+  accepted_of_decided None = never_decided
+  accepted_of_decided (Some t) = accepted_decided t
 
-  played_decided : (p : Play) (modules : List SeenModule) (read : SeenFiles) → IsDecided (played_network p modules read)
-  unfolding played_network
-  played_decided p modules read =
-      in_turn_decided (network_below modules p.top read.device) _ (stages.network modules p.top read.device)
-      (λ network. in_turn_decided (models_of network.net read.tables) _ (stages.fit network.net read.tables) (λ models. give_decided _))
+  -- a command that accepts texts
+  row_decided : (row : Row) → ((it : SeenAccepted) → IsDecided (row.leaves it)) → (texts : List (List ℕ)) → IsDecided (row_work row texts)
+  row_decided row leaves texts = in_turn_decided (accepted_of (row.texts texts)) _ (accepted_of_decided (row.texts texts)) leaves
 
-  texts_decided : (p : Play) (modules : List SeenModule) (svf device tables : List ℕ) → IsDecided (played_texts p modules svf device tables)
-  unfolding played_texts
-  texts_decided p modules svf device tables = in_turn_decided (played_files svf device tables) _ (files_decided svf device tables) (played_decided p modules)
+  compiled_decided : (name : List ℕ) (it : SeenAccepted) → IsDecided (compiled name it)
+  compiled_decided name it = in_turn_decided (written_text it) _ (written_decided texts_one it) (λ bytes. give_decided _)
 
-  playable_decided : (p : Play) (texts : List (List ℕ)) → IsDecided (playable p texts)
-  playable_decided p (svf ∷ icl ∷ device ∷ tables ∷ []) =
-      in_turn_decided (icl_text icl) _ (stages.icl icl) (λ modules. texts_decided p modules svf device tables)
-  playable_decided p [] = never_decided
-  playable_decided p (a ∷ []) = never_decided
-  playable_decided p (a ∷ b ∷ []) = never_decided
-  playable_decided p (a ∷ b ∷ d ∷ []) = never_decided
-  playable_decided p (a ∷ b ∷ d ∷ e ∷ f ∷ rest) = never_decided
-
-  fitted_decided : (top : List ℕ) (modules : List SeenModule) (of : Device) (tables : List SeenTable) → IsDecided (fitted_network top modules of tables)
-  unfolding fitted_network
-  fitted_decided top modules of tables =
-      in_turn_decided (network_below modules top of) _ (stages.network modules top of) (λ network. in_turn_decided (models_of network.net tables) _ (stages.fit network.net tables) (λ models. give_decided _))
-
-  followed_text_decided : (name pdl : List ℕ) (network : NestedNet) → IsDecided (followed_text name pdl network)
-  unfolding followed_text
-  followed_text_decided name pdl network =
-      in_turn_decided (pdl_text pdl) _ (stages.pdl pdl) (λ procs. in_turn_decided (procedure procs network name) _ (stages.procedure procs network name) (λ steps. give_decided steps))
-
-  run_decided : (top name : List ℕ) (modules : List SeenModule) (of : Device) (tables : List SeenTable) (pdl : List ℕ) → IsDecided (run_network top name modules of tables pdl)
-  unfolding run_network
-  run_decided top name modules of tables pdl =
-      in_turn_decided (fitted_network top modules of tables) _ (fitted_decided top modules of tables) (λ on. in_turn_decided (followed_text name pdl on.network) _ (followed_text_decided name pdl on.network) (λ steps. give_decided _))
-
-  run_texts_decided : (top name : List ℕ) (modules : List SeenModule) (pdl device tables : List ℕ) → IsDecided (run_texts top name modules pdl device tables)
-  unfolding run_texts
-  run_texts_decided top name modules pdl device tables =
-      in_turn_decided (device_text device) _ (stages.device device) (λ of. in_turn_decided (tables_text tables) _ (stages.tables tables) (λ ts. run_decided top name modules of ts pdl))
-
-  runnable_decided : (top name : List ℕ) (texts : List (List ℕ)) → IsDecided (runnable top name texts)
-  runnable_decided top name (icl ∷ pdl ∷ device ∷ tables ∷ []) =
-      in_turn_decided (icl_text icl) _ (stages.icl icl) (λ modules. run_texts_decided top name modules pdl device tables)
-  runnable_decided top name [] = never_decided
-  runnable_decided top name (a ∷ []) = never_decided
-  runnable_decided top name (a ∷ b ∷ []) = never_decided
-  runnable_decided top name (a ∷ b ∷ d ∷ []) = never_decided
-  runnable_decided top name (a ∷ b ∷ d ∷ e ∷ f ∷ rest) = never_decided
-
-  run_of_decided : (name : List ℕ) (it : SeenRunnable) → IsDecided (run_of name it)
+  run_of_decided : (name : List ℕ) (it : SeenAccepted) → IsDecided (run_of name it)
   unfolding run_of
   run_of_decided name it =
-      in_turn_decided (written_text (compilable_of it)) _ (written_decided texts_one (compilable_of it)) (λ bytes. in_turn_decided (commands_of bytes) _ (commands_decided bytes)
+      in_turn_decided (written_text it) _ (written_decided texts_one it) (λ bytes. in_turn_decided (commands_of bytes) _ (commands_decided bytes)
       (λ commands. in_turn_decided (run_report it commands) _ (report_decided places_one it commands) (λ text. give_decided _)))
 
-  made_of_decided : (files : List Written) (svf : List ℕ) (it : SeenRunnable) → IsDecided (made_of files svf it)
+  made_of_decided : (files : List Written) (svf : List ℕ) (it : SeenAccepted) → IsDecided (made_of files svf it)
   unfolding made_of
   made_of_decided files svf it =
-      in_turn_decided (written_text (compilable_of it)) _ (written_decided texts_one (compilable_of it)) (λ bytes. in_turn_decided (commands_of bytes) _ (commands_decided bytes)
+      in_turn_decided (written_text it) _ (written_decided texts_one it) (λ bytes. in_turn_decided (commands_of bytes) _ (commands_decided bytes)
       (λ commands. give_decided _))
 
   accepted_made_decided : (ws : List Written) → IsDecided (accepted_made ws)
   unfolding accepted_made
-  accepted_made_decided ws = in_turn_decided (taken ws) _ (taken_decided ws) (runnable_decided (codes "chip") (codes "p"))
+  accepted_made_decided ws = in_turn_decided (taken ws) _ (taken_decided ws) (λ texts. accepted_of_decided (direct_texts (codes "chip") (codes "p") texts))
 
-  make_decided : (m : Make) → IsDecided (make m)
-  make_decided m =
+  make_decided : (m : Make) (texts : List (List ℕ)) → IsDecided (make_work m texts)
+  make_decided m texts =
       in_turn_decided (made_files m) _ (made_decided m)
-      (λ files. in_turn_decided (accepted_made files) _ (accepted_made_decided files) (made_of_decided files (m.stem ++ codes ".svf")))
+      (λ files. in_turn_decided (accepted_made files) _ (accepted_made_decided files) (made_of_decided files (made_svf m.stem)))
 
   tables_decided : (texts : List (List ℕ)) → IsDecided (read_tables_of texts)
   tables_decided (tables ∷ []) = stages.tables tables
   tables_decided [] = never_decided
   tables_decided (a ∷ b ∷ rest) = never_decided
 
-  audited_decided : (a : Audit) (modules : List SeenModule) (svf pdl device : List ℕ) → IsDecided (audited_texts a modules svf pdl device)
-  unfolding audited_texts
-  audited_decided a modules svf pdl device =
-      in_turn_decided (device_text device) _ (stages.device device) (λ of. in_turn_decided (svf_text svf) _ (stages.svf svf)
-      (λ commands. in_turn_decided (compiled_procedure (own_compile a) modules of pdl) _ (compiled_decided (own_compile a) modules of pdl) (λ it. give_decided _)))
-
-  auditable_decided : (a : Audit) (texts : List (List ℕ)) → IsDecided (auditable a texts)
-  auditable_decided a (svf ∷ icl ∷ pdl ∷ device ∷ []) =
-      in_turn_decided (icl_text icl) _ (stages.icl icl) (λ modules. audited_decided a modules svf pdl device)
-  auditable_decided a [] = never_decided
-  auditable_decided a (b ∷ []) = never_decided
-  auditable_decided a (b ∷ d ∷ []) = never_decided
-  auditable_decided a (b ∷ d ∷ e ∷ []) = never_decided
-  auditable_decided a (b ∷ d ∷ e ∷ f ∷ g ∷ rest) = never_decided
-
-  work_on_decided : (command : Command) (texts : List (List ℕ)) → IsDecided (work_on command texts)
-  work_on_decided (Compiles c) texts =
-      in_turn_decided (accepted c texts) _ (accepted_decided c texts) (λ it. in_turn_decided (written_text it) _ (written_decided texts_one it) (λ bytes. give_decided _))
-  work_on_decided (Plays p) texts = in_turn_decided (playable p texts) _ (playable_decided p texts) (λ it. give_decided _)
-  work_on_decided (Directs d) texts = in_turn_decided (runnable d.top d.procedure texts) _ (runnable_decided d.top d.procedure texts) (λ it. give_decided _)
-  work_on_decided (Runs r) texts = in_turn_decided (runnable r.top r.procedure texts) _ (runnable_decided r.top r.procedure texts) (run_of_decided r.svf)
-  work_on_decided (Makes m) texts = make_decided m
+  work_on_decided : (command : Command) (texts : List (List ℕ)) → IsDecided ((task command).work_on texts)
+  work_on_decided (Compiles c) texts = row_decided (compile c) (compiled_decided c.svf) texts
+  work_on_decided (Plays p) texts = row_decided (play p) (λ it. give_decided _) texts
+  work_on_decided (Directs d) texts = row_decided (direct d) (λ it. give_decided _) texts
+  work_on_decided (Runs r) texts = row_decided (run r) (run_of_decided r.svf) texts
+  work_on_decided (Makes m) texts = make_decided m texts
   work_on_decided (Migrates m) texts = in_turn_decided (read_tables_of texts) _ (tables_decided texts) (λ tables. give_decided _)
-  work_on_decided (Audits a) texts = in_turn_decided (auditable a texts) _ (auditable_decided a texts) (λ it. give_decided _)
+  work_on_decided (Audits a) texts = row_decided (audit a) (λ it. give_decided _) texts
 
-  pub work_decided : (files : Files) (command : Command) → IsDecided (work (Some files) command)
-  work_decided files command = in_turn_decided (loaded (Some files) (loads command)) _ (loads_decided files (loads command)) (work_on_decided command)
+  pub work_decided : AreDecided task
+  work_decided files command = in_turn_decided (loaded (Some files) (task command).loads) _ (loads_decided files (task command).loads) (work_on_decided command)

@@ -4,9 +4,10 @@ use Rattle.ij_io.specs.Files.{Files}
 use Rattle.retargeter.specs.Files.{HoldsScript, HoldsScriptPart}
 use Rattle.retargeter.specs.Scripts.{HasScript, ScriptIsRight}
 use Rattle.ijtag_work.specs.Filed.{IsFiled, IsPartFiled}
-use Rattle.ijtag_work.specs.Order.{SeenCompilable, written_text}
+use Rattle.ijtag_work.specs.Accepted.{SeenAccepted}
+use Rattle.ijtag_work.specs.Order.{written_text}
 
-module _ (it : SeenCompilable) (text : HasScript it.network.net it.network.form it.device it.steps) (right : ScriptIsRight it.network.net it.network.form it.device it.steps) where
+module _ (it : SeenAccepted) (text : HasScript it.network.net it.network.form it.device it.steps) (right : ScriptIsRight it.network.net it.network.form it.device it.steps) where
   pub has_text : (bytes : List ℕ) × (written_text it).gives bytes
   unfolding written_text
   has_text = (text.0, right text.0 text.1)

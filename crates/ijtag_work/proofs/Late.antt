@@ -2,32 +2,31 @@
 use Rattle.std.proofs.Common.{◌≡◌, inl, inr, ℕ, Bool, Option, List, subst}
 use Rattle.ij_io.specs.Causes.{Rose}
 use Rattle.ij_io.specs.Files.{Files}
-use Rattle.ijtag_work.specs.Command.{Command}
+use Rattle.ijtag_work.specs.Task.{Task, work}
 use Rattle.ijtag_work.specs.Late.{IsLateStop, IsPartOf}
 use Rattle.ijtag_work.specs.Leaves.{Leaves}
-use Rattle.ijtag_work.specs.Order.{work}
 use Rattle.ijtag_work.specs.Runs.{Seen, IsDone, IsPartDone, Counts, IsStop}
 use Rattle.ijtag_work.specs.Stops.{Stop, Usage, Refuses, ReadFault, WriteFault, OutputFault, NoMemory, IsEarly}
 use Rattle.ijtag_stages.specs.Refusals.{Part}
 
-module _ (files : Option Files) (command : Command) (part : Part Leaves) (lift : (leaves : Leaves) → part.gives leaves → (work files command).gives leaves) (old new : Seen) where
-  pub done_in : (differs : Bool) → IsDone part old new differs → IsDone (work files command) old new differs
+module _ (files : Option Files) (task : Task) (part : Part Leaves) (lift : (leaves : Leaves) → part.gives leaves → (work files task).gives leaves) (old new : Seen) where
+  pub done_in : (differs : Bool) → IsDone part old new differs → IsDone (work files task) old new differs
   done_in differs d =
       record { leaves = d.leaves; given = lift d.leaves d.given; files = d.files; printed = d.printed; verdict = d.verdict }
 
-  pub begun_in : IsPartOf part old new → IsPartDone files command old new
+  pub begun_in : IsPartOf part old new → IsPartDone files task old new
   begun_in either = elim either [
     | inl same ↦ inl same
     | inr d ↦ inr (inl (record { leaves = d.leaves; given = lift d.leaves d.given; files = d.files; printed = d.printed; in_order = d.in_order }))
   ]
 
 -- behind loads, which raise no count of a store
-module _ (files : Option Files) (command : Command) (part : Part Leaves) (lift : (leaves : Leaves) → part.gives leaves → (work files command).gives leaves)
+module _ (files : Option Files) (task : Task) (part : Part Leaves) (lift : (leaves : Leaves) → part.gives leaves → (work files task).gives leaves)
     (load load_now store : List ℕ → ℕ) (mid : Counts) (same : (name : List ℕ) → mid.store name ≡ store name) where
   abbrev before : Counts
   before = record { load = load; load_now = load_now; store = store; store_now = mid.store_now; output = mid.output; output_now = mid.output_now }
 
-  pub late_stop : (stop : Stop) → IsLateStop part command mid stop → IsStop files command before stop
+  pub late_stop : (stop : Stop) → IsLateStop part task mid stop → IsStop files task before stop
   late_stop (WriteFault name) is =
       (inl (is.0.0, lift is.0.0 is.0.1), (is.1.0, subst (λ (n : ℕ). Rose n (mid.store_now name)) (same name) is.1.1))
   late_stop OutputFault is = ((is.0.0, lift is.0.0 is.0.1), is.1)
@@ -37,10 +36,10 @@ module _ (files : Option Files) (command : Command) (part : Part Leaves) (lift :
   late_stop (ReadFault name) is = absurd is
 
 -- it comes behind the first write
-pub not_early : (part : Part Leaves) (command : Command) (c : Counts) (stop : Stop) → IsLateStop part command c stop → IsEarly stop → ⊥
-not_early part command c (WriteFault name) is early = early
-not_early part command c OutputFault is early = early
-not_early part command c NoMemory is early = early
-not_early part command c Usage is early = absurd is
-not_early part command c (Refuses refusal) is early = absurd is
-not_early part command c (ReadFault name) is early = absurd is
+pub not_early : (part : Part Leaves) (task : Task) (c : Counts) (stop : Stop) → IsLateStop part task c stop → IsEarly stop → ⊥
+not_early part task c (WriteFault name) is early = early
+not_early part task c OutputFault is early = early
+not_early part task c NoMemory is early = early
+not_early part task c Usage is early = absurd is
+not_early part task c (Refuses refusal) is early = absurd is
+not_early part task c (ReadFault name) is early = absurd is

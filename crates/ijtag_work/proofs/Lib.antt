@@ -16,3 +16,5 @@ pub mod Alike
 pub mod Naming
 pub mod Compared
 pub mod Named
+pub mod Accepting
+pub mod Whole

@@ -4,11 +4,10 @@ use Rattle.std.specs.declared.alloc.Global.{Global}
 use Rattle.std.proofs.Common.{◌≡◌, ◌≢◌, ◌≤◌, ◌<◌, ◌+◌, get_or, zero, suc, inl, inr, ℕ, Option, Some, List, [], ◌∷◌, ◌++◌, length, refl, sym, ap, subst, arith}
 use Rattle.ij_io.specs.Causes.{Rose}
 use Rattle.ij_io.specs.Files.{Files}
-use Rattle.ijtag_work.specs.Command.{Load, names_of, IsNoneOf}
+use Rattle.ijtag_work.specs.Loads.{Load, loaded, loaded_one, names_of, IsNoneOf}
 use Rattle.ijtag_work.specs.Follows.{IsLoadStop, AreShort, seen_texts}
 use Rattle.ijtag_stages.specs.Follows.{IsToldAs}
 use Rattle.ijtag_stages.specs.Seen.{seen_refusal}
-use Rattle.ijtag_work.specs.Order.{loaded_one, loaded}
 use Rattle.ijtag_stages.specs.Refusals.{Part, Refusal}
 use Rattle.ijtag_work.specs.Runs.{IsReached}
 use Rattle.ijtag_work.specs.Seen.{seen_load, seen_stop, stop_from}

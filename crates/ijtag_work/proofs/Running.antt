@@ -1,7 +1,6 @@
 -- What a run does behind the texts that were accepted.
 use Rattle.std.specs.Prelude.{option_map}
 use Rattle.std.proofs.Common.{◌≡◌, ◌∙◌, ◌≤◌, inl, inr, sym, ap, refl, ℕ, Bool, Option, Some, List, [], ◌∷◌, length, arith}
-use Rattle.std.proofs.lemmas.List.{take_all}
 use Rattle.retargeter.specs.Files.{HoldsPart}
 use Rattle.bench_report.specs.Report.{named_report}
 use Rattle.headline.specs.Retargeting.{PlannedStep, script_of}
@@ -15,13 +14,12 @@ use Rattle.retargeter.specs.Plans.{AreStepsOf}
 use Rattle.ijtag_work.specs.Laws.{RunsDifferAlike}
 use Rattle.svf_writer.specs.SeenCommands.{SeenCommand}
 use Rattle.tap_machine.specs.Play.{is_empty}
-use Rattle.ijtag_work.specs.Command.{Run, Runs, direct_loads, run_procedure}
-use Rattle.ijtag_work.specs.Filed.{IsFiled}
-use Rattle.ijtag_work.specs.Headline.{IsRunRetargeted}
+use Rattle.ijtag_work.specs.Accepted.{SeenAccepted}
 use Rattle.ijtag_work.specs.Leaves.{Leaves}
-use Rattle.ijtag_work.specs.Order.{SeenRunnable, compilable_of, commands_of, run_report, run_differs, reads_differ, run_of, ran, any_differs, loaded, runnable, written_text, work}
+use Rattle.ijtag_work.specs.Order.{any_differs, commands_of, ran, reads_differ, run_differs, run_of, run_report, written_text}
 use Rattle.ijtag_work.specs.Late.{IsPartOf}
 use Rattle.ijtag_work.specs.Runs.{Seen, IsDone}
+use Rattle.ijtag_work.proofs.Whole.{whole_is_part}
 
 any_alike : {A B : Type 0} (xs : List A) (ys : List B) → is_empty xs ≡ is_empty ys → any_differs xs ≡ any_differs ys
 any_alike [] [] same = refl
@@ -31,7 +29,7 @@ any_alike (x ∷ xs) (y ∷ ys) same = refl
 
 -- ---- the SVF text and the play of its commands
 
-module _ (name : List ℕ) (it : SeenRunnable) (bytes : List ℕ) (written : (written_text (compilable_of it)).gives bytes) where
+module _ (name : List ℕ) (it : SeenAccepted) (bytes : List ℕ) (written : (written_text it).gives bytes) where
   -- it is no longer than an SVF file may be
   pub short : length bytes ≤ 134217728
   unfolding written_text
@@ -73,8 +71,7 @@ module _ (name : List ℕ) (it : SeenRunnable) (bytes : List ℕ) (written : (wr
 
       module _ (whole : file_at new.files name ≡ option_map (λ _. Some bytes) old.files) where
         all_held : HoldsPart old.files new.files name bytes
-        all_held =
-            inr (length bytes, whole ∙ ap (λ (bs : List ℕ). option_map (λ _. Some bs) old.files) (sym (take_all (length bytes) bytes (omega arith))))
+        all_held = whole_is_part old.files new.files name bytes whole
 
         -- the file is whole, and nothing is printed
         pub silent_part : new.printed ≡ old.printed → IsPartOf (run_of name it) old new
@@ -89,22 +86,3 @@ module _ (name : List ℕ) (it : SeenRunnable) (bytes : List ℕ) (written : (wr
           pub ran_done : (differs : Bool) → Adds old.printed new.printed (report commands) → differs ≡ run_differs it commands → IsDone (run_of name it) old new differs
           ran_done differs printed verdict =
               record { leaves = ran name bytes (report commands) (run_differs it commands); given = given commands is; files = (whole, tt); printed = printed; verdict = verdict }
-
--- ---- as the command's whole work
-
-module _ (files : Option Files) (r : Run) (texts : List (List ℕ)) (it : SeenRunnable) (read : (loaded files (direct_loads (run_procedure r))).gives texts) (is : (runnable r.top r.procedure texts).gives it) where
-  pub run_given : (leaves : Leaves) → (run_of r.svf it).gives leaves → (work files (Runs r)).gives leaves
-  run_given leaves given = (texts, read, (it, is, given))
-
-  pub run_right : (mid new : Option Files) (differs : Bool) → mid ≡ files → IsFiled (written_text (compilable_of it)) mid new r.svf → differs ≡ reads_differ it → IsRunRetargeted files r (file_at new r.svf) differs
-  unfolding written_text
-  run_right mid new differs same w alike = record {
-    texts = texts;
-    it = it;
-    bytes = w.bytes;
-    read = read;
-    accepted = is;
-    written = w.held ∙ ap (λ (fs : Option Files). option_map (λ _. Some w.bytes) fs) same;
-    right = w.given;
-    alike = alike;
-  }

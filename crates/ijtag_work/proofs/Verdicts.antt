@@ -1,17 +1,10 @@
--- How a command ends, by how many compares differ.
-use Rattle.std.proofs.Common.{◌≡◌, ◌≤◌, List, [], ◌∷◌, length, refl, ap, ◌∙◌, arith, true, false}
+-- Whether any of some compares differs, by how many do.
+use Rattle.std.proofs.Common.{◌≡◌, ◌≤◌, ◌∙◌, ap, arith, ℕ, Bool, false, true, List, [], ◌∷◌, length}
 use Rattle.ijtag_work.specs.Order.{any_differs}
 
-none_differs : {A : Type 0} (xs : List A) → length xs ≡ 0 → false ≡ any_differs xs
-none_differs [] none = refl
-none_differs (x ∷ xs) none = absurd (omega (arith, none))
+by_count : {A : Type 0} (xs : List A) (verdict : Bool) (n : ℕ) → (n ≡ 0 → verdict ≡ false) → (1 ≤ n → verdict ≡ true) → n ≡ length xs → verdict ≡ any_differs xs
+by_count [] verdict n none some count = none count
+by_count (x ∷ xs) verdict n none some count = some (omega (arith, count))
 
-some_differs : {A : Type 0} (xs : List A) → 1 ≤ length xs → true ≡ any_differs xs
-some_differs [] some = absurd (omega (arith, some))
-some_differs (x ∷ xs) some = refl
-
-pub agrees : {A : Type 0} (xs ys : List A) → xs ≡ ys → length xs ≡ 0 → false ≡ any_differs ys
-agrees xs ys same none = none_differs xs none ∙ ap any_differs same
-
-pub differs : {A : Type 0} (xs ys : List A) → xs ≡ ys → 1 ≤ length xs → true ≡ any_differs ys
-differs xs ys same some = some_differs xs some ∙ ap any_differs same
+pub verdict_is : {A : Type 0} (xs ys : List A) (verdict : Bool) (n : ℕ) → (n ≡ 0 → verdict ≡ false) → (1 ≤ n → verdict ≡ true) → n ≡ length xs → xs ≡ ys → verdict ≡ any_differs ys
+verdict_is xs ys verdict n none some count same = by_count xs verdict n none some count ∙ ap any_differs same

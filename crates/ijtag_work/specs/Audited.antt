@@ -1,23 +1,26 @@
 -- What it means that an audit says yes; and what it says of the text that is compiled of the same files.
-use Rattle.std.specs.Prelude.{◌≡◌, ℕ, false, List, Option, Some}
+use Rattle.std.specs.Prelude.{◌≡◌, ℕ, Bool, false, List, Option, Some}
 use Rattle.ij_io.specs.Files.{Files, bytes_of}
 use Rattle.instruments.specs.Machine.{Machine, whole_log}
 use Rattle.net_bench.specs.Bench.{fault_free}
 use Rattle.svf_audit.specs.Law.{DoesAll}
 use Rattle.svf_audit.specs.Audit.{Reading, Yes}
-use Rattle.ijtag_work.specs.Command.{Command, Compiles, Plays, Directs, Runs, Makes, Migrates, Audit, Audits, own_compile, audit_loads}
-use Rattle.ijtag_work.specs.Order.{SeenAuditable, loaded, auditable, verdict_of, filed, told, work}
+use Rattle.ijtag_work.specs.Accepted.{SeenAccepted}
+use Rattle.ijtag_work.specs.Command.{Command, Compiles, Plays, Directs, Runs, Makes, Migrates, Audit, Audits, own_compile}
+use Rattle.ijtag_work.specs.Order.{audit, filed, task, told, verdict_of}
+use Rattle.ijtag_work.specs.Promises.{AcceptedWith}
+use Rattle.ijtag_work.specs.Task.{work}
 
--- the texts are accepted as commands of SVF and a procedure, and these commands, played clock by clock from power-up, do what
--- the procedure means, and compare exactly what it reads, whatever the instruments are
-pub record IsAudited (files : Option Files) (a : Audit) : Type 0 where
-  pub texts : List (List ℕ)
-  pub it : SeenAuditable
+-- the audit says yes, and the commands of SVF, played clock by clock from power-up, do what the procedure means, and compare exactly
+-- what it reads, whatever the instruments are
+pub record PlayAsMeant (it : SeenAccepted) : Type 0 where
   pub readings : List Reading
-  pub read : (loaded files (audit_loads a)).gives texts
-  pub accepted : (auditable a texts).gives it
   pub yes : verdict_of it ≡ Yes readings
-  pub does : (machines : List Machine) → DoesAll (fault_free whole_log it.of.network.net it.of.device machines) it.of.steps it.commands readings
+  pub does : (machines : List Machine) → DoesAll (fault_free whole_log it.network.net it.device machines) it.steps it.commands readings
+
+-- the texts are accepted as such commands and a procedure
+abbrev pub IsAudited : Option Files → Audit → Type 0
+IsAudited files a = AcceptedWith (audit a) files PlayAsMeant
 
 -- what holds where a command is an audit
 abbrev pub IfAudits : Command → (Audit → Type 0) → Type 0
@@ -31,8 +34,18 @@ IfAudits (Migrates m) P = Unit {0}
 
 -- the audited file holds the text that a compile of the same procedure writes to it
 abbrev pub IsOwnText : Files → Audit → Type 0
-IsOwnText files a = (work (Some files) (Compiles (own_compile a))).gives (filed a.svf (bytes_of files a.svf))
+IsOwnText files a = (work (Some files) (task (Compiles (own_compile a)))).gives (filed a.svf (bytes_of files a.svf))
 
 -- so an audit, which is accepted, says yes of it
 abbrev pub OwnTextsPass : Type 0
-OwnTextsPass = (files : Files) (a : Audit) → IsOwnText files a → (text : List ℕ) × (work (Some files) (Audits a)).gives (told text false)
+OwnTextsPass = (files : Files) (a : Audit) → IsOwnText files a → (text : List ℕ) × (work (Some files) (task (Audits a))).gives (told text false)
+
+-- what is promised of a command that ends with this verdict: of an audit without a difference, that what it audits is so
+abbrev pub IsPromised : Command → Option Files → Bool → Type 0
+IsPromised (Audits a) files differs = differs ≡ false → IsAudited files a
+IsPromised (Compiles c) files differs = Unit {0}
+IsPromised (Plays p) files differs = Unit {0}
+IsPromised (Directs d) files differs = Unit {0}
+IsPromised (Runs r) files differs = Unit {0}
+IsPromised (Makes m) files differs = Unit {0}
+IsPromised (Migrates m) files differs = Unit {0}

@@ -7,10 +7,10 @@ use Rattle.ijtag_stages.specs.Refusals.{Part}
 use Rattle.headline.specs.Retargeting.{PlannedStep}
 use Rattle.net_graph.specs.Resets.{start_holds}
 use Rattle.retargeter.specs.Plans.{AreStepsOf}
-use Rattle.ijtag_work.specs.Order.{SeenCompilable}
+use Rattle.ijtag_work.specs.Accepted.{SeenAccepted}
 
--- there are plans for the bit steps of what is compiled
-abbrev pub HasPlans : SeenCompilable → Type 0
+-- there are plans for the bit steps of what is accepted
+abbrev pub HasPlans : SeenAccepted → Type 0
 HasPlans it = (xs : List PlannedStep) × AreStepsOf it.network.net it.network.form (start_holds it.network.net) it.steps xs
 
 -- the file holds the text

@@ -2,7 +2,7 @@
 use Rattle.std.specs.Prelude.{◌≡◌, ◌≤◌, ℕ, List, [], ◌∷◌, length, map, Vec, Option, Result, Ok, Err}
 use Rattle.std.specs.declared.alloc.Global.{Global}
 use Rattle.ij_io.specs.Files.{Files}
-use Rattle.ijtag_work.specs.Command.{Load}
+use Rattle.ijtag_work.specs.Loads.{Load}
 use Rattle.ijtag_stages.specs.Refusals.{Part}
 use Rattle.ijtag_work.specs.Runs.{IsReadFault}
 use Rattle.ijtag_work.specs.Seen.{seen_stop}

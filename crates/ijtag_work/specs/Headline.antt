@@ -3,39 +3,34 @@ use Rattle.std.specs.Prelude.{◌≡◌, ℕ, Bool, List, Option, Some, None, co
 use Rattle.std.specs.Option.{option_map}
 use Rattle.ij_io.specs.Files.{Files}
 use Rattle.headline.specs.Retargeting.{IsRetargeted as DoSteps}
-use Rattle.ijtag_work.specs.Command.{Command, Compile, Compiles, Plays, Directs, Run, Runs, Make, Makes, made_svf, Migrates, Audits, compile_loads, direct_loads, run_procedure}
-use Rattle.ijtag_work.specs.Order.{SeenCompilable, SeenRunnable, loaded, accepted, made_texts, runnable, reads_differ}
+use Rattle.ijtag_work.specs.Accepted.{SeenAccepted, accepted_of}
+use Rattle.ijtag_work.specs.Command.{Command, Compile, Compiles, Plays, Directs, Run, Runs, Make, Makes, made_svf, Migrates, Audits}
+use Rattle.ijtag_work.specs.Order.{compile, direct_texts, made_texts, reads_differ, run}
+use Rattle.ijtag_work.specs.Promises.{AcceptedWith}
 
--- the files' texts are accepted as a network, a device and the bit steps of a procedure, and the SVF file holds bytes that do these steps
-pub record IsRetargeted (files : Option Files) (c : Compile) (svf : Option (Option (List ℕ))) : Type 0 where
-  pub texts : List (List ℕ)
-  pub it : SeenCompilable
+-- where the texts are accepted as a network, a device and the bit steps of a procedure: the SVF file holds bytes that do these steps
+pub record HasRightSvf (files : Option Files) (svf : Option (Option (List ℕ))) (it : SeenAccepted) : Type 0 where
   pub bytes : List ℕ
-  pub read : (loaded files (compile_loads c)).gives texts
-  pub accepted : (accepted c texts).gives it
   pub written : svf ≡ option_map (λ _. Some bytes) files
   pub right : DoSteps it.network.net it.network.form it.device it.steps bytes
+
+abbrev pub IsRetargeted : Option Files → Compile → Option (Option (List ℕ)) → Type 0
+IsRetargeted files c svf = AcceptedWith (compile c) files (HasRightSvf files svf)
 
 -- the same of a run, whose texts are accepted with tables that fit the network; and it ends as differing exactly where a read of the
 -- procedure's direct meaning differs
-pub record IsRunRetargeted (files : Option Files) (r : Run) (svf : Option (Option (List ℕ))) (differs : Bool) : Type 0 where
-  pub texts : List (List ℕ)
-  pub it : SeenRunnable
-  pub bytes : List ℕ
-  pub read : (loaded files (direct_loads (run_procedure r))).gives texts
-  pub accepted : (runnable r.top r.procedure texts).gives it
-  pub written : svf ≡ option_map (λ _. Some bytes) files
-  pub right : DoSteps it.network.net it.network.form it.device it.steps bytes
+pub record RunsRight (files : Option Files) (svf : Option (Option (List ℕ))) (differs : Bool) (it : SeenAccepted) : Type 0 where
+  pub right : HasRightSvf files svf it
   pub alike : differs ≡ reads_differ it
 
--- the same of a made design
+abbrev pub IsRunRetargeted : Option Files → Run → Option (Option (List ℕ)) → Bool → Type 0
+IsRunRetargeted files r svf differs = AcceptedWith (run r) files (RunsRight files svf differs)
+
+-- the same of a made design, whose texts are accepted as those of a run
 pub record IsMadeRetargeted (files : Option Files) (m : Make) (svf : Option (Option (List ℕ))) (differs : Bool) : Type 0 where
-  pub it : SeenRunnable
-  pub bytes : List ℕ
-  pub accepted : (runnable (codes "chip") (codes "p") (made_texts m)).gives it
-  pub written : svf ≡ option_map (λ _. Some bytes) files
-  pub right : DoSteps it.network.net it.network.form it.device it.steps bytes
-  pub alike : differs ≡ reads_differ it
+  pub it : SeenAccepted
+  pub accepted : (accepted_of (direct_texts (codes "chip") (codes "p") (made_texts m))).gives it
+  pub right : RunsRight files svf differs it
 
 -- what each command leaves in its SVF file, by the contents of any file, where it ends with this verdict
 abbrev pub LeavesRightSvf : Option Files → (List ℕ → Option (Option (List ℕ))) → Bool → Option Command → Type 0

@@ -1,14 +1,20 @@
 -- what is promised, in the order of reading
 pub mod Command
+pub mod Loads
+pub mod Accepted
 pub mod Leaves
+pub mod Task
 pub mod Order
 pub mod Stops
 pub mod Runs
+pub mod Promises
 pub mod Headline
 pub mod Audited
 pub mod Codes
 -- how the code goes
 pub mod Seen
+pub mod Words
+pub mod Using
 pub mod Follows
 pub mod Filed
 pub mod Late

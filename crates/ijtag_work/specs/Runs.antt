@@ -1,14 +1,14 @@
--- What a run of any command accepts, leaves and stops at: said once, of the work of its command.
+-- What a run of any command accepts, leaves and stops at: said once, of the command's task.
 use Rattle.std.specs.Prelude.{◌≡◌, ◌⊎◌, ℕ, Bool, true, false, List, [], ◌∷◌, Option, Some, None, IsTrue, IfSome}
-use Rattle.std.specs.Option.{option_map}
+use Rattle.std.specs.Option.{option_map, option_map_or}
 use Rattle.ij_io.specs.Bytes.{Adds, AddsPart}
 use Rattle.ij_io.specs.Causes.{Rose}
 use Rattle.ij_io.specs.Files.{Files, file_at}
 use Rattle.retargeter.specs.Files.{HoldsPart}
-use Rattle.ijtag_work.specs.Command.{Command, Compiles, Plays, Directs, Runs, Makes, Migrates, Audits, Load, loads, names_of, writes, first_writes, made_names, prints, IsOneOf, IsNoneOf}
-use Rattle.ijtag_stages.specs.Work.{IsDecided}
+use Rattle.ijtag_work.specs.Loads.{Load, loaded_one, names_of, IsOneOf, IsNoneOf}
 use Rattle.ijtag_work.specs.Leaves.{Leaves, Written}
-use Rattle.ijtag_work.specs.Order.{begins, loaded_one, made_files, work}
+use Rattle.ijtag_stages.specs.Work.{IsDecided}
+use Rattle.ijtag_work.specs.Task.{Task, work}
 use Rattle.ijtag_stages.specs.Refusals.{Part}
 use Rattle.ijtag_work.specs.Stops.{Stop, Usage, Refuses, ReadFault, WriteFault, OutputFault, NoMemory, IsUsage}
 use Rattle.ijtag_work.specs.declared.status.Status.{Status}
@@ -72,8 +72,8 @@ pub record IsFirstBegun (first : Part (List Written)) (names : List (List ℕ)) 
 abbrev pub IsUnchanged : Seen → Seen → Type 0
 IsUnchanged old new = (new.files ≡ old.files) × (new.printed ≡ old.printed)
 
-abbrev pub IsPartDone : Option Files → Command → Seen → Seen → Type 0
-IsPartDone files command old new = IsUnchanged old new ⊎ (IsBegun (work files command) old new ⊎ IsFirstBegun (begins command) (first_writes command) old new)
+abbrev pub IsPartDone : Option Files → Task → Seen → Seen → Type 0
+IsPartDone files task old new = IsUnchanged old new ⊎ (IsBegun (work files task) old new ⊎ IsFirstBegun task.begins task.first_writes old new)
 
 -- where a text is refused, the files that are written before, which have these names, stand whole, and no other file changes; where there
 -- are none, nothing changes
@@ -82,18 +82,9 @@ pub record AreFirstWritten (first : Part (List Written)) (names : List (List ℕ
   pub others : OnlyTheseChange names old new
   pub same : ((written : List Written) → first.gives written → ⊥) → new ≡ old
 
-abbrev pub IsKept : Command → Option Files → Option Files → Type 0
-IsKept (Compiles c) old new = new ≡ old
-IsKept (Plays p) old new = new ≡ old
-IsKept (Directs d) old new = new ≡ old
-IsKept (Runs r) old new = new ≡ old
-IsKept (Makes m) old new = AreFirstWritten (made_files m) (made_names m.stem) old new
-IsKept (Migrates m) old new = new ≡ old
-IsKept (Audits a) old new = new ≡ old
-
-abbrev pub AreKept : Option Command → Option Files → Option Files → Type 0
-AreKept None old new = new ≡ old
-AreKept (Some command) old new = IsKept command old new
+abbrev pub AreKept : {C : Type 0} → (C → Task) → Option C → Option Files → Option Files → Type 0
+AreKept task None old new = new ≡ old
+AreKept task (Some command) old new = AreFirstWritten (task command).begins (task command).first_writes old new
 
 -- no count changes but those of these names
 abbrev pub OnlyTheseRise : List (List ℕ) → (List ℕ → ℕ) → (List ℕ → ℕ) → Type 0
@@ -104,8 +95,18 @@ abbrev pub Tells : {K : Type 0} → (K → Option (List ℕ)) → (K → ℕ) �
 Tells taken faults old new text = Adds (taken old) (taken new) text ⊎ (AddsPart (taken old) (taken new) text × Rose (faults old) (faults new))
 
 -- where there is a command, and the files are told
-abbrev pub IfTold : Option Command → Option Files → (Command → Files → Type 0) → Type 0
+abbrev pub IfTold : {C : Type 0} → Option C → Option Files → (C → Files → Type 0) → Type 0
 IfTold words files P = IfSome words (λ command. IfSome files (λ f. P command f))
+
+-- the names of the files that a command loads, or of those that it writes, and whether it prints; without a command none is
+abbrev pub loads_in : {C : Type 0} → (C → Task) → Option C → List (List ℕ)
+loads_in task words = option_map_or (λ command. names_of (task command).loads) words []
+
+abbrev pub writes_in : {C : Type 0} → (C → Task) → Option C → List (List ℕ)
+writes_in task words = option_map_or (λ command. (task command).writes) words []
+
+abbrev pub prints_in : {C : Type 0} → (C → Task) → Option C → Bool
+prints_in task words = option_map_or (λ command. (task command).prints) words false
 
 -- ---- counts of faults, before a run and after it: of loads and of stores by name, and of the output
 
@@ -127,28 +128,28 @@ SomeRose [] before now = ⊥
 SomeRose (name ∷ names) before now = Rose (before name) (now name) ⊎ SomeRose names before now
 
 -- of a file that the command loads, or of one that it writes or of the output that it prints on
-abbrev pub LoadRose : Command → Counts → Type 0
-LoadRose command c = SomeRose (names_of (loads command)) c.load c.load_now
+abbrev pub LoadRose : Task → Counts → Type 0
+LoadRose task c = SomeRose (names_of task.loads) c.load c.load_now
 
 -- of a file that is written before the texts are accepted
-abbrev pub FirstRose : Command → Counts → Type 0
-FirstRose command c = SomeRose (first_writes command) c.store c.store_now
+abbrev pub FirstRose : Task → Counts → Type 0
+FirstRose task c = SomeRose task.first_writes c.store c.store_now
 
-abbrev pub WriteRose : Command → Counts → Type 0
-WriteRose command c = SomeRose (writes command) c.store c.store_now ⊎ (IsTrue (prints command) × Rose c.output c.output_now)
+abbrev pub WriteRose : Task → Counts → Type 0
+WriteRose task c = SomeRose task.writes c.store c.store_now ⊎ (IsTrue task.prints × Rose c.output c.output_now)
 
 -- ---- why a run stops short
 
-abbrev pub IsAccepted : Option Files → Command → Type 0
-IsAccepted files command = (leaves : Leaves) × (work files command).gives leaves
+abbrev pub IsAccepted : Option Files → Task → Type 0
+IsAccepted files task = (leaves : Leaves) × (work files task).gives leaves
 
 -- the files that are written before may be given
-abbrev pub CanBegin : Command → Type 0
-CanBegin command = (written : List Written) × (begins command).gives written
+abbrev pub CanBegin : Task → Type 0
+CanBegin task = (written : List Written) × task.begins.gives written
 
 -- a file is written only where all is accepted, or where it is one of those that are written before
-abbrev pub CanWrite : Option Files → Command → List ℕ → Type 0
-CanWrite files command name = IsAccepted files command ⊎ (CanBegin command × IsOneOf (first_writes command) name)
+abbrev pub CanWrite : Option Files → Task → List ℕ → Type 0
+CanWrite files task name = IsAccepted files task ⊎ (CanBegin task × IsOneOf task.first_writes name)
 
 -- this file is one of those that are loaded in this order, and those before it may be given
 abbrev pub IsReached : Option Files → List Load → List ℕ → Type 0
@@ -160,27 +161,27 @@ abbrev pub IsReadFault : Option Files → List Load → (List ℕ → ℕ) → (
 IsReadFault files loads before now name = IsReached files loads name × Rose (before name) (now name)
 
 -- a write failed of one of the files that the command writes, or of the output that it prints on
-abbrev pub IsWriteStop : Command → Counts → Stop → Type 0
-IsWriteStop command c (WriteFault name) = IsOneOf (writes command) name × Rose (c.store name) (c.store_now name)
-IsWriteStop command c OutputFault = IsTrue (prints command) × Rose c.output c.output_now
-IsWriteStop command c Usage = ⊥
-IsWriteStop command c (Refuses refusal) = ⊥
-IsWriteStop command c (ReadFault name) = ⊥
-IsWriteStop command c NoMemory = ⊥
+abbrev pub IsWriteStop : Task → Counts → Stop → Type 0
+IsWriteStop task c (WriteFault name) = IsOneOf task.writes name × Rose (c.store name) (c.store_now name)
+IsWriteStop task c OutputFault = IsTrue task.prints × Rose c.output c.output_now
+IsWriteStop task c Usage = ⊥
+IsWriteStop task c (Refuses refusal) = ⊥
+IsWriteStop task c (ReadFault name) = ⊥
+IsWriteStop task c NoMemory = ⊥
 
 -- the first refusal of the command's work; or a load failed that was come to; or a write failed of what could be written
-abbrev pub IsStop : Option Files → Command → Counts → Stop → Type 0
-IsStop files command c (Refuses refusal) = (work files command).refuses refusal
-IsStop files command c (ReadFault name) = IsReadFault files (loads command) c.load c.load_now name
-IsStop files command c (WriteFault name) = CanWrite files command name × IsWriteStop command c (WriteFault name)
-IsStop files command c OutputFault = IsAccepted files command × IsWriteStop command c OutputFault
-IsStop files command c NoMemory = Unit {0}
-IsStop files command c Usage = ⊥
+abbrev pub IsStop : Option Files → Task → Counts → Stop → Type 0
+IsStop files task c (Refuses refusal) = (work files task).refuses refusal
+IsStop files task c (ReadFault name) = IsReadFault files task.loads c.load c.load_now name
+IsStop files task c (WriteFault name) = CanWrite files task name × IsWriteStop task c (WriteFault name)
+IsStop files task c OutputFault = IsAccepted files task × IsWriteStop task c OutputFault
+IsStop files task c NoMemory = Unit {0}
+IsStop files task c Usage = ⊥
 
 -- without a command, only the words are at fault
-abbrev pub IsRunStop : Option Command → Option Files → Counts → Stop → Type 0
-IsRunStop None files c stop = IsUsage stop
-IsRunStop (Some command) files c stop = IsStop files command c stop
+abbrev pub IsRunStop : {C : Type 0} → (C → Task) → Option C → Option Files → Counts → Stop → Type 0
+IsRunStop task None files c stop = IsUsage stop
+IsRunStop task (Some command) files c stop = IsStop files (task command) c stop
 
 -- ---- statuses
 
@@ -213,7 +214,7 @@ IsPartStatus ReadStatus = ⊥
 IsPartStatus WriteStatus = Unit {0}
 IsPartStatus OutOfMemory = Unit {0}
 
--- ---- the work of a command comes to one end at most
+-- ---- the work of each command comes to one end at most
 
-abbrev pub WorksAreDecided : Type 0
-WorksAreDecided = (files : Files) (command : Command) → IsDecided (work (Some files) command)
+abbrev pub AreDecided : {C : Type 0} → (C → Task) → Type 0
+AreDecided {C} task = (files : Files) (command : C) → IsDecided (work (Some files) (task command))

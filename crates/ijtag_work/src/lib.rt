@@ -17,7 +17,7 @@ mod stop;
 mod words;
 mod write;
 
-pub use accepted::{Auditable, Compilable, Instrumented, Playable, PlayedFiles, Runnable};
+pub use accepted::{Accepted, Procedure, Texts, accept};
 pub use audited::own_texts_pass;
 pub use decided::works_are_decided;
 pub use follow::steps_again;

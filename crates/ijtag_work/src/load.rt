@@ -1,9 +1,8 @@
 // The files that a command loads.
 ghost use Rattle.std.specs.Prelude.{◌≡◌, ◌≤◌, List, ℕ, [], ◌∷◌, length, map, IfOk};
 ghost use Rattle.ij_io.specs.Causes.{SameCounts};
-ghost use Rattle.ijtag_work.specs.Command.{names_of};
+ghost use Rattle.ijtag_work.specs.Loads.{loaded, loaded_one, names_of};
 ghost use Rattle.ijtag_work.specs.Follows.{LoadsAndFollows, AreTexts, seen_texts};
-ghost use Rattle.ijtag_work.specs.Order.{loaded_one, loaded};
 ghost use Rattle.ijtag_work.specs.Runs.{OnlyTheseRise};
 ghost use Rattle.ijtag_work.specs.Seen.{seen_load};
 

@@ -1,5 +1,5 @@
 // How a run ended.
-ghost use Rattle.std.specs.Prelude.{◌≡◌};
+ghost use Rattle.std.specs.Prelude.{◌≡◌, ◌≤◌, false, true};
 ghost use Rattle.ijtag_work.specs.Codes.{code_of};
 ghost use Rattle.ijtag_work.specs.Runs.{status_if};
 ghost use Rattle.ijtag_work.specs.Seen.{differing};
@@ -42,6 +42,18 @@ pub enum Verdict {
 }
 
 impl Verdict {
+    /// Whether any of some things differs, by how many do.
+    pub fn of_count(differs: u64) -> Verdict
+        ensures none { differs ≡ 0 → differing result ≡ false }
+        ensures some { 1 ≤ differs → differing result ≡ true }
+    {
+        if differs == 0 {
+            Verdict::Agrees
+        } else {
+            Verdict::Differs
+        }
+    }
+
     /// The status of a run that ends so.
     pub fn status(self) -> Status
         ensures { result ≡ status_if (differing self) }

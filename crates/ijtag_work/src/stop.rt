@@ -3,7 +3,7 @@ ghost use Rattle.std.specs.Prelude.{◌≡◌, OnOk, OnErr, codes};
 ghost use Rattle.ij_io.specs.Bytes.{Adds, AddsPart};
 ghost use Rattle.ij_io.specs.Causes.{HasCause};
 ghost use Rattle.ijtag_work.specs.Runs.{IsOrMemory, Tells};
-ghost use Rattle.ijtag_work.specs.Seen.{seen_made_name, seen_stop, stop_from};
+ghost use Rattle.ijtag_work.specs.Seen.{file_stop, output_stop, seen_made_name, seen_stop, stop_from};
 ghost use Rattle.ijtag_work.specs.declared.stop.Stop.TheVariants as stops;
 ghost use Rattle.ijtag_work.specs.Stops.{status_of, stop_text, named_line};
 
@@ -60,7 +60,27 @@ impl<'a> From<AllocFailed<Vec<u8>>> for Stop<'a> {
     }
 }
 
-impl Stop<'_> {
+impl<'a> Stop<'a> {
+    /// Why a run stops at a write of a file.
+    pub fn of_file(fault: StoreFault, name: &'a str) -> Stop<'a>
+        ensures { seen_stop result ≡ file_stop name.entry.now fault }
+    {
+        match fault {
+            StoreFault::Failed => Stop::WriteFault(name),
+            StoreFault::OutOfMemory => Stop::OutOfMemory,
+        }
+    }
+
+    /// Why a run stops at a write of the output.
+    pub fn of_output(fault: StoreFault) -> Stop<'a>
+        ensures { seen_stop result ≡ output_stop fault }
+    {
+        match fault {
+            StoreFault::Failed => Stop::OutputFault,
+            StoreFault::OutOfMemory => Stop::OutOfMemory,
+        }
+    }
+
     /// The status of a run that stops so.
     pub fn status(&self) -> Status
         ensures { result ≡ status_of (seen_stop self.now) }

@@ -1,7 +1,9 @@
 // The words that the program is called with.
 ghost use Rattle.std.specs.Prelude.{◌≡◌, [], ◌∷◌, map, option_map};
-ghost use Rattle.ijtag_work.specs.Command.{command_in, command_of, make_of, number_of, compile_loads, play_loads, direct_loads, migrate_loads, audit_loads, own_compile};
-ghost use Rattle.ijtag_work.specs.Seen.{seen_command, seen_compile, seen_play, seen_direct, seen_migrate, seen_audit, seen_load};
+ghost use Rattle.ijtag_work.specs.Command.{command_in, command_of, make_of, number_of};
+ghost use Rattle.ijtag_work.specs.Order.{audit, compile, direct, migrate, play, run};
+ghost use Rattle.ijtag_work.specs.Seen.{seen_load};
+ghost use Rattle.ijtag_work.specs.Words.{seen_command, seen_compile, seen_play, seen_direct, seen_run, seen_migrate, seen_audit};
 
 use crate::load::Load;
 use crate::number::read_number;
@@ -26,7 +28,7 @@ pub struct CompileWords<'a> {
 impl<'a> CompileWords<'a> {
     /// The files that are loaded, in this order.
     pub fn loads(&self) -> [Load<'a>; 3]
-        ensures { map seen_load result ≡ compile_loads (seen_compile self.now) }
+        ensures { map seen_load result ≡ (compile (seen_compile self.now)).loads }
     {
         [
             Load::Source(self.icl),
@@ -54,7 +56,7 @@ pub struct PlayWords<'a> {
 impl<'a> PlayWords<'a> {
     /// The files that are loaded, in this order.
     pub fn loads(&self) -> [Load<'a>; 4]
-        ensures { map seen_load result ≡ play_loads (seen_play self.now) }
+        ensures { map seen_load result ≡ (play (seen_play self.now)).loads }
     {
         [
             Load::Svf(self.svf),
@@ -85,7 +87,7 @@ pub struct DirectWords<'a> {
 impl<'a> DirectWords<'a> {
     /// The files that are loaded, in this order.
     pub fn loads(&self) -> [Load<'a>; 4]
-        ensures { map seen_load result ≡ direct_loads (seen_direct self.now) }
+        ensures { map seen_load result ≡ (direct (seen_direct self.now)).loads }
     {
         [
             Load::Source(self.icl),
@@ -115,6 +117,20 @@ pub struct RunWords<'a> {
     pub svf: &'a str,
 }
 
+impl<'a> RunWords<'a> {
+    /// The files that are loaded, in this order.
+    pub fn loads(&self) -> [Load<'a>; 4]
+        ensures { map seen_load result ≡ (run (seen_run self.now)).loads }
+    {
+        [
+            Load::Source(self.icl),
+            Load::Source(self.pdl),
+            Load::Source(self.device),
+            Load::Source(self.tables),
+        ]
+    }
+}
+
 /// The words of `make SEED SIZE STEM`.
 #[derive(Clone, Copy)]
 pub struct MakeWords<'a> {
@@ -138,7 +154,7 @@ pub struct MigrateWords<'a> {
 impl<'a> MigrateWords<'a> {
     /// The file that is loaded.
     pub fn loads(&self) -> [Load<'a>; 1]
-        ensures { map seen_load result ≡ migrate_loads (seen_migrate self.now) }
+        ensures { map seen_load result ≡ (migrate (seen_migrate self.now)).loads }
     {
         [Load::Source(self.tables)]
     }
@@ -164,7 +180,7 @@ pub struct AuditWords<'a> {
 impl<'a> AuditWords<'a> {
     /// The files that are loaded, in this order.
     pub fn loads(&self) -> [Load<'a>; 4]
-        ensures { map seen_load result ≡ audit_loads (seen_audit self.now) }
+        ensures { map seen_load result ≡ (audit (seen_audit self.now)).loads }
     {
         [
             Load::Svf(self.svf),
@@ -172,20 +188,6 @@ impl<'a> AuditWords<'a> {
             Load::Source(self.pdl),
             Load::Source(self.device),
         ]
-    }
-
-    /// The words of a compile of the same procedure, to the file that is audited.
-    pub fn own_compile(&self) -> CompileWords<'a>
-        ensures { seen_compile result ≡ own_compile (seen_audit self.now) }
-    {
-        CompileWords {
-            icl: self.icl,
-            pdl: self.pdl,
-            device: self.device,
-            top: self.top,
-            procedure: self.procedure,
-            svf: self.svf,
-        }
     }
 }
 

@@ -6,7 +6,7 @@ use Rattle.ijtag_stages.specs.declared.refusal.Stage.TheVariants.{Make as MakeSt
 use Rattle.ijtag_stages.proofs.Faults.{told_one}
 use Rattle.ijtag_work.specs.Command.{Make, made_names}
 use Rattle.ijtag_work.specs.Order.{made_files, written_as}
-use Rattle.ijtag_work.specs.Seen.{seen_make}
+use Rattle.ijtag_work.specs.Words.{seen_make}
 use Rattle.ijtag_core.proofs.made_design.make_design.Goals as goal
 
 -- four files have the same texts

@@ -1,20 +1,22 @@
-use Rattle.std.proofs.Common.{refl, rules, ℕ, List, [], ◌++◌, codes}
-use Rattle.ij_io.specs.Causes.{Rose}
+use Rattle.std.proofs.Common.{refl, sym, subst, ℕ, List, [], ◌++◌, codes}
 use Rattle.ij_io.proofs.Adding.{at_refusal}
 use Rattle.ijtag_work.specs.Late.{IsPartOf}
-use Rattle.ijtag_work.specs.Order.{SeenRunnable, made_of}
+use Rattle.ijtag_work.specs.Accepted.{SeenAccepted}
+use Rattle.ijtag_work.specs.Order.{made_of}
 use Rattle.ijtag_work.specs.Runs.{Counts, Seen, counts}
-use Rattle.ijtag_work.specs.Seen.{seen_runnable, seen_stop, differing}
+use Rattle.ijtag_work.specs.Seen.{seen_stop, differing}
+use Rattle.ijtag_work.specs.Stops.{Stop}
+use Rattle.ijtag_work.specs.Using.{seen_accepted}
 use Rattle.ijtag_work.specs.declared.stop.Stop.{Stop as RustStop}
 use Rattle.ijtag_core.specs.Svf.{IsPlayStop}
 use Rattle.ijtag_core.proofs.Exits.{at_fault}
-use Rattle.ijtag_core.proofs.Playing.{line_alike, line_done, line_part, output_stop, svf_part, svf_stop}
+use Rattle.ijtag_core.proofs.Playing.{line_done, line_part, line_stop, svf_part, svf_stop}
 use Rattle.ijtag_core.proofs.made_svf.write_and_play.Goals as goal
 
 pub returns-in_err-commands-clause-stop : goal.returns-in_err-commands-clause-stop
 returns-in_err-commands-clause-stop g c =
     let svf : List ℕ = c.args.stem.now ++ codes ".svf" in
-    let it : SeenRunnable = seen_runnable c.args.procedure.now c.args.it.now in
+    let it : SeenAccepted = seen_accepted c.args.it.now in
     let now : Counts = counts g.S.Shelf.load_faults g.S.Shelf.store_faults g.O.Sink.faults c.args.shelf.now c.write_svf.new.shelf c.args.out.now c.args.out.now in
     let fault : RustStop = c.in_err-commands.field-0.0 in
     at_fault (λ (s : RustStop). IsPlayStop (made_of [] svf it) svf now (seen_stop s)) c.from_residual.result fault c.from_residual.ensures.1
@@ -23,7 +25,7 @@ returns-in_err-commands-clause-stop g c =
 pub returns-in_err-commands-clause-part : goal.returns-in_err-commands-clause-part
 returns-in_err-commands-clause-part g c =
     let svf : List ℕ = c.args.stem.now ++ codes ".svf" in
-    let it : SeenRunnable = seen_runnable c.args.procedure.now c.args.it.now in
+    let it : SeenAccepted = seen_accepted c.args.it.now in
     let old : Seen = record { files = g.S.Shelf.files c.args.shelf.now; printed = g.O.Sink.taken c.args.out.now } in
     let new : Seen = record { files = g.S.Shelf.files c.write_svf.new.shelf; printed = g.O.Sink.taken c.args.out.now } in
     let part : IsPartOf (made_of [] svf it) old new = svf_part svf it old new refl c.in_err-commands.ensures.part in
@@ -32,41 +34,25 @@ returns-in_err-commands-clause-part g c =
 pub returns-in-Ok-clause-done : goal.returns-in-Ok-clause-done
 returns-in-Ok-clause-done g c =
     let svf : List ℕ = c.args.stem.now ++ codes ".svf" in
-    let it : SeenRunnable = seen_runnable c.args.procedure.now c.args.it.now in
+    let it : SeenAccepted = seen_accepted c.args.it.now in
     let old : Seen = record { files = g.S.Shelf.files c.args.shelf.now; printed = g.O.Sink.taken c.args.out.now } in
     let new : Seen = record { files = g.S.Shelf.files c.write_svf.new.shelf; printed = g.O.Sink.taken c.put_report.new.out } in
     line_done svf it old new c.in_ok-commands.commands c.in_ok-commands.ensures.whole (differing c.in-Ok.verdict) c.in-Ok.ensures.printed c.in-Ok.ensures.verdict
 
-pub returns-in-Ok-clause-alike : goal.returns-in-Ok-clause-alike
-returns-in-Ok-clause-alike g c =
+pub returns-clause-stop : goal.returns-clause-stop
+returns-clause-stop g c =
     let svf : List ℕ = c.args.stem.now ++ codes ".svf" in
-    let it : SeenRunnable = seen_runnable c.args.procedure.now c.args.it.now in
-    let old : Seen = record { files = g.S.Shelf.files c.args.shelf.now; printed = g.O.Sink.taken c.args.out.now } in
-    let new : Seen = record { files = g.S.Shelf.files c.write_svf.new.shelf; printed = g.O.Sink.taken c.put_report.new.out } in
-    line_alike svf it old new c.in_ok-commands.commands c.in_ok-commands.ensures.whole c.runs_differ_alike.ensures (differing c.in-Ok.verdict) c.in-Ok.ensures.verdict
-
-pub returns-in-Err-Failed-clause-stop : goal.returns-in-Err-Failed-clause-stop
-returns-in-Err-Failed-clause-stop g c =
-    let svf : List ℕ = c.args.stem.now ++ codes ".svf" in
-    let it : SeenRunnable = seen_runnable c.args.procedure.now c.args.it.now in
+    let it : SeenAccepted = seen_accepted c.args.it.now in
     let old : Seen = record { files = g.S.Shelf.files c.args.shelf.now; printed = g.O.Sink.taken c.args.out.now } in
     let new : Seen = record { files = g.S.Shelf.files c.write_svf.new.shelf; printed = g.O.Sink.taken c.put_report.new.out } in
     let now : Counts = counts g.S.Shelf.load_faults g.S.Shelf.store_faults g.O.Sink.faults c.args.shelf.now c.write_svf.new.shelf c.args.out.now c.put_report.new.out in
-    let rose : Rose (g.O.Sink.faults c.args.out.now) (g.O.Sink.faults c.put_report.new.out) = c.put_report.ensures.cause.failed (search rules) in
-    output_stop svf it old new c.in_ok-commands.commands c.in_ok-commands.ensures.whole now rose
-
-pub returns-in-Err-Failed-clause-part : goal.returns-in-Err-Failed-clause-part
-returns-in-Err-Failed-clause-part g c =
-    let svf : List ℕ = c.args.stem.now ++ codes ".svf" in
-    let it : SeenRunnable = seen_runnable c.args.procedure.now c.args.it.now in
-    let old : Seen = record { files = g.S.Shelf.files c.args.shelf.now; printed = g.O.Sink.taken c.args.out.now } in
-    let new : Seen = record { files = g.S.Shelf.files c.write_svf.new.shelf; printed = g.O.Sink.taken c.put_report.new.out } in
-    line_part svf it old new c.in_ok-commands.commands c.in_ok-commands.ensures.whole c.in-Err-Failed.ensures.part
+    subst (λ (s : Stop). IsPlayStop (made_of [] svf it) svf now s) (sym c.of_output.ensures)
+    (line_stop svf it old new c.in_ok-commands.commands c.in_ok-commands.ensures.whole now c.in-Err.fault c.in-Err.ensures.cause.failed)
 
 pub returns-clause-part : goal.returns-clause-part
 returns-clause-part g c =
     let svf : List ℕ = c.args.stem.now ++ codes ".svf" in
-    let it : SeenRunnable = seen_runnable c.args.procedure.now c.args.it.now in
+    let it : SeenAccepted = seen_accepted c.args.it.now in
     let old : Seen = record { files = g.S.Shelf.files c.args.shelf.now; printed = g.O.Sink.taken c.args.out.now } in
     let new : Seen = record { files = g.S.Shelf.files c.write_svf.new.shelf; printed = g.O.Sink.taken c.put_report.new.out } in
-    line_part svf it old new c.in_ok-commands.commands c.in_ok-commands.ensures.whole c.in-Err-OutOfMemory.ensures.part
+    line_part svf it old new c.in_ok-commands.commands c.in_ok-commands.ensures.whole c.in-Err.ensures.part

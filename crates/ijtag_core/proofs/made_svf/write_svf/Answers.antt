@@ -2,9 +2,11 @@ use Rattle.std.proofs.Common.{◌≡◌, ◌⊎◌, ◌∙◌, refl, rules, subs
 use Rattle.ij_io.specs.Causes.{Rose}
 use Rattle.ij_io.specs.Files.{Files, OthersStay}
 use Rattle.ijtag_work.specs.Filed.{IsPartFiled}
-use Rattle.ijtag_work.specs.Order.{SeenRunnable, compilable_of, written_text}
+use Rattle.ijtag_work.specs.Accepted.{SeenAccepted}
+use Rattle.ijtag_work.specs.Order.{written_text}
 use Rattle.ijtag_work.specs.Runs.{OnlyTheseRise}
-use Rattle.ijtag_work.specs.Seen.{seen_made_name, seen_runnable}
+use Rattle.ijtag_work.specs.Seen.{seen_made_name}
+use Rattle.ijtag_work.specs.Using.{seen_accepted}
 use Rattle.ijtag_core.specs.Svf.{HasCommands}
 use Rattle.ijtag_core.proofs.made_svf.write_svf.Goals as goal
 
@@ -13,10 +15,10 @@ use Rattle.ijtag_core.proofs.made_svf.write_svf.Goals as goal
 pub returns-in-Ok-clause-whole : goal.returns-in-Ok-clause-whole
 returns-in-Ok-clause-whole g c =
     let named : c.as_str.result.now ≡ seen_made_name c.args.name = c.as_str.ensures.value ∙ c.in_ok-text.ensures in
-    let it : SeenRunnable = seen_runnable c.args.procedure.now c.args.it.now in
+    let it : SeenAccepted = seen_accepted c.args.it.now in
     let old : Option Files = g.S.Shelf.files c.args.shelf.now in
     let new : Option Files = g.S.Shelf.files c.write_commands.new.shelf in
-    subst (λ (n : List ℕ). HasCommands (written_text (compilable_of it)) old new n c.in-Ok.commands) named c.in-Ok.ensures.whole
+    subst (λ (n : List ℕ). HasCommands (written_text it) old new n c.in-Ok.commands) named c.in-Ok.ensures.whole
 
 pub returns-in-Ok-clause-others : goal.returns-in-Ok-clause-others
 returns-in-Ok-clause-others g c =
@@ -38,10 +40,10 @@ returns-in-Ok-clause-stores g c =
 pub returns-in-Err-Failed-clause-part : goal.returns-in-Err-Failed-clause-part
 returns-in-Err-Failed-clause-part g c =
     let named : c.as_str.result.now ≡ seen_made_name c.args.name = c.as_str.ensures.value ∙ c.in_ok-text.ensures in
-    let it : SeenRunnable = seen_runnable c.args.procedure.now c.args.it.now in
+    let it : SeenAccepted = seen_accepted c.args.it.now in
     let old : Option Files = g.S.Shelf.files c.args.shelf.now in
     let new : Option Files = g.S.Shelf.files c.write_commands.new.shelf in
-    subst (λ (n : List ℕ). (new ≡ old) ⊎ IsPartFiled (written_text (compilable_of it)) old new n) named c.in-Err-Failed.ensures.part
+    subst (λ (n : List ℕ). (new ≡ old) ⊎ IsPartFiled (written_text it) old new n) named c.in-Err-Failed.ensures.part
 
 pub returns-in-Err-Failed-clause-stop : goal.returns-in-Err-Failed-clause-stop
 returns-in-Err-Failed-clause-stop g c =
@@ -72,10 +74,10 @@ returns-in-Err-Failed-clause-stores g c =
 pub returns-clause-part : goal.returns-clause-part
 returns-clause-part g c =
     let named : c.as_str.result.now ≡ seen_made_name c.args.name = c.as_str.ensures.value ∙ c.in_ok-text.ensures in
-    let it : SeenRunnable = seen_runnable c.args.procedure.now c.args.it.now in
+    let it : SeenAccepted = seen_accepted c.args.it.now in
     let old : Option Files = g.S.Shelf.files c.args.shelf.now in
     let new : Option Files = g.S.Shelf.files c.write_commands.new.shelf in
-    subst (λ (n : List ℕ). (new ≡ old) ⊎ IsPartFiled (written_text (compilable_of it)) old new n) named c.in-Err-OutOfMemory.ensures.part
+    subst (λ (n : List ℕ). (new ≡ old) ⊎ IsPartFiled (written_text it) old new n) named c.in-Err-OutOfMemory.ensures.part
 
 pub returns-clause-others : goal.returns-clause-others
 returns-clause-others g c =

@@ -2,7 +2,7 @@ use Rattle.std.specs.Prelude.{Err, map, take}
 use Rattle.std.proofs.Common.{◌≡◌, ◌+◌, ◌∙◌, sym, ap, subst, rules, arith, ℕ, List, ◌++◌, ◌∷◌, [], Option}
 use Rattle.ij_io.specs.Files.{Files}
 use Rattle.ijtag_work.specs.Follows.{LoadsAndFollows, AreShort, seen_texts}
-use Rattle.ijtag_work.specs.Order.{loaded}
+use Rattle.ijtag_work.specs.Loads.{loaded}
 use Rattle.ijtag_work.specs.Seen.{seen_load, seen_stop}
 use Rattle.ijtag_work.proofs.Loading.{next_given, next_stop, next_none, texts_more, short_more}
 use Rattle.ijtag_work.proofs.load.load_all.Goals as goal

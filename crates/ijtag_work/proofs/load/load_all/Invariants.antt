@@ -1,8 +1,8 @@
 use Rattle.std.proofs.Common.{◌≡◌, ◌≤◌, List, ℕ, map, take, vec_len}
 use Rattle.ij_io.specs.Causes.{SameCounts}
-use Rattle.ijtag_work.specs.Command.{names_of}
+use Rattle.ijtag_work.specs.Loads.{names_of}
 use Rattle.ijtag_work.specs.Follows.{AreShort, seen_texts}
-use Rattle.ijtag_work.specs.Order.{loaded}
+use Rattle.ijtag_work.specs.Loads.{loaded}
 use Rattle.ijtag_work.specs.Runs.{OnlyTheseRise}
 use Rattle.ijtag_work.specs.Seen.{seen_load}
 use Rattle.ijtag_work.proofs.load.load_all.Given as goal

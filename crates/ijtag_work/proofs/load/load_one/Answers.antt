@@ -1,9 +1,9 @@
 use Rattle.std.specs.Prelude.{IfSome, Some, codes, length}
 use Rattle.std.proofs.Common.{◌≡◌, ◌<◌, ◌≤◌, ◌∙◌, refl, rules, subst, ℕ, List, [], ◌∷◌, Option}
 use Rattle.ij_io.specs.Files.{Files, bytes_of}
-use Rattle.ijtag_work.specs.Command.{Load}
+use Rattle.ijtag_work.specs.Loads.{Load}
 use Rattle.ijtag_stages.specs.Follows.{IsToldAs}
-use Rattle.ijtag_work.specs.Order.{loaded_one}
+use Rattle.ijtag_work.specs.Loads.{loaded_one}
 use Rattle.ijtag_stages.specs.Refusals.{refused_name}
 use Rattle.ijtag_work.specs.Seen.{seen_load}
 use Rattle.ijtag_stages.specs.declared.refusal.Stage.TheVariants.{File}

@@ -1,0 +1,130 @@
+// A command that accepts texts: what it does with them, and its run.
+ghost use Rattle.std.specs.Prelude.{◌≡◌, ◌≤◌, Some, Bool, map, length, IfOk, IfErr, OnOk, OnErr};
+ghost use Rattle.std.specs.Bool.{OnTrue, OnFalse};
+ghost use Rattle.ij_io.specs.Causes.{SameCounts};
+ghost use Rattle.ij_io.specs.Files.{Files};
+ghost use Rattle.ijtag_work.specs.Accepted.{SeenAccepted};
+ghost use Rattle.ijtag_work.specs.Follows.{AreTexts, seen_texts};
+ghost use Rattle.ijtag_work.specs.Late.{IsLateStop, IsPartOf};
+ghost use Rattle.ijtag_work.specs.Loads.{names_of};
+ghost use Rattle.ijtag_work.specs.Promises.{AcceptedWith};
+ghost use Rattle.ijtag_work.specs.Runs.{AreFirstWritten, IsDone, IsPartDone, IsStop, OnlyTheseChange, OnlyTheseRise, counts, seen};
+ghost use Rattle.ijtag_work.specs.Seen.{seen_load, seen_stop, differing};
+ghost use Rattle.ijtag_work.specs.Stops.{IsEarly};
+ghost use Rattle.ijtag_work.specs.Task.{Row, task_of, work};
+ghost use Rattle.ijtag_work.specs.Using.{AreShortTexts, CanUse, Needs, needs_of, seen_accepted, seen_named};
+
+use ij_io::{Shelf, Sink};
+use ijtag_work::{Accepted, Load, Stop, Texts, Verdict, accept, load_all};
+use std::alloc::Global;
+
+/// What a command does with the texts that it loads.
+pub trait Effect {
+    /// The command, as a row of the table of commands.
+    ghost table_row: { Self → Row };
+
+    /// Which texts it has.
+    ghost needs: { Self → Needs };
+
+    /// What is promised of what was accepted, where a run ends with this verdict.
+    ghost promise: { Self → SeenAccepted → Bool → Type 0 };
+
+    /// The texts by what they are, of those that were loaded in the order of the row.
+    fn texts<'t>(&'t self, loaded: &'t [Vec<u8>]) -> Texts<'t>
+        requires { AreTexts (length (table_row self.now).loads) (seen_texts loaded.now) }
+        ensures texts { (table_row self.now).texts (seen_texts loaded.now) ≡ Some (seen_named result) }
+        ensures short { AreShortTexts (seen_named result) }
+        ensures needs { needs_of (seen_named result) ≡ needs self.now };
+
+    /// Whether it prints on the output.
+    fn prints(&self) -> bool
+        ensures { result ≡ (table_row self.now).prints };
+
+    /// Does it to what the texts are accepted as. After a refusal nothing of it is there, or a first part.
+    fn act<'a, S: Shelf, O: Sink>(
+        &'a self,
+        alloc: Global,
+        it: &Accepted,
+        shelf: &mut S,
+        out: &mut O,
+    ) -> Result<Verdict, Stop<'a>>
+        requires { CanUse (needs self.now) it.now }
+        ensures done { IfOk result (λ verdict. IsDone ((table_row self.now).leaves (seen_accepted it.now))
+            (seen S.files O.taken shelf.old out.old) (seen S.files O.taken shelf.new out.new) (differing verdict)) }
+        ensures promise { IfOk result (λ verdict. promise self.now (seen_accepted it.now) (differing verdict)) }
+        ensures stop { IfErr result (λ stop. IsLateStop ((table_row self.now).leaves (seen_accepted it.now)) (task_of (table_row self.now))
+            (counts S.load_faults S.store_faults O.faults shelf.old shelf.new out.old out.new) (seen_stop stop)) }
+        ensures part { OnErr result (IsPartOf ((table_row self.now).leaves (seen_accepted it.now))
+            (seen S.files O.taken shelf.old out.old) (seen S.files O.taken shelf.new out.new)) }
+        ensures files { OnlyTheseChange (table_row self.now).writes (S.files shelf.old) (S.files shelf.new) }
+        ensures out { OnFalse (table_row self.now).prints (out.new ≡ out.old) }
+        ensures faults { O.faults out.old ≤ O.faults out.new }
+        ensures loads { SameCounts (S.load_faults shelf.old) (S.load_faults shelf.new) }
+        ensures stores { OnlyTheseRise (table_row self.now).writes (S.store_faults shelf.old) (S.store_faults shelf.new) };
+}
+
+/// Does a command's effect, and hands on what it printed.
+fn act_and_flush<'a, E: Effect, S: Shelf, O: Sink>(
+    alloc: Global,
+    effect: &'a E,
+    it: &Accepted,
+    shelf: &mut S,
+    out: &mut O,
+) -> Result<Verdict, Stop<'a>>
+    requires { CanUse (E.needs effect.now) it.now }
+    ensures done { IfOk result (λ verdict. IsDone ((E.table_row effect.now).leaves (seen_accepted it.now))
+        (seen S.files O.taken shelf.old out.old) (seen S.files O.taken shelf.new out.new) (differing verdict)) }
+    ensures promise { IfOk result (λ verdict. E.promise effect.now (seen_accepted it.now) (differing verdict)) }
+    ensures handed { OnOk result (OnTrue (E.table_row effect.now).prints (O.handed out.new ≡ O.taken out.new)) }
+    ensures stop { IfErr result (λ stop. IsLateStop ((E.table_row effect.now).leaves (seen_accepted it.now)) (task_of (E.table_row effect.now))
+        (counts S.load_faults S.store_faults O.faults shelf.old shelf.new out.old out.new) (seen_stop stop)) }
+    ensures part { OnErr result (IsPartOf ((E.table_row effect.now).leaves (seen_accepted it.now))
+        (seen S.files O.taken shelf.old out.old) (seen S.files O.taken shelf.new out.new)) }
+    ensures files { OnlyTheseChange (E.table_row effect.now).writes (S.files shelf.old) (S.files shelf.new) }
+    ensures out { OnFalse (E.table_row effect.now).prints (out.new ≡ out.old) }
+    ensures loads { SameCounts (S.load_faults shelf.old) (S.load_faults shelf.new) }
+    ensures stores { OnlyTheseRise (E.table_row effect.now).writes (S.store_faults shelf.old) (S.store_faults shelf.new) }
+{
+    let verdict = effect.act(alloc, it, shelf, out)?;
+    if !effect.prints() {
+        return Ok(verdict);
+    }
+    match out.flush() {
+        Ok(()) => Ok(verdict),
+        Err(fault) => Err(Stop::of_output(fault)),
+    }
+}
+
+/// A run of a command that accepts texts: its files are loaded in their order, their texts are accepted, and only then it does what
+/// it does; what was printed is handed on.
+pub fn accept_and_act<'a, E: Effect, S: Shelf, O: Sink>(
+    alloc: Global,
+    loads: &[Load<'a>],
+    effect: &'a E,
+    shelf: &mut S,
+    out: &mut O,
+) -> Result<Verdict, Stop<'a>>
+    requires { map seen_load loads.now ≡ (E.table_row effect.now).loads }
+    ensures done { IfOk result (λ verdict. IsDone (work (S.files shelf.old) (task_of (E.table_row effect.now)))
+        (seen S.files O.taken shelf.old out.old) (seen S.files O.taken shelf.new out.new) (differing verdict)) }
+    ensures promise { IfOk result (λ verdict. AcceptedWith (E.table_row effect.now) (S.files shelf.old) (λ it. E.promise effect.now it (differing verdict))) }
+    ensures handed { OnOk result (OnTrue (E.table_row effect.now).prints (O.handed out.new ≡ O.taken out.new)) }
+    ensures stop { IfErr result (λ stop. IsStop (S.files shelf.old) (task_of (E.table_row effect.now))
+        (counts S.load_faults S.store_faults O.faults shelf.old shelf.new out.old out.new) (seen_stop stop)) }
+    ensures early { IfErr result (λ stop. IsEarly (seen_stop stop)
+        → AreFirstWritten (task_of (E.table_row effect.now)).begins (task_of (E.table_row effect.now)).first_writes (S.files shelf.old) (S.files shelf.new)) }
+    ensures silent { IfErr result (λ stop. IsEarly (seen_stop stop) → out.new ≡ out.old) }
+    ensures part { OnErr result (IsPartDone (S.files shelf.old) (task_of (E.table_row effect.now))
+        (seen S.files O.taken shelf.old out.old) (seen S.files O.taken shelf.new out.new)) }
+    ensures files { OnlyTheseChange (E.table_row effect.now).writes (S.files shelf.old) (S.files shelf.new) }
+    ensures out { OnFalse (E.table_row effect.now).prints (out.new ≡ out.old) }
+    ensures loads { OnlyTheseRise (names_of (E.table_row effect.now).loads) (S.load_faults shelf.old) (S.load_faults shelf.new) }
+    ensures stores { OnlyTheseRise (E.table_row effect.now).writes (S.store_faults shelf.old) (S.store_faults shelf.new) }
+{
+    let texts = load_all(alloc, loads, shelf)?;
+    let it = accept(alloc, &effect.texts(&texts))?;
+    match act_and_flush(alloc, effect, &it, shelf, out) {
+        Ok(verdict) => Ok(verdict),
+        Err(stop) => Err(stop),
+    }
+}

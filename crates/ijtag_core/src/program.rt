@@ -1,0 +1,156 @@
+// A program: a table of commands, and how a run of any of them ends.
+ghost use Rattle.std.specs.Prelude.{◌≡◌, Bool, List, ℕ, Option, Some, IsNone, IsSome, IfSome, IfOk, IfErr, OnOk, OnErr};
+ghost use Rattle.std.specs.Bool.{OnTrue, OnFalse};
+ghost use Rattle.std.specs.Option.{option_map};
+ghost use Rattle.ij_io.specs.Bytes.{AddsPart};
+ghost use Rattle.ij_io.specs.Files.{Files};
+ghost use Rattle.ijtag_stages.specs.Refusals.{Refusal};
+ghost use Rattle.ijtag_work.specs.Leaves.{Leaves};
+ghost use Rattle.ijtag_work.specs.Loads.{names_of};
+ghost use Rattle.ijtag_work.specs.Runs.{AreDecided, AreFirstWritten, AreKept, FirstRose, IfTold, IsDone, IsEarlyStatus, IsOrMemory, IsPartDone, IsPartStatus, IsReadFault, IsRunStop, IsStop, IsWriteStop, LoadRose, OnlyTheseChange, OnlyTheseRise, Tells, WriteRose, counts, loads_in, prints_in, seen, status_if, writes_in};
+ghost use Rattle.ijtag_work.specs.Seen.{seen_stop, differing};
+ghost use Rattle.ijtag_work.specs.Stops.{IsEarly, ReadFault, Refuses, Stop as SeenStop, Usage, stop_text};
+ghost use Rattle.ijtag_work.specs.Task.{Task, work};
+
+use ij_io::{Shelf, Sink};
+use ijtag_work::{Status, Stop, Verdict, report};
+use std::alloc::Global;
+
+/// A command of a program.
+pub trait Command {
+    /// The command without where its words lie in memory.
+    ghost Named: { Type 0 };
+
+    ghost named: { Self → Named };
+
+    /// What is loaded, written and printed, and the work on the texts that were loaded.
+    ghost task: { Named → Task };
+
+    /// What is promised besides, by the files before a run, where the run ends with this verdict.
+    ghost promise: { Named → Option Files → Bool → Type 0 };
+
+    /// The work of each command comes to one end at most.
+    fn works_are_decided()
+        ensures { AreDecided task };
+
+    /// Runs the command. After a stop nothing of its work is there, or a first part.
+    fn run<'a, S: Shelf, O: Sink>(
+        &'a self,
+        alloc: Global,
+        shelf: &mut S,
+        out: &mut O,
+    ) -> Result<Verdict, Stop<'a>>
+        ensures done { IfOk result (λ verdict. IsDone (work (S.files shelf.old) (task (named self.now)))
+            (seen S.files O.taken shelf.old out.old) (seen S.files O.taken shelf.new out.new) (differing verdict)) }
+        ensures promise { IfOk result (λ verdict. promise (named self.now) (S.files shelf.old) (differing verdict)) }
+        ensures handed { OnOk result (OnTrue (task (named self.now)).prints (O.handed out.new ≡ O.taken out.new)) }
+        ensures stop { IfErr result (λ stop. IsStop (S.files shelf.old) (task (named self.now))
+            (counts S.load_faults S.store_faults O.faults shelf.old shelf.new out.old out.new) (seen_stop stop)) }
+        ensures early { IfErr result (λ stop. IsEarly (seen_stop stop)
+            → AreFirstWritten (task (named self.now)).begins (task (named self.now)).first_writes (S.files shelf.old) (S.files shelf.new)) }
+        ensures silent { IfErr result (λ stop. IsEarly (seen_stop stop) → out.new ≡ out.old) }
+        ensures part { OnErr result (IsPartDone (S.files shelf.old) (task (named self.now))
+            (seen S.files O.taken shelf.old out.old) (seen S.files O.taken shelf.new out.new)) }
+        ensures files { OnlyTheseChange (task (named self.now)).writes (S.files shelf.old) (S.files shelf.new) }
+        ensures out { OnFalse (task (named self.now)).prints (out.new ≡ out.old) }
+        ensures loads { OnlyTheseRise (names_of (task (named self.now)).loads) (S.load_faults shelf.old) (S.load_faults shelf.new) }
+        ensures stores { OnlyTheseRise (task (named self.now)).writes (S.store_faults shelf.old) (S.store_faults shelf.new) };
+}
+
+/// Does what the words say: without a command nothing, and no file changes.
+fn run_if_any<'a, C: Command, S: Shelf, O: Sink>(
+    alloc: Global,
+    command: &'a Option<C>,
+    shelf: &mut S,
+    out: &mut O,
+) -> Result<Verdict, Stop<'a>>
+    ensures done { IfOk result (λ verdict. IfSome (option_map C.named command.now) (λ command. IsDone (work (S.files shelf.old) (C.task command))
+        (seen S.files O.taken shelf.old out.old) (seen S.files O.taken shelf.new out.new) (differing verdict))) }
+    ensures some { OnOk result (IsSome (option_map C.named command.now)) }
+    ensures promise { IfOk result (λ verdict. IfSome (option_map C.named command.now) (λ command. C.promise command (S.files shelf.old) (differing verdict))) }
+    ensures handed { OnOk result (OnTrue (prints_in C.task (option_map C.named command.now)) (O.handed out.new ≡ O.taken out.new)) }
+    ensures stop { IfErr result (λ stop. IsRunStop C.task (option_map C.named command.now) (S.files shelf.old)
+        (counts S.load_faults S.store_faults O.faults shelf.old shelf.new out.old out.new) (seen_stop stop)) }
+    ensures early { IfErr result (λ stop. IsEarly (seen_stop stop) → AreKept C.task (option_map C.named command.now) (S.files shelf.old) (S.files shelf.new)) }
+    ensures silent { IfErr result (λ stop. IsEarly (seen_stop stop) → out.new ≡ out.old) }
+    ensures part { OnErr result (IfSome (option_map C.named command.now) (λ command. IsPartDone (S.files shelf.old) (C.task command)
+        (seen S.files O.taken shelf.old out.old) (seen S.files O.taken shelf.new out.new))) }
+    ensures files { OnlyTheseChange (writes_in C.task (option_map C.named command.now)) (S.files shelf.old) (S.files shelf.new) }
+    ensures out { OnFalse (prints_in C.task (option_map C.named command.now)) (out.new ≡ out.old) }
+    ensures loads { OnlyTheseRise (loads_in C.task (option_map C.named command.now)) (S.load_faults shelf.old) (S.load_faults shelf.new) }
+    ensures stores { OnlyTheseRise (writes_in C.task (option_map C.named command.now)) (S.store_faults shelf.old) (S.store_faults shelf.new) }
+{
+    match command {
+        Some(command) => command.run(alloc, shelf, out),
+        None => Err(Stop::Usage),
+    }
+}
+
+/// Runs a command, where the words are one, and says how the run ended. The clauses are those of `ijtag`, of any table of commands.
+///
+/// A run that ends otherwise than as `Good` or `Differs` prints one line on `err`, or a first part of it where `err` fails, which
+/// changes no status. Memory is taken from `alloc`; want of it anywhere ends the run as `OutOfMemory`.
+pub fn run_program<C: Command, S: Shelf, O: Sink, E: Sink>(
+    alloc: Global,
+    command: &Option<C>,
+    shelf: &mut S,
+    out: &mut O,
+    err: &mut E,
+) -> Status
+    ensures promise { (differs : Bool) → result ≡ status_if differs
+        → IfSome (option_map C.named command.now) (λ command. C.promise command (S.files shelf.old) differs) }
+    ensures done { (differs : Bool) → result ≡ status_if differs
+        → IfSome (option_map C.named command.now) (λ command. IsDone (work (S.files shelf.old) (C.task command))
+        (seen S.files O.taken shelf.old out.old)
+        (seen S.files O.taken shelf.new out.new) differs) }
+    ensures handed_on { (differs : Bool) → result ≡ status_if differs
+        → OnTrue (prints_in C.task (option_map C.named command.now)) (O.handed out.new ≡ O.taken out.new) }
+    ensures complete { IfTold (option_map C.named command.now) (S.files shelf.old) (λ command files.
+        let c = counts S.load_faults S.store_faults O.faults shelf.old shelf.new out.old out.new in
+        (leaves : Leaves) → (work (Some files) (C.task command)).gives leaves → ¬ LoadRose (C.task command) c
+        → ¬ WriteRose (C.task command) c → IsOrMemory result (status_if leaves.differs)) }
+    ensures err_stays { (differs : Bool) → result ≡ status_if differs → err.new ≡ err.old }
+    ensures usage { result ≡ Status.Usage → IsNone (option_map C.named command.now) }
+    ensures no_command { IsNone (option_map C.named command.now) → IsOrMemory result Status.Usage }
+    ensures says_usage { result ≡ Status.Usage
+        → Tells E.taken E.faults err.old err.new (stop_text Usage) }
+    ensures refused { result ≡ Status.Refused → IfSome (option_map C.named command.now) (λ command.
+        (refusal : Refusal) × (work (S.files shelf.old) (C.task command)).refuses refusal
+        × Tells E.taken E.faults err.old err.new (stop_text (Refuses refusal))) }
+    ensures refuses { IfTold (option_map C.named command.now) (S.files shelf.old) (λ command files.
+        let c = counts S.load_faults S.store_faults O.faults shelf.old shelf.new out.old out.new in
+        (refusal : Refusal) → (work (Some files) (C.task command)).refuses refusal
+        → ¬ LoadRose (C.task command) c → ¬ FirstRose (C.task command) c → IsOrMemory result Status.Refused) }
+    ensures read_fault { result ≡ Status.ReadFault → IfSome (option_map C.named command.now) (λ command.
+        (name : List ℕ) × IsReadFault (S.files shelf.old) (C.task command).loads
+        (S.load_faults shelf.old) (S.load_faults shelf.new) name
+        × Tells E.taken E.faults err.old err.new (stop_text (ReadFault name))) }
+    ensures write_fault { result ≡ Status.WriteFault → IfSome (option_map C.named command.now) (λ command.
+        let c = counts S.load_faults S.store_faults O.faults shelf.old shelf.new out.old out.new in
+        (stop : SeenStop) × IsStop (S.files shelf.old) (C.task command) c stop × IsWriteStop (C.task command) c stop
+        × Tells E.taken E.faults err.old err.new (stop_text stop)) }
+    ensures kept { IsEarlyStatus result
+        → AreKept C.task (option_map C.named command.now) (S.files shelf.old) (S.files shelf.new)
+        × (out.new ≡ out.old) }
+    ensures part { IsPartStatus result → IfSome (option_map C.named command.now) (λ command.
+        IsPartDone (S.files shelf.old) (C.task command)
+        (seen S.files O.taken shelf.old out.old) (seen S.files O.taken shelf.new out.new)) }
+    ensures says_part { result ≡ Status.OutOfMemory → (stop : SeenStop)
+        × IsRunStop C.task (option_map C.named command.now) (S.files shelf.old)
+        (counts S.load_faults S.store_faults O.faults shelf.old shelf.new out.old out.new) stop
+        × AddsPart (E.taken err.old) (E.taken err.new) (stop_text stop) }
+    ensures only_its_files_change { OnlyTheseChange (writes_in C.task (option_map C.named command.now))
+        (S.files shelf.old) (S.files shelf.new) }
+    ensures only_reports_print { OnFalse (prints_in C.task (option_map C.named command.now))
+        (out.new ≡ out.old) }
+    ensures only_its_loads_fail { OnlyTheseRise (loads_in C.task (option_map C.named command.now))
+        (S.load_faults shelf.old) (S.load_faults shelf.new) }
+    ensures only_its_stores_fail { OnlyTheseRise (writes_in C.task (option_map C.named command.now))
+        (S.store_faults shelf.old) (S.store_faults shelf.new) }
+{
+    C::works_are_decided();
+    match run_if_any(alloc, command, shelf, out) {
+        Ok(verdict) => verdict.status(),
+        Err(stop) => report(&stop, err),
+    }
+}

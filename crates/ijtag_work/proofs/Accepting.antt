@@ -1,0 +1,52 @@
+-- A text that is refused behind others that are accepted.
+use Rattle.std.proofs.Common.{inl, inr, ℕ, Option, List}
+use Rattle.icl_lexer.specs.Values.{SeenModule}
+use Rattle.instruments.specs.Seen.{SeenModel}
+use Rattle.net_graph.specs.declared.device.Device.{Device}
+use Rattle.net_graph.specs.SeenSteps.{SeenStep}
+use Rattle.svf_writer.specs.SeenCommands.{SeenCommand}
+use Rattle.table_file.specs.Tables.{SeenTable}
+use Rattle.ijtag_stages.specs.DeviceText.{device_text}
+use Rattle.ijtag_stages.specs.Fitted.{models_of}
+use Rattle.ijtag_stages.specs.Follows.{IsFault}
+use Rattle.ijtag_stages.specs.IclText.{icl_text}
+use Rattle.ijtag_stages.specs.Networks.{NestedNet, network_below}
+use Rattle.ijtag_stages.specs.Refusals.{Part, Refusal}
+use Rattle.ijtag_stages.specs.Seen.{seen_refusal}
+use Rattle.ijtag_stages.specs.SvfText.{svf_text}
+use Rattle.ijtag_stages.specs.TablesText.{tables_text}
+use Rattle.ijtag_stages.specs.declared.refusal.StageFault.{StageFault}
+use Rattle.ijtag_stages.specs.declared.refusal.StageFault.TheVariants.{Refused, OutOfMemory}
+use Rattle.ijtag_work.specs.Accepted.{Texts, accepted, followed, if_given}
+
+-- a fault of a part is one of the whole, where its refusals are
+fault_of : {A B : Type 0} (part : Part A) (whole : Part B) (fault : StageFault) → ((r : Refusal) → part.refuses r → whole.refuses r) → IsFault part fault → IsFault whole fault
+fault_of part whole (Refused r) lift is = lift (seen_refusal r) is
+fault_of part whole OutOfMemory lift is = tt
+
+module _ (t : Texts) (modules : List SeenModule) (icl : (icl_text t.icl).gives modules) (device : Device) (dev : (device_text t.device).gives device)
+    (tables : Option (List SeenTable)) (tab : (if_given t.tables tables_text).gives tables) where
+  pub svf_refused : (fault : StageFault) → IsFault (if_given t.svf svf_text) fault → IsFault (accepted t) fault
+  unfolding accepted
+  svf_refused fault is = fault_of (if_given t.svf svf_text) (accepted t) fault (λ r own. inr (modules, icl, inr (device, dev, inr (tables, tab, inl own)))) is
+
+  module _ (commands : Option (List SeenCommand)) (svf : (if_given t.svf svf_text).gives commands) where
+    pub network_refused : (fault : StageFault) → IsFault (network_below modules t.top device) fault → IsFault (accepted t) fault
+    unfolding accepted
+    network_refused fault is =
+        fault_of (network_below modules t.top device) (accepted t) fault
+        (λ r own. inr (modules, icl, inr (device, dev, inr (tables, tab, inr (commands, svf, inl own))))) is
+
+    module _ (network : NestedNet) (net : (network_below modules t.top device).gives network) where
+      pub fit_refused : (fault : StageFault) → IsFault (if_given tables (models_of network.net)) fault → IsFault (accepted t) fault
+      unfolding accepted
+      fit_refused fault is =
+          fault_of (if_given tables (models_of network.net)) (accepted t) fault
+          (λ r own. inr (modules, icl, inr (device, dev, inr (tables, tab, inr (commands, svf, inr (network, net, inl own)))))) is
+
+      pub procedure_refused : (models : Option (List SeenModel)) → (if_given tables (models_of network.net)).gives models
+          → (fault : StageFault) → IsFault (if_given t.pdl (followed network t.procedure)) fault → IsFault (accepted t) fault
+      unfolding accepted
+      procedure_refused models fit fault is =
+          fault_of (if_given t.pdl (followed network t.procedure)) (accepted t) fault
+          (λ r own. inr (modules, icl, inr (device, dev, inr (tables, tab, inr (commands, svf, inr (network, net, inr (models, fit, inl own))))))) is

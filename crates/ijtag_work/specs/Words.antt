@@ -1,0 +1,46 @@
+-- The words of the program as contracts see them: with plain lists.
+use Rattle.ijtag_work.specs.Command.{Command, Compile, Play, Direct, Run, Make, Migrate, Audit, Compiles, Plays, Directs, Runs, Makes, Migrates, Audits}
+use Rattle.ijtag_work.specs.declared.words.CompileWords.{CompileWords}
+use Rattle.ijtag_work.specs.declared.words.PlayWords.{PlayWords}
+use Rattle.ijtag_work.specs.declared.words.DirectWords.{DirectWords}
+use Rattle.ijtag_work.specs.declared.words.RunWords.{RunWords}
+use Rattle.ijtag_work.specs.declared.words.MakeWords.{MakeWords}
+use Rattle.ijtag_work.specs.declared.words.MigrateWords.{MigrateWords}
+use Rattle.ijtag_work.specs.declared.words.AuditWords.{AuditWords}
+use Rattle.ijtag_work.specs.declared.words.CommandWords.{CommandWords}
+use Rattle.ijtag_work.specs.declared.words.CommandWords.TheVariants.{Compile as CompileCommand, Play as PlayCommand, Direct as DirectCommand, Run as RunCommand, Make as MakeCommand, Migrate as MigrateCommand, Audit as AuditCommand}
+
+abbrev pub seen_compile : CompileWords → Compile
+seen_compile words =
+    record { icl = words.icl.now; pdl = words.pdl.now; device = words.device.now; top = words.top.now; procedure = words.procedure.now; svf = words.svf.now }
+
+abbrev pub seen_play : PlayWords → Play
+seen_play words =
+    record { svf = words.svf.now; icl = words.icl.now; device = words.device.now; tables = words.tables.now; top = words.top.now }
+
+abbrev pub seen_direct : DirectWords → Direct
+seen_direct words =
+    record { icl = words.icl.now; pdl = words.pdl.now; device = words.device.now; tables = words.tables.now; top = words.top.now; procedure = words.procedure.now }
+
+abbrev pub seen_run : RunWords → Run
+seen_run words =
+    record { icl = words.icl.now; pdl = words.pdl.now; device = words.device.now; tables = words.tables.now; top = words.top.now; procedure = words.procedure.now; svf = words.svf.now }
+
+abbrev pub seen_make : MakeWords → Make
+seen_make words = record { seed = words.seed; size = words.size; stem = words.stem.now }
+
+abbrev pub seen_migrate : MigrateWords → Migrate
+seen_migrate words = record { tables = words.tables.now; written = words.written.now }
+
+abbrev pub seen_audit : AuditWords → Audit
+seen_audit words =
+    record { svf = words.svf.now; icl = words.icl.now; pdl = words.pdl.now; device = words.device.now; top = words.top.now; procedure = words.procedure.now }
+
+abbrev pub seen_command : CommandWords → Command
+seen_command (CompileCommand words) = Compiles (seen_compile words)
+seen_command (PlayCommand words) = Plays (seen_play words)
+seen_command (DirectCommand words) = Directs (seen_direct words)
+seen_command (RunCommand words) = Runs (seen_run words)
+seen_command (MakeCommand words) = Makes (seen_make words)
+seen_command (MigrateCommand words) = Migrates (seen_migrate words)
+seen_command (AuditCommand words) = Audits (seen_audit words)
