@@ -4,10 +4,11 @@ use Rattle.std.proofs.Common.{◌≡◌, ◌∙◌, ap, sym, subst, refl, ℕ, B
 use Rattle.ij_io.specs.Files.{Files, file_at}
 use Rattle.ijtag_work.specs.Accepted.{SeenAccepted, accepted_of}
 use Rattle.ijtag_work.specs.Audited.{IfAudits, IsAudited, IsPromised}
-use Rattle.ijtag_work.specs.Command.{Command, Compile, Compiles, Plays, Directs, Run, Runs, Make, Makes, made_names, made_svf, Migrates, Audits}
+use Rattle.ijtag_work.specs.Command.{Command, Compile, Compiles, Plays, Directs, Run, Runs, Make, Makes, made_names, made_svf, Migrates, Audits, MuxTests}
 use Rattle.ijtag_work.specs.Headline.{HasRightSvf, IsMadeRetargeted, IsRetargeted, IsRunRetargeted, LeavesRightSvf}
 use Rattle.ijtag_work.specs.Laws.{RunsDifferAlike}
 use Rattle.ijtag_work.specs.Leaves.{Leaves, Written}
+use Rattle.ijtag_work.specs.Tested.{IfTests, IsTested}
 use Rattle.ijtag_work.specs.Order.{accepted_made, direct_texts, made_files, made_of, made_texts, run_of, task, written_as, written_text}
 use Rattle.ijtag_work.specs.Runs.{AllHold, IsDone, Seen}
 use Rattle.ijtag_work.specs.Task.{work}
@@ -87,6 +88,7 @@ module _ (files : Option Files) (printed : Option (List ℕ)) (new : Seen) (diff
     leaves_right (Some (Makes m)) done = make_right m done
     leaves_right (Some (Migrates m)) done = tt
     leaves_right (Some (Audits a)) done = tt
+    leaves_right (Some (MuxTests m)) done = tt
 
 pub audit_right : (files : Option Files) (words : Option Command) → IfSome words (λ command. IsPromised command files false) → IfSome words (λ command. IfAudits command (IsAudited files))
 audit_right files None promised = tt
@@ -97,3 +99,15 @@ audit_right files (Some (Directs d)) promised = tt
 audit_right files (Some (Runs r)) promised = tt
 audit_right files (Some (Makes m)) promised = tt
 audit_right files (Some (Migrates m)) promised = tt
+audit_right files (Some (MuxTests m)) promised = tt
+
+pub test_right : (files : Option Files) (words : Option Command) → IfSome words (λ command. IsPromised command files false) → IfSome words (λ command. IfTests command (IsTested files))
+test_right files None promised = tt
+test_right files (Some (MuxTests m)) promised = promised
+test_right files (Some (Audits a)) promised = tt
+test_right files (Some (Compiles c)) promised = tt
+test_right files (Some (Plays p)) promised = tt
+test_right files (Some (Directs d)) promised = tt
+test_right files (Some (Runs r)) promised = tt
+test_right files (Some (Makes m)) promised = tt
+test_right files (Some (Migrates m)) promised = tt

@@ -8,3 +8,4 @@ mod Names
 mod Playing
 mod Taking
 mod Writing
+mod Testing

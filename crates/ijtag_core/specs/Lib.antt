@@ -1,3 +1,4 @@
 -- how the code goes
 pub mod Files
 pub mod Svf
+pub mod Testing

@@ -42,6 +42,7 @@ impl<'w> Command for CommandWords<'w> {
             CommandWords::Make(it) => make(alloc, it, shelf, out),
             CommandWords::Migrate(it) => migrate(alloc, it, shelf, out),
             CommandWords::Audit(it) => accept_and_act(alloc, &it.loads(), it, shelf, out),
+            CommandWords::MuxTest(it) => accept_and_act(alloc, &it.loads(), it, shelf, out),
         }
     }
 }

@@ -54,6 +54,7 @@ pub trait Effect {
         ensures promise { IfOk result (λ verdict. promise self.now (seen_accepted it.now) (differing verdict)) }
         ensures stop { IfErr result (λ stop. IsLateStop ((table_row self.now).leaves (seen_accepted it.now)) (task_of (table_row self.now))
             (counts S.load_faults S.store_faults O.faults shelf.old shelf.new out.old out.new) (seen_stop stop)) }
+        ensures early { IfErr result (λ stop. IsEarly (seen_stop stop) → (S.files shelf.new ≡ S.files shelf.old) × (out.new ≡ out.old)) }
         ensures part { OnErr result (IsPartOf ((table_row self.now).leaves (seen_accepted it.now))
             (seen S.files O.taken shelf.old out.old) (seen S.files O.taken shelf.new out.new)) }
         ensures files { OnlyTheseChange (table_row self.now).writes (S.files shelf.old) (S.files shelf.new) }
@@ -78,6 +79,7 @@ fn act_and_flush<'a, E: Effect, S: Shelf, O: Sink>(
     ensures handed { OnOk result (OnTrue (E.table_row effect.now).prints (O.handed out.new ≡ O.taken out.new)) }
     ensures stop { IfErr result (λ stop. IsLateStop ((E.table_row effect.now).leaves (seen_accepted it.now)) (task_of (E.table_row effect.now))
         (counts S.load_faults S.store_faults O.faults shelf.old shelf.new out.old out.new) (seen_stop stop)) }
+    ensures early { IfErr result (λ stop. IsEarly (seen_stop stop) → (S.files shelf.new ≡ S.files shelf.old) × (out.new ≡ out.old)) }
     ensures part { OnErr result (IsPartOf ((E.table_row effect.now).leaves (seen_accepted it.now))
         (seen S.files O.taken shelf.old out.old) (seen S.files O.taken shelf.new out.new)) }
     ensures files { OnlyTheseChange (E.table_row effect.now).writes (S.files shelf.old) (S.files shelf.new) }

@@ -12,6 +12,7 @@ ghost use Rattle.ijtag_work.specs.Order.{task};
 ghost use Rattle.ijtag_work.specs.Runs.{AreKept, IsDone, IsPartDone, IsReadFault, IsRunStop, IsStop, IfTold, LoadRose, FirstRose, WriteRose, OnlyTheseChange, OnlyTheseRise, Tells, IsOrMemory, IsEarlyStatus, IsPartStatus, IsWriteStop, status_if, counts, seen, loads_in, writes_in, prints_in};
 ghost use Rattle.ijtag_work.specs.Stops.{Stop, Usage, Refuses, ReadFault, stop_text};
 ghost use Rattle.ijtag_work.specs.Task.{work};
+ghost use Rattle.ijtag_work.specs.Tested.{IfTests, IsTested};
 
 use crate::program::run_program;
 use ij_io::{Shelf, Sink};
@@ -39,6 +40,9 @@ use std::alloc::Global;
 /// - `audit SVF ICL PDL DEVICE TOP PROC` loads the four files in this order, accepts what they hold, and only then audits the SVF file for
 ///   the procedure, without playing it, and prints one line on `out`. It ends as `Good` where the audit says yes: then the file, played
 ///   on any chip with this network, does what the procedure means; and as `Differs` where it says no.
+/// - `muxtest ICL DEVICE TOP SVF` loads the two files in this order, accepts what they hold, and only then writes the SVF file, which
+///   takes a marker through each row of each multiplexer, from its front, and prints on `out` the rows that a multiplexer may be stuck
+///   in unseen, and the counts.
 ///
 /// A run that ends otherwise than as `Good` or `Differs` prints one line on `err`, or a first part of it where `err` fails, which
 /// changes no status. Memory is taken from `alloc`; want of it anywhere ends the run as `OutOfMemory`.
@@ -62,6 +66,11 @@ pub fn ijtag<S: Shelf, O: Sink, E: Sink>(
         let c = counts S.load_faults S.store_faults O.faults shelf.old shelf.new out.old out.new in
         IfAudits command (λ audit. IsOwnText files audit → ¬ LoadRose (task command) c
         → ¬ WriteRose (task command) c → IsOrMemory result Status.Good)) }
+
+    // What the text of a mux test does: played, nothing differs and no instrument has an event; and with a multiplexer stuck in a row
+    // that it sees, a compare differs.
+    ensures tested { result ≡ Status.Good → IfSome (command_in words.now.items) (λ command.
+        IfTests command (IsTested (S.files shelf.old))) }
 
     // Where all of the command's work is done, and all that was printed is handed on; and what is accepted is done where no fault is
     // counted.

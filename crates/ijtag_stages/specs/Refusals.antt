@@ -6,7 +6,7 @@ use Rattle.ij_io.specs.Bytes.{concat}
 use Rattle.ij_text.specs.declared.Place.{Place}
 use Rattle.ijtag_stages.specs.Work.{Work}
 use Rattle.ijtag_stages.specs.declared.refusal.Stage.{Stage}
-use Rattle.ijtag_stages.specs.declared.refusal.Stage.TheVariants.{File, Icl, Device, Tables, Svf, Elab, Connect, Nest, Fit, Pdl, Make}
+use Rattle.ijtag_stages.specs.declared.refusal.Stage.TheVariants.{File, Icl, Device, Tables, Svf, Elab, Connect, Nest, Fit, Pdl, Make, Muxtest}
 
 -- what stands behind the cause: a place, a number, a text as it stands, or a bit by its register and index
 pub data Arg : Type 0 where
@@ -37,6 +37,9 @@ refused_name stage kind name = record { stage = stage; kind = kind; args = Said 
 abbrev pub refused_number : Stage → List ℕ → ℕ → Refusal
 refused_number stage kind n = record { stage = stage; kind = kind; args = Num n ∷ [] }
 
+abbrev pub refused_limit : Stage → List ℕ → ℕ → Refusal
+refused_limit stage which n = record { stage = stage; kind = codes "Limit"; args = Said which ∷ Num n ∷ [] }
+
 abbrev pub refused_word : Stage → List ℕ → Place → List ℕ → Refusal
 refused_word stage kind place word = record { stage = stage; kind = kind; args = At place ∷ Said word ∷ [] }
 
@@ -54,6 +57,7 @@ stage_name Nest = codes "nest"
 stage_name Fit = codes "fit"
 stage_name Pdl = codes "pdl"
 stage_name Make = codes "make"
+stage_name Muxtest = codes "muxtest"
 
 unfoldable pub arg_text : Arg → List ℕ
 arg_text (At place) = concat (codes " " ∷ decimal place.line ∷ codes ":" ∷ decimal place.col ∷ [])

@@ -38,6 +38,8 @@ pub enum Stage {
     Pdl,
     /// A design is made.
     Make,
+    /// The test of the network's multiplexers is planned.
+    Muxtest,
 }
 
 impl Stage {
@@ -58,6 +60,7 @@ impl Stage {
             Stage::Fit => b"fit",
             Stage::Pdl => b"pdl",
             Stage::Make => b"make",
+            Stage::Muxtest => b"muxtest",
         }
     }
 }
@@ -217,7 +220,7 @@ fn limit_args(alloc: Global, which: &[u8], number: u64) -> Result<List<Arg>, Out
 }
 
 /// A refusal that tells a limit and its number.
-pub(crate) fn refused_limit(alloc: Global, stage: Stage, which: &[u8], number: u64) -> StageFault
+pub fn refused_limit(alloc: Global, stage: Stage, which: &[u8], number: u64) -> StageFault
     ensures { IsToldAs (Some (record { stage = stage; kind = codes "Limit"; args = Said which.now ∷ Num number ∷ [] })) result }
 {
     match limit_args(alloc, which, number) {

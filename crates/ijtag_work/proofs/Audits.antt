@@ -24,7 +24,7 @@ use Rattle.ijtag_stages.specs.SvfText.{svf_text}
 use Rattle.ijtag_stages.specs.declared.network.Network.{Network}
 use Rattle.ijtag_work.specs.Accepted.{SeenAccepted, accepted, accepted_of, if_given, listed}
 use Rattle.ijtag_work.specs.Audited.{IfAudits, IsOwnText, OwnTextsPass, PlayAsMeant}
-use Rattle.ijtag_work.specs.Command.{Command, Compiles, Plays, Directs, Runs, Makes, Migrates, Audit, Audits, own_compile}
+use Rattle.ijtag_work.specs.Command.{Command, Compiles, Plays, Directs, Runs, Makes, Migrates, Audit, Audits, MuxTests, own_compile}
 use Rattle.ijtag_work.specs.Leaves.{Leaves, Written}
 use Rattle.ijtag_work.specs.Loads.{loaded, loaded_one}
 use Rattle.ijtag_work.specs.Order.{audit, compile, filed, line_of, task, told, verdict_of, written_text}
@@ -185,3 +185,4 @@ own_good pass (Some (Directs x)) (Some f) c result complete = tt
 own_good pass (Some (Runs x)) (Some f) c result complete = tt
 own_good pass (Some (Makes x)) (Some f) c result complete = tt
 own_good pass (Some (Migrates x)) (Some f) c result complete = tt
+own_good pass (Some (MuxTests x)) (Some f) c result complete = tt

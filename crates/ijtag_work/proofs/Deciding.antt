@@ -25,10 +25,11 @@ use Rattle.ijtag_stages.specs.Refusals.{Part}
 use Rattle.ijtag_stages.specs.Work.{IsDecided}
 use Rattle.ijtag_stages.proofs.Turns.{give_decided, never_decided, in_turn_decided}
 use Rattle.ijtag_work.specs.Accepted.{SeenAccepted, Texts, accepted, accepted_of, followed, if_given}
-use Rattle.ijtag_work.specs.Command.{Command, Compiles, Plays, Directs, Runs, Make, Makes, made_svf, Migrates, Audits}
+use Rattle.ijtag_work.specs.Command.{Command, Compiles, Plays, Directs, Runs, Make, Makes, made_svf, Migrates, Audits, MuxTests}
 use Rattle.ijtag_work.specs.Leaves.{Written}
 use Rattle.ijtag_work.specs.Loads.{Load, loaded, loaded_one}
-use Rattle.ijtag_work.specs.Order.{accepted_made, audit, commands_of, compile, compiled, direct, direct_texts, made_files, made_of, make_work, play, read_tables_of, run, run_of, run_report, taken, taken_one, task, written_text}
+use Rattle.ijtag_work.specs.Order.{accepted_made, audit, commands_of, compile, compiled, direct, direct_texts, made_files, made_of, make_work, mux_test, mux_tested, play, read_tables_of, run, run_of, run_report, taken, taken_one, task, within_limit, written_text}
+use Rattle.mux_test.specs.Test.{scanned}
 use Rattle.ijtag_work.specs.Runs.{AreDecided}
 use Rattle.ijtag_work.specs.Task.{Row, row_work}
 
@@ -56,6 +57,17 @@ pub made_decided : (m : Make) → IsDecided (made_files m)
 unfolding made_files
 made_decided m =
     record { one = λ a b p q. p.2 ∙ sym q.2; apart = λ a r p q. wrong_size m.size p.0 p.1 q.0; alike = λ r s p q. p.1 ∙ sym q.1 }
+
+unit_one : (a b : Unit {0}) → a ≡ b
+unit_one a b = refl
+
+limit_decided : (it : SeenAccepted) → IsDecided (within_limit it)
+unfolding within_limit
+limit_decided it =
+    record { one = λ a b p q. unit_one a b; apart = λ a r p q. over (length (scanned it.network.net it.network.form)) p q.0; alike = λ r s p q. p.1 ∙ sym q.1 }
+  where
+    over : (n : ℕ) → n ≤ 8192 → 8192 < n → ⊥
+    over n few many = omega (arith, few, many)
 
 too_long : (bytes : List ℕ) → length bytes ≤ 16777216 → 16777216 < length bytes → ⊥
 too_long bytes fits long = omega (arith, fits, long)
@@ -154,6 +166,9 @@ module _ (stages : StagesAreDecided) (texts_one : TextsAreOne) (places_one : Pla
       in_turn_decided (made_files m) _ (made_decided m)
       (λ files. in_turn_decided (accepted_made files) _ (accepted_made_decided files) (made_of_decided files (made_svf m.stem)))
 
+  mux_tested_decided : (name : List ℕ) (it : SeenAccepted) → IsDecided (mux_tested name it)
+  mux_tested_decided name it = in_turn_decided (within_limit it) _ (limit_decided it) (λ short. give_decided _)
+
   tables_decided : (texts : List (List ℕ)) → IsDecided (read_tables_of texts)
   tables_decided (tables ∷ []) = stages.tables tables
   tables_decided [] = never_decided
@@ -167,6 +182,7 @@ module _ (stages : StagesAreDecided) (texts_one : TextsAreOne) (places_one : Pla
   work_on_decided (Makes m) texts = make_decided m texts
   work_on_decided (Migrates m) texts = in_turn_decided (read_tables_of texts) _ (tables_decided texts) (λ tables. give_decided _)
   work_on_decided (Audits a) texts = row_decided (audit a) (λ it. give_decided _) texts
+  work_on_decided (MuxTests m) texts = row_decided (mux_test m) (mux_tested_decided m.svf) texts
 
   pub work_decided : AreDecided task
   work_decided files command = in_turn_decided (loaded (Some files) (task command).loads) _ (loads_decided files (task command).loads) (work_on_decided command)

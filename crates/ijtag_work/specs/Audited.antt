@@ -6,7 +6,8 @@ use Rattle.net_bench.specs.Bench.{fault_free}
 use Rattle.svf_audit.specs.Law.{DoesAll}
 use Rattle.svf_audit.specs.Audit.{Reading, Yes}
 use Rattle.ijtag_work.specs.Accepted.{SeenAccepted}
-use Rattle.ijtag_work.specs.Command.{Command, Compiles, Plays, Directs, Runs, Makes, Migrates, Audit, Audits, own_compile}
+use Rattle.ijtag_work.specs.Command.{Command, Compiles, Plays, Directs, Runs, Makes, Migrates, Audit, Audits, MuxTests, own_compile}
+use Rattle.ijtag_work.specs.Tested.{IsTested}
 use Rattle.ijtag_work.specs.Order.{audit, filed, task, told, verdict_of}
 use Rattle.ijtag_work.specs.Promises.{AcceptedWith}
 use Rattle.ijtag_work.specs.Task.{work}
@@ -31,6 +32,7 @@ IfAudits (Directs d) P = Unit {0}
 IfAudits (Runs r) P = Unit {0}
 IfAudits (Makes m) P = Unit {0}
 IfAudits (Migrates m) P = Unit {0}
+IfAudits (MuxTests m) P = Unit {0}
 
 -- the audited file holds the text that a compile of the same procedure writes to it
 abbrev pub IsOwnText : Files → Audit → Type 0
@@ -49,3 +51,4 @@ IsPromised (Directs d) files differs = Unit {0}
 IsPromised (Runs r) files differs = Unit {0}
 IsPromised (Makes m) files differs = Unit {0}
 IsPromised (Migrates m) files differs = Unit {0}
+IsPromised (MuxTests m) files differs = IsTested files m

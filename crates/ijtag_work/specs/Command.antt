@@ -64,6 +64,13 @@ pub record Audit : Type 0 where
   pub top : List ℕ
   pub procedure : List ℕ
 
+-- `muxtest ICL DEVICE TOP SVF`: two file names, the top module, and the file that is written
+pub record MuxTest : Type 0 where
+  pub icl : List ℕ
+  pub device : List ℕ
+  pub top : List ℕ
+  pub svf : List ℕ
+
 -- the compile of the same procedure, to the file that is audited
 abbrev pub own_compile : Audit → Compile
 own_compile a = record { icl = a.icl; pdl = a.pdl; device = a.device; top = a.top; procedure = a.procedure; svf = a.svf }
@@ -76,6 +83,7 @@ pub data Command : Type 0 where
   Makes : (words : Make) → Command
   Migrates : (words : Migrate) → Command
   Audits : (words : Audit) → Command
+  MuxTests : (words : MuxTest) → Command
 
 -- a decimal number of 1 to 19 digits, of which the first is 0 in `0` alone
 abbrev pub is_number : List ℕ → Bool
@@ -91,7 +99,7 @@ make_of (Some seed) None stem = None
 make_of None size stem = None
 
 -- exactly seven words, of which the first is `compile`, `direct` or `audit`; eight, of which it is `run`; six, of which it is `play`; four, of
--- which it is `make` and the next two are numbers; or three, of which it is `migrate`
+-- which it is `make` and the next two are numbers; five, of which it is `muxtest`; or three, of which it is `migrate`
 abbrev pub command_of : List (List ℕ) → Option Command
 command_of (word ∷ icl ∷ pdl ∷ device ∷ top ∷ procedure ∷ svf ∷ []) =
     elim (bytes_eq word (codes "compile")) [
@@ -105,6 +113,8 @@ command_of (word ∷ icl ∷ pdl ∷ device ∷ tables ∷ top ∷ procedure ∷
     elim (bytes_eq word (codes "run")) [ true ↦ Some (Runs (record { icl = icl; pdl = pdl; device = device; tables = tables; top = top; procedure = procedure; svf = svf })) | false ↦ None ]
 command_of (word ∷ svf ∷ icl ∷ device ∷ tables ∷ top ∷ []) =
     elim (bytes_eq word (codes "play")) [ true ↦ Some (Plays (record { svf = svf; icl = icl; device = device; tables = tables; top = top })) | false ↦ None ]
+command_of (word ∷ icl ∷ device ∷ top ∷ svf ∷ []) =
+    elim (bytes_eq word (codes "muxtest")) [ true ↦ Some (MuxTests (record { icl = icl; device = device; top = top; svf = svf })) | false ↦ None ]
 command_of (word ∷ seed ∷ size ∷ stem ∷ []) =
     elim (bytes_eq word (codes "make")) [ true ↦ make_of (number_of seed) (number_of size) stem | false ↦ None ]
 command_of (word ∷ tables ∷ written ∷ []) =

@@ -4,7 +4,7 @@ use Rattle.std.specs.Option.{option_map}
 use Rattle.ij_io.specs.Files.{Files}
 use Rattle.headline.specs.Retargeting.{IsRetargeted as DoSteps}
 use Rattle.ijtag_work.specs.Accepted.{SeenAccepted, accepted_of}
-use Rattle.ijtag_work.specs.Command.{Command, Compile, Compiles, Plays, Directs, Run, Runs, Make, Makes, made_svf, Migrates, Audits}
+use Rattle.ijtag_work.specs.Command.{Command, Compile, Compiles, Plays, Directs, Run, Runs, Make, Makes, made_svf, Migrates, Audits, MuxTests}
 use Rattle.ijtag_work.specs.Order.{compile, direct_texts, made_texts, reads_differ, run}
 use Rattle.ijtag_work.specs.Promises.{AcceptedWith}
 
@@ -42,3 +42,4 @@ LeavesRightSvf files file differs (Some (Runs r)) = IsRunRetargeted files r (fil
 LeavesRightSvf files file differs (Some (Makes m)) = IsMadeRetargeted files m (file (made_svf m.stem)) differs
 LeavesRightSvf files file differs (Some (Migrates m)) = Unit {0}
 LeavesRightSvf files file differs (Some (Audits a)) = Unit {0}
+LeavesRightSvf files file differs (Some (MuxTests m)) = Unit {0}

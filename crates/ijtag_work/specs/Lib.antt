@@ -20,3 +20,4 @@ pub mod Filed
 pub mod Late
 pub mod Naming
 pub mod Laws
+pub mod Tested

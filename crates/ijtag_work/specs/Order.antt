@@ -13,15 +13,17 @@ use Rattle.direct_report.specs.Report.{direct_report, direct_differs}
 use Rattle.bench_report.specs.MadeReport.{made_report}
 use Rattle.pdl_targets.specs.Laws.{rounds_in}
 use Rattle.headline.specs.Retargeting.{IsRetargeted as DoSteps}
+use Rattle.mux_test.specs.Reported.{test_report}
+use Rattle.mux_test.specs.Test.{IsWithinLimit, scanned, test_text}
 use Rattle.ijtag_stages.specs.Work.{give, never, ◌>>=◌}
 use Rattle.bench_file.specs.Written.{tables_text as written_tables}
 use Rattle.svf_audit.specs.Audit.{Verdict, audit as audit_commands}
 use Rattle.svf_audit.specs.Report.{audit_text, says_no}
-use Rattle.ijtag_stages.specs.Refusals.{Part, refused_name, refused_number}
+use Rattle.ijtag_stages.specs.Refusals.{Part, refused_limit, refused_name, refused_number}
 use Rattle.ijtag_stages.specs.TablesText.{tables_text}
-use Rattle.ijtag_stages.specs.declared.refusal.Stage.TheVariants.{File, Make as MakeStage}
+use Rattle.ijtag_stages.specs.declared.refusal.Stage.TheVariants.{File, Make as MakeStage, Muxtest}
 use Rattle.ijtag_work.specs.Accepted.{SeenAccepted, Texts, accepted_of}
-use Rattle.ijtag_work.specs.Command.{Command, Compile, Compiles, Play, Plays, Direct, Directs, Run, Runs, Make, Makes, made_names, made_svf, Migrate, Migrates, Audit, Audits}
+use Rattle.ijtag_work.specs.Command.{Command, Compile, Compiles, Play, Plays, Direct, Directs, Run, Runs, Make, Makes, made_names, made_svf, Migrate, Migrates, Audit, Audits, MuxTest, MuxTests}
 use Rattle.ijtag_work.specs.Leaves.{Leaves, Written}
 use Rattle.ijtag_work.specs.Loads.{source, svf_file}
 use Rattle.ijtag_work.specs.Task.{Row, Task, task_of}
@@ -256,6 +258,40 @@ migrate_work m texts = do
 abbrev pub migrate : Migrate → Task
 migrate m = record { loads = source m.tables ∷ []; begins = never; first_writes = []; writes = m.written ∷ []; prints = false; work_on = migrate_work m }
 
+-- ---- mux test: the SVF file has the text of the test of the network's multiplexers, and its report is printed
+
+-- a test isn't too long
+unfoldable pub within_limit : SeenAccepted → Part (Unit {0})
+within_limit it = record {
+  gives = λ _. IsWithinLimit it.network.net it.network.form;
+  refuses = λ r. (8192 < length (scanned it.network.net it.network.form)) × (r ≡ refused_limit Muxtest (codes "Scans") 8192);
+}
+
+abbrev pub mux_test_texts : List ℕ → List (List ℕ) → Option Texts
+mux_test_texts top (icl ∷ device ∷ []) =
+    Some (record { icl = icl; device = device; tables = None; svf = None; top = top; pdl = None; procedure = [] })
+mux_test_texts top _ = None
+
+unfoldable pub test_text_of : SeenAccepted → List ℕ
+test_text_of it = test_text it.network.net it.network.form it.device
+
+unfoldable pub test_report_of : SeenAccepted → List ℕ
+test_report_of it = test_report it.network.net it.network.form
+
+abbrev pub mux_tested : List ℕ → SeenAccepted → Part Leaves
+mux_tested name it = do
+  short ← within_limit it
+  give (ran name (test_text_of it) (test_report_of it) false)
+
+abbrev pub mux_test : MuxTest → Row
+mux_test m = record {
+  loads = source m.icl ∷ source m.device ∷ [];
+  texts = mux_test_texts m.top;
+  writes = m.svf ∷ [];
+  prints = true;
+  leaves = mux_tested m.svf;
+}
+
 -- ---- the table
 
 abbrev pub task : Command → Task
@@ -266,3 +302,4 @@ task (Runs r) = task_of (run r)
 task (Makes m) = make m
 task (Migrates m) = migrate m
 task (Audits a) = task_of (audit a)
+task (MuxTests m) = task_of (mux_test m)

@@ -34,7 +34,7 @@ named_line text name = concat (text ∷ name ∷ codes "\n" ∷ [])
 
 -- the line that tells a stop
 unfoldable pub stop_text : Stop → List ℕ
-stop_text Usage = codes "usage: ijtag compile|play|run|direct|make|migrate|audit\n"
+stop_text Usage = codes "usage: ijtag compile|play|run|direct|make|migrate|audit|muxtest\n"
 stop_text (Refuses refusal) = refusal_text refusal
 stop_text (ReadFault name) = named_line (codes "read fault ") name
 stop_text (WriteFault name) = named_line (codes "write fault ") name

@@ -1,5 +1,5 @@
 -- The words of the program as contracts see them: with plain lists.
-use Rattle.ijtag_work.specs.Command.{Command, Compile, Play, Direct, Run, Make, Migrate, Audit, Compiles, Plays, Directs, Runs, Makes, Migrates, Audits}
+use Rattle.ijtag_work.specs.Command.{Command, Compile, Play, Direct, Run, Make, Migrate, Audit, MuxTest, Compiles, Plays, Directs, Runs, Makes, Migrates, Audits, MuxTests}
 use Rattle.ijtag_work.specs.declared.words.CompileWords.{CompileWords}
 use Rattle.ijtag_work.specs.declared.words.PlayWords.{PlayWords}
 use Rattle.ijtag_work.specs.declared.words.DirectWords.{DirectWords}
@@ -7,8 +7,9 @@ use Rattle.ijtag_work.specs.declared.words.RunWords.{RunWords}
 use Rattle.ijtag_work.specs.declared.words.MakeWords.{MakeWords}
 use Rattle.ijtag_work.specs.declared.words.MigrateWords.{MigrateWords}
 use Rattle.ijtag_work.specs.declared.words.AuditWords.{AuditWords}
+use Rattle.ijtag_work.specs.declared.words.MuxTestWords.{MuxTestWords}
 use Rattle.ijtag_work.specs.declared.words.CommandWords.{CommandWords}
-use Rattle.ijtag_work.specs.declared.words.CommandWords.TheVariants.{Compile as CompileCommand, Play as PlayCommand, Direct as DirectCommand, Run as RunCommand, Make as MakeCommand, Migrate as MigrateCommand, Audit as AuditCommand}
+use Rattle.ijtag_work.specs.declared.words.CommandWords.TheVariants.{Compile as CompileCommand, Play as PlayCommand, Direct as DirectCommand, Run as RunCommand, Make as MakeCommand, Migrate as MigrateCommand, Audit as AuditCommand, MuxTest as MuxTestCommand}
 
 abbrev pub seen_compile : CompileWords → Compile
 seen_compile words =
@@ -36,6 +37,9 @@ abbrev pub seen_audit : AuditWords → Audit
 seen_audit words =
     record { svf = words.svf.now; icl = words.icl.now; pdl = words.pdl.now; device = words.device.now; top = words.top.now; procedure = words.procedure.now }
 
+abbrev pub seen_mux_test : MuxTestWords → MuxTest
+seen_mux_test words = record { icl = words.icl.now; device = words.device.now; top = words.top.now; svf = words.svf.now }
+
 abbrev pub seen_command : CommandWords → Command
 seen_command (CompileCommand words) = Compiles (seen_compile words)
 seen_command (PlayCommand words) = Plays (seen_play words)
@@ -44,3 +48,4 @@ seen_command (RunCommand words) = Runs (seen_run words)
 seen_command (MakeCommand words) = Makes (seen_make words)
 seen_command (MigrateCommand words) = Migrates (seen_migrate words)
 seen_command (AuditCommand words) = Audits (seen_audit words)
+seen_command (MuxTestCommand words) = MuxTests (seen_mux_test words)

@@ -29,8 +29,8 @@ use run_report::places_are_one;
 pub use status::{Status, Verdict};
 pub use stop::{Stop, report};
 pub use words::{
-    AuditWords, CommandWords, CompileWords, DirectWords, MakeWords, MigrateWords, PlayWords,
-    RunWords, read_words,
+    AuditWords, CommandWords, CompileWords, DirectWords, MakeWords, MigrateWords, MuxTestWords,
+    PlayWords, RunWords, read_words,
 };
 pub use write::write_file;
 

@@ -1,9 +1,9 @@
 // The words that the program is called with.
 ghost use Rattle.std.specs.Prelude.{◌≡◌, [], ◌∷◌, map, option_map};
 ghost use Rattle.ijtag_work.specs.Command.{command_in, command_of, make_of, number_of};
-ghost use Rattle.ijtag_work.specs.Order.{audit, compile, direct, migrate, play, run};
+ghost use Rattle.ijtag_work.specs.Order.{audit, compile, direct, migrate, mux_test, play, run};
 ghost use Rattle.ijtag_work.specs.Seen.{seen_load};
-ghost use Rattle.ijtag_work.specs.Words.{seen_command, seen_compile, seen_play, seen_direct, seen_run, seen_migrate, seen_audit};
+ghost use Rattle.ijtag_work.specs.Words.{seen_command, seen_compile, seen_play, seen_direct, seen_run, seen_migrate, seen_audit, seen_mux_test};
 
 use crate::load::Load;
 use crate::number::read_number;
@@ -191,6 +191,28 @@ impl<'a> AuditWords<'a> {
     }
 }
 
+/// The words of `muxtest ICL DEVICE TOP SVF`.
+#[derive(Clone, Copy)]
+pub struct MuxTestWords<'a> {
+    /// The file of the network (IEEE 1687-2014, ICL).
+    pub icl: &'a str,
+    /// The file of the device's TAP.
+    pub device: &'a str,
+    /// The top module's name.
+    pub top: &'a str,
+    /// The file that is written (Serial Vector Format, revision E).
+    pub svf: &'a str,
+}
+
+impl<'a> MuxTestWords<'a> {
+    /// The files that are loaded, in this order.
+    pub fn loads(&self) -> [Load<'a>; 2]
+        ensures { map seen_load result ≡ (mux_test (seen_mux_test self.now)).loads }
+    {
+        [Load::Source(self.icl), Load::Source(self.device)]
+    }
+}
+
 /// The words of a command.
 #[derive(Clone, Copy)]
 pub enum CommandWords<'a> {
@@ -201,6 +223,7 @@ pub enum CommandWords<'a> {
     Make(MakeWords<'a>),
     Migrate(MigrateWords<'a>),
     Audit(AuditWords<'a>),
+    MuxTest(MuxTestWords<'a>),
 }
 
 /// The command `make` of its words, where the first two are numbers.
@@ -237,6 +260,28 @@ fn four_words<'a>(
 {
     if command == "make" {
         make_words(first, second, third)
+    } else {
+        None
+    }
+}
+
+/// The command of five words.
+fn five_words<'a>(
+    command: &str,
+    first: &'a str,
+    second: &'a str,
+    third: &'a str,
+    fourth: &'a str,
+) -> Option<CommandWords<'a>>
+    ensures { option_map seen_command result ≡ command_of (command.now ∷ first.now ∷ second.now ∷ third.now ∷ fourth.now ∷ []) }
+{
+    if command == "muxtest" {
+        Some(CommandWords::MuxTest(MuxTestWords {
+            icl: first,
+            device: second,
+            top: third,
+            svf: fourth,
+        }))
     } else {
         None
     }
@@ -345,6 +390,13 @@ pub fn read_words(words: &Vec<String>) -> Option<CommandWords<'_>>
     match words.as_slice() {
         [command, a, b] => three_words(command.as_str(), a.as_str(), b.as_str()),
         [command, a, b, c] => four_words(command.as_str(), a.as_str(), b.as_str(), c.as_str()),
+        [command, a, b, c, d] => five_words(
+            command.as_str(),
+            a.as_str(),
+            b.as_str(),
+            c.as_str(),
+            d.as_str(),
+        ),
         [command, a, b, c, d, e] => six_words(
             command.as_str(),
             a.as_str(),
@@ -373,7 +425,6 @@ pub fn read_words(words: &Vec<String>) -> Option<CommandWords<'_>>
             g.as_str(),
         ),
         [] | [_] | [_, _] => None,
-        [_, _, _, _, _] => None,
         [_, _, _, _, _, _, _, _, _, ..] => None,
     }
 }

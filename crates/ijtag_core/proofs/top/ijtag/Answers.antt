@@ -8,7 +8,7 @@ use Rattle.ijtag_work.specs.Order.{task}
 use Rattle.ijtag_work.specs.Runs.{Counts, IfTold, IsDone, IsOrMemory, LoadRose, Seen, WriteRose, counts, seen, status_if}
 use Rattle.ijtag_work.specs.Task.{work}
 use Rattle.ijtag_work.proofs.Audits.{own_good}
-use Rattle.ijtag_core.proofs.Headlines.{audit_right, leaves_right}
+use Rattle.ijtag_core.proofs.Headlines.{audit_right, leaves_right, test_right}
 use Rattle.ijtag_core.proofs.top.ijtag.Goals as goal
 
 pub returns-clause-headline : goal.returns-clause-headline
@@ -19,6 +19,13 @@ returns-clause-headline g c =
     λ differs ends.
     leaves_right files (g.O.Sink.taken c.args.out.now) new differs c.runs_differ_alike.ensures words
     (subst (λ (ws : Option Command). IfSome ws (λ command. IsDone (work files (task command)) (seen g.S.Shelf.files g.O.Sink.taken c.args.shelf.now c.args.out.now) new differs)) c.read_words.ensures (c.run_program.ensures.done differs ends))
+
+pub returns-clause-tested : goal.returns-clause-tested
+returns-clause-tested g c =
+    let words : Option Command = command_in c.args.words.now.items in
+    let files : Option Files = g.S.Shelf.files c.args.shelf.now in
+    λ good.
+    test_right files words (subst (λ (ws : Option Command). IfSome ws (λ command. IsPromised command files false)) c.read_words.ensures (c.run_program.ensures.promise false good))
 
 pub returns-clause-audited : goal.returns-clause-audited
 returns-clause-audited g c =

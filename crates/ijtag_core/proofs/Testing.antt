@@ -1,0 +1,42 @@
+-- What a mux test does after the texts that were accepted.
+use Rattle.std.specs.Prelude.{option_map}
+use Rattle.std.proofs.Common.{◌≡◌, inl, inr, refl, sym, subst, false, ℕ, Option, Some, List, []}
+use Rattle.ij_io.specs.Bytes.{Adds, AddsPart}
+use Rattle.ij_io.specs.Files.{file_at}
+use Rattle.ij_io.specs.Pieces.{HoldsPart}
+use Rattle.ij_io.proofs.Adding.{adds_none}
+use Rattle.ijtag_stages.specs.Refusals.{Refusal}
+use Rattle.ijtag_work.specs.Accepted.{SeenAccepted}
+use Rattle.ijtag_work.specs.Late.{IsLateStop, IsPartOf}
+use Rattle.ijtag_work.specs.Leaves.{Leaves}
+use Rattle.ijtag_work.specs.Order.{mux_test, mux_tested, ran, test_report_of, test_text_of, within_limit}
+use Rattle.ijtag_work.specs.Runs.{Counts, IsDone, Seen}
+use Rattle.ijtag_work.specs.Task.{Task}
+use Rattle.ijtag_work.proofs.Whole.{whole_is_part}
+
+module _ (name : List ℕ) (it : SeenAccepted) (short : (within_limit it).gives tt) where
+  abbrev left : Leaves
+  left = ran name (test_text_of it) (test_report_of it) false
+
+  -- all of it could be done
+  pub can_test : (leaves : Leaves) × (mux_tested name it).gives leaves
+  can_test = (left, (tt, short, refl))
+
+  module _ (old new : Seen) where
+    -- the file is cut off
+    pub test_part : HoldsPart old.files new.files name (test_text_of it) → new.printed ≡ old.printed → IsPartOf (mux_tested name it) old new
+    test_part part silent =
+        inr (record { leaves = left; given = (tt, short, refl); files = inr (part, tt); printed = adds_none (test_report_of it) silent; in_order = inl silent })
+
+    module _ (whole : file_at new.files name ≡ option_map (λ _. Some (test_text_of it)) old.files) where
+      -- the report is cut off
+      pub lines_part : AddsPart old.printed new.printed (test_report_of it) → IsPartOf (mux_tested name it) old new
+      lines_part part =
+          inr (record { leaves = left; given = (tt, short, refl); files = inr (whole_is_part old.files new.files name (test_text_of it) whole, tt); printed = part; in_order = inr (whole, tt) })
+
+      pub test_done : Adds old.printed new.printed (test_report_of it) → IsDone (mux_tested name it) old new false
+      test_done printed = record { leaves = left; given = (tt, short, refl); files = (whole, tt); printed = printed; verdict = refl }
+
+-- too many scans are refused as the work refuses them
+pub refusal_stops : (name : List ℕ) (it : SeenAccepted) → (r : Refusal) → (within_limit it).refuses r → (mux_tested name it).refuses r
+refusal_stops name it r refuses = inl refuses
