@@ -160,6 +160,22 @@ def chains():
         Run(['compile', 'a.icl', 'a.pdl', 'a.dev', 'chip', 'p', 'a.svf'], holds={'a.svf': full('<PREFACE>') + '! apply 1\n' + scans}))
 
 
+def most_scans():
+    """A multiplexer of 4096 rows, each of which is set by one scan and gone through by another but the first, and more of one row, which
+    take one scan each: 8192 scans may be, and no more."""
+    rows = ' '.join(f"12'd{k} : SI;" for k in range(4096))
+    for title, more, status, out, err in (
+            ('Scans 8192 is taken', 1, 0, lambda text: text.endswith('\nmuxtest scans 8192 rows 4097 unseen 4097\n'), ''),
+            ('more than Scans 8192', 2, 3, '', 'refused muxtest Limit Scans 8192\n')):
+        front = 'Module Net {\n  ScanInPort SI; ScanOutPort SO { Source T0; }\n  ScanInterface client { Port SI; Port SO; }\n'
+        icl = (f"{front}  ScanMux m SelectedBy S {{ {rows} }}\n  ScanRegister S[11:0] {{ ScanInSource m; CaptureSource S; ResetValue 12'b0; }}\n" + ''.join(
+            f"  ScanMux n{k} SelectedBy T{k} {{ 1'b0 : {f'T{k + 1}' if k + 1 < more else 'S[0]'}; }}\n"
+            f"  ScanRegister T{k} {{ ScanInSource n{k}; CaptureSource T{k}; ResetValue 1'b0; }}\n" for k in range(more)) + '}\n' + full('<CHIP>'))
+        yield Case(
+            f'muxtest: {title}', ('a.icl', icl), ('a.dev', full('<DEVICE>')),
+            Run(['muxtest', 'a.icl', 'a.dev', 'chip', 'a.svf'], status, out, err, {} if status else {'a.svf': ANY}))
+
+
 def calls():
     """Procedures that call one another, so many inside one another: the last one writes."""
     for depth, status, err in ((64, 0, ''), (65, 3, 'refused pdl CallDepth 195:3\n')):
@@ -262,7 +278,7 @@ def all_cases():
     """The cases of all topics, one for each row, and those whose texts are computed."""
     topics = [case for path in sorted(pathlib.Path('.ci/answers').glob('*.txt')) for case in read_topic(path)]
     cases = [of_row(case, row) for case in topics for row in case.rows or [()]]
-    return cases + [*hierarchies(), *chains(), *calls(), *pieces(), *segments(), longest_scan(), *made_designs()]
+    return cases + [*hierarchies(), *chains(), *most_scans(), *calls(), *pieces(), *segments(), longest_scan(), *made_designs()]
 
 
 def main(program, *titles):

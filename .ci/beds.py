@@ -10,7 +10,7 @@ import json
 import os
 import sys
 
-BUILT = ('compile', 'play', 'run', 'direct', 'make', 'migrate', 'audit')
+BUILT = ('compile', 'play', 'run', 'direct', 'make', 'migrate', 'audit', 'muxtest')
 USAGE = f'usage: ijtag {"|".join(BUILT)}\n'
 program, shared = os.path.abspath(sys.argv[1]), sys.argv[2]
 
@@ -30,7 +30,7 @@ def rows():
     bed = module('run_rows', f'{shared}/rows/run_rows.py')
     passed, failed = 0, []
     for name, case in bed.cases(None):
-        if not bed.holds(case, 'audit' if is_built(case['words']) and case['status'] != 2 else 'nest'):
+        if not bed.holds(case, 'muxtest' if is_built(case['words']) and case['status'] != 2 else 'nest'):
             continue
         if case['status'] == 2:
             case['err'] = USAGE
@@ -52,7 +52,7 @@ def corpus():
                         run['words'] = ['left out']
                     if run['status'] == 2:
                         run['err'] = USAGE
-                tasks.append((case, [program], 'audit', None, ''))
+                tasks.append((case, [program], 'muxtest', None, ''))
     bed.want_of = lambda run, upto: 'exact' if is_built(run['words']) and len(run['words']) == bed.FORMS[run['words'][0]] else 'skip'
     with concurrent.futures.ThreadPoolExecutor(os.cpu_count() or 1) as workers:
         for _, well, _, _, report in workers.map(bed.run_case, tasks):

@@ -15,14 +15,13 @@ STAGES = {
     'LoadFault': 'file', 'LexFault': 'icl', 'ParseFault': 'icl', 'DeviceFault': 'device', 'TableFault': 'tables', 'SvfFault': 'svf',
     'ElabFault': 'elab', 'ConnectFault': 'connect', 'NestFault': 'nest', 'FitsFault': 'fit', 'PdlFault': 'pdl', 'ExpandFault': 'pdl',
     'TargetFault': 'pdl', 'FeedFault': 'pdl', 'MakeFault': 'make',
+    'MuxFault': 'muxtest',
     # causes that the crate of numbers hands to its callers, which have variants of their own for what they print
     'NumberFault': None, 'FitFault': None,
     # a file that isn't written is no refusal, but `write fault`
     'StoreFault': None,
     # they hold the refusals of the others
-    'StepFault': None, 'StageFault': None,
-    # of a test that no command makes yet
-    'MuxFault': None}
+    'StepFault': None, 'StageFault': None}
 
 # what no text can bring about
 PASSED_OVER = {
@@ -56,6 +55,8 @@ LIMITS = {
         ('100,000 commands', 'TooManySteps', 'large: the most steps', 'large: PDL that is refused: <100001 * iApply'),
         ('64 calls', 'CallDepth', 'pdl: 64 calls', 'pdl: 65 calls'),
         ('16 multiplexers', 'TooDeep', 'nest: sixteen multiplexers', 'nest: seventeen multiplexers'),
+        ('at most 8192 SDR commands (`refused muxtest Limit Scans 8192`)', 'Limit Scans 8192', 'muxtest: Scans 8192 is taken',
+         'muxtest: more than Scans 8192'),
         ('scans of at most 65,536 bits', 'SvfLimit', 'play: the longest scan', 'svf: refused SVF: SDR 65537 '),
         ('1,000,000,000 clocks', 'SvfLimit', "svf: SVF that isn't refused: RUNTEST 999999999 ", 'svf: refused SVF: RUNTEST 1000000000 '),
         ('64 open parentheses', 'ExprLimit', 'icl: limits of expressions: <64 * (>', 'icl: limits of expressions: <65 * (>'),

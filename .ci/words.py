@@ -106,7 +106,7 @@ if on_first_page != [(name, ' '.join(its)) for name, its, _ in commands]:
 undeclared = {it for _, its, _ in commands for it in its} ^ {name for name, _ in words}
 if undeclared:
     wrong.append(f'docs/MANUAL.md uses and explains different words: {sorted(undeclared)}')
-for text, wanted in (("ijtag m", ['make', 'migrate']), ("ijtag compile examples/flat/chip.d", ['examples/flat/chip.dev']), ("ijtag audit s examples/sibs/chip.i", ['examples/sibs/chip.icl']),
+for text, wanted in (("ijtag m", ['make', 'migrate', 'muxtest']), ("ijtag compile examples/flat/chip.d", ['examples/flat/chip.dev']), ("ijtag audit s examples/sibs/chip.i", ['examples/sibs/chip.icl']),
                      ("ijtag compile examples/flat/chip.icl p d c", ['chip']), ("ijtag audit s i examples/merge/chip.pdl d chip to", ['together']), ("ijtag make ''", [])):
     found = completed(text)
     if found != wanted:

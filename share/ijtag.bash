@@ -3,7 +3,7 @@ _ijtag() {
   local current=${COMP_WORDS[COMP_CWORD]} kinds=() kind at icl= pdl=
   COMPREPLY=()
   if [ "$COMP_CWORD" = 1 ]; then
-    mapfile -t COMPREPLY < <(compgen -W 'compile play run direct audit make migrate' -- "$current")
+    mapfile -t COMPREPLY < <(compgen -W 'compile play run direct audit make muxtest migrate' -- "$current")
     return
   fi
   case ${COMP_WORDS[1]} in
@@ -13,6 +13,7 @@ _ijtag() {
     direct) kinds=(ICL PDL DEVICE TABLES TOP PROC) ;;
     audit) kinds=(SVF ICL PDL DEVICE TOP PROC) ;;
     make) kinds=(SEED SIZE STEM) ;;
+    muxtest) kinds=(ICL DEVICE TOP SVF) ;;
     migrate) kinds=(TABLES NEW) ;;
   esac
   kind=${kinds[COMP_CWORD - 2]:-}
