@@ -100,7 +100,8 @@ with tempfile.TemporaryDirectory() as folder:
     files = [FLAT / f'chip.{kind}' for kind in ('icl', 'pdl', 'dev', 'tab')]
     check('the SVF text that is audited', compile_to(svf)[0], 0)
     printing = {'play': [svf, files[0], *files[2:], 'chip'], 'run': [*files, 'chip', 'p', folder / 'run.svf'], 'direct': [*files, 'chip', 'p'],
-                'audit': [svf, *files[:3], 'chip', 'p'], 'make': ['0', '1', folder / 'made']}
+                'audit': [svf, *files[:3], 'chip', 'p'], 'muxtest': [files[0], files[2], 'chip', folder / 'mux.svf'],
+                'make': ['0', '1', folder / 'made']}
     for name, words in printing.items():
         check(f'{name}, whose output is taken', run([name, *words])[::2], (0, b''))
         with open('/dev/full', 'wb') as full:

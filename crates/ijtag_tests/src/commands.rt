@@ -41,6 +41,14 @@ const STORE: &[u8] =
 const STORED: &[u8] =
     b"register net.R 000100011101\ninstrument mem q=00 m[3]=11 changes 3 runs 0 resets 0\nreads 0 differs 0\n";
 
+/// A register of four bits that a multiplexer leaves out or lets in, and after it the select bit.
+const BRANCH: &[u8] =
+    b"Module Net {\n  ScanInPort SI; ScanOutPort SO { Source S; }\n  ScanInterface client { Port SI; Port SO; }\n  ScanMux m SelectedBy S { 1'b0 : SI; 1'b1 : R[0]; }\n  ScanRegister R[3:0] { ScanInSource SI; CaptureSource R; ResetValue 4'b0; }\n  ScanRegister S { ScanInSource m; CaptureSource S; ResetValue 1'b0; }\n}\nModule chip {\n  Instance net Of Net;\n  AccessLink tap Of STD_1149_1_2001 {\n    BSDLEntity chip; IJTAG { ScanInterface { net.client; } }\n  }\n}\n";
+
+/// Its test: two rows, and three scans.
+const TESTED: &[u8] =
+    b"ENDIR IDLE;\nENDDR IDLE;\nSTATE RESET;\nSTATE IDLE;\nSIR 8 TDI (A0);\n! mux net.m row 0\nSDR 7 TDI (20) TDO (40) MASK (7E);\n! mux net.m row 1\nSDR 7 TDI (60) TDO (40) MASK (7E);\nSDR 11 TDI (060) TDO (400) MASK (7E0);\n";
+
 /// A command: its words, the files that there are, the names that it loads in their order, the name that it writes (or an empty one), the
 /// text that this file has then, and what is printed.
 #[derive(Drop)]
@@ -70,6 +78,9 @@ const MEMORY_FILES: [(&str, &[u8]); 4] = [
     ("a.tab", MEMORY_TABLES),
 ];
 
+/// The files of the network with a multiplexer.
+const BRANCH_FILES: [(&str, &[u8]); 2] = [("a.icl", BRANCH), ("a.dev", DEVICE)];
+
 /// The files of a design that is refused at once.
 pub(crate) const REFUSED_FILES: [(&str, &[u8]); 5] = [
     ("a.icl", b"Module chip { ScanRegister }"),
@@ -92,7 +103,7 @@ const DIRECT: [&str; 7] = ["direct", "a.icl", "a.pdl", "a.dev", "a.tab", "chip",
 const AUDIT: [&str; 7] = ["audit", "a.svf", "a.icl", "a.pdl", "a.dev", "chip", "p"];
 
 /// All commands but `make`.
-pub(crate) const COMMANDS: [Command<'static>; 6] = [
+pub(crate) const COMMANDS: [Command<'static>; 7] = [
     Command {
         words: &COMPILE,
         files: &COUNTER_FILES,
@@ -140,6 +151,14 @@ pub(crate) const COMMANDS: [Command<'static>; 6] = [
         writes: "b.tab",
         text: MIGRATED,
         report: b"",
+    },
+    Command {
+        words: &["muxtest", "a.icl", "a.dev", "chip", "b.svf"],
+        files: &BRANCH_FILES,
+        loads: &["a.icl", "a.dev"],
+        writes: "b.svf",
+        text: TESTED,
+        report: b"muxtest scans 3 rows 2 unseen 0\n",
     },
 ];
 
