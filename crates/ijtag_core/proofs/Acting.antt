@@ -1,16 +1,18 @@
 -- What a command does with what was accepted, its whole work does.
 use Rattle.std.specs.Prelude.{IsTrue}
-use Rattle.std.proofs.Common.{◌≡◌, inl, refl, sym, subst, ℕ, Option, Some, Result, Err, List}
+use Rattle.std.proofs.Common.{◌≡◌, inl, inr, refl, sym, subst, ℕ, Option, Some, Result, Err, List, []}
 use Rattle.ij_io.specs.Causes.{Rose}
 use Rattle.ij_io.specs.Files.{Files}
 use Rattle.ij_io.specs.declared.fault.StoreFault.{StoreFault}
 use Rattle.ij_io.specs.declared.fault.StoreFault.TheVariants.{Failed, OutOfMemory}
-use Rattle.ijtag_stages.specs.Refusals.{Part}
+use Rattle.ijtag_stages.specs.Refusals.{Part, Refusal}
+use Rattle.ijtag_stages.specs.Work.{never}
 use Rattle.ijtag_work.specs.Accepted.{SeenAccepted, Texts, accepted, accepted_of}
 use Rattle.ijtag_work.specs.Late.{IsLateStop}
 use Rattle.ijtag_work.specs.Leaves.{Leaves}
 use Rattle.ijtag_work.specs.Loads.{loaded, IsOneOf}
-use Rattle.ijtag_work.specs.Runs.{Counts, IsStop}
+use Rattle.ijtag_work.specs.Runs.{AreFirstWritten, Counts, IsStop}
+use Rattle.ijtag_work.specs.Stops.{IsEarly}
 use Rattle.ijtag_work.specs.Seen.{file_stop, output_stop}
 use Rattle.ijtag_work.specs.Task.{Row, Task, task_of, work}
 
@@ -18,6 +20,25 @@ pub row_gives : (row : Row) (files : Option Files) (texts : List (List ℕ)) (na
     → (accepted named).gives it → (leaves : Leaves) → (row.leaves it).gives leaves → (work files (task_of row)).gives leaves
 row_gives row files texts named it read is given leaves left =
     (texts, read, (it, subst (λ (t : Option Texts). (accepted_of t).gives it) (sym is) given, left))
+
+-- what it refuses, the whole work refuses
+pub row_refuses : (row : Row) (files : Option Files) (texts : List (List ℕ)) (named : Texts) (it : SeenAccepted) → (loaded files row.loads).gives texts → row.texts texts ≡ Some named
+    → (accepted named).gives it → (refusal : Refusal) → (row.leaves it).refuses refusal → (work files (task_of row)).refuses refusal
+row_refuses row files texts named it read is given refusal refuses =
+    inr (texts, read, inr (it, subst (λ (t : Option Texts). (accepted_of t).gives it) (sym is) given, refuses))
+
+-- without files that are written before, nothing has changed
+pub none_first : (old new : Option Files) → new ≡ old → AreFirstWritten never [] old new
+none_first old new same = record { whole = λ written given. absurd given; others = same; same = λ none. same }
+
+-- no write comes early
+pub file_late : (name : List ℕ) (fault : StoreFault) → IsEarly (file_stop name fault) → ⊥
+file_late name Failed early = early
+file_late name OutOfMemory early = early
+
+pub output_late : (fault : StoreFault) → IsEarly (output_stop fault) → ⊥
+output_late Failed early = early
+output_late OutOfMemory early = early
 
 -- a write of a file is refused
 pub file_stops : {T : Type 0} (part : Part Leaves) (task : Task) (c : Counts) (name : List ℕ) (fault : StoreFault) → (◌≡◌ {A = Result T StoreFault} (Err fault) (Err Failed) → (leaves : Leaves) × part.gives leaves) → IsOneOf task.writes name

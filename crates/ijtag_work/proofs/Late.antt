@@ -6,8 +6,8 @@ use Rattle.ijtag_work.specs.Task.{Task, work}
 use Rattle.ijtag_work.specs.Late.{IsLateStop, IsPartOf}
 use Rattle.ijtag_work.specs.Leaves.{Leaves}
 use Rattle.ijtag_work.specs.Runs.{Seen, IsDone, IsPartDone, Counts, IsStop}
-use Rattle.ijtag_work.specs.Stops.{Stop, Usage, Refuses, ReadFault, WriteFault, OutputFault, NoMemory, IsEarly}
-use Rattle.ijtag_stages.specs.Refusals.{Part}
+use Rattle.ijtag_work.specs.Stops.{Stop, Usage, Refuses, ReadFault, WriteFault, OutputFault, NoMemory}
+use Rattle.ijtag_stages.specs.Refusals.{Part, Refusal}
 
 module _ (files : Option Files) (task : Task) (part : Part Leaves) (lift : (leaves : Leaves) → part.gives leaves → (work files task).gives leaves) (old new : Seen) where
   pub done_in : (differs : Bool) → IsDone part old new differs → IsDone (work files task) old new differs
@@ -22,7 +22,7 @@ module _ (files : Option Files) (task : Task) (part : Part Leaves) (lift : (leav
 
 -- behind loads, which raise no count of a store
 module _ (files : Option Files) (task : Task) (part : Part Leaves) (lift : (leaves : Leaves) → part.gives leaves → (work files task).gives leaves)
-    (load load_now store : List ℕ → ℕ) (mid : Counts) (same : (name : List ℕ) → mid.store name ≡ store name) where
+    (refuse : (refusal : Refusal) → part.refuses refusal → (work files task).refuses refusal) (load load_now store : List ℕ → ℕ) (mid : Counts) (same : (name : List ℕ) → mid.store name ≡ store name) where
   abbrev before : Counts
   before = record { load = load; load_now = load_now; store = store; store_now = mid.store_now; output = mid.output; output_now = mid.output_now }
 
@@ -32,14 +32,5 @@ module _ (files : Option Files) (task : Task) (part : Part Leaves) (lift : (leav
   late_stop OutputFault is = ((is.0.0, lift is.0.0 is.0.1), is.1)
   late_stop NoMemory is = tt
   late_stop Usage is = absurd is
-  late_stop (Refuses refusal) is = absurd is
+  late_stop (Refuses refusal) is = refuse refusal is
   late_stop (ReadFault name) is = absurd is
-
--- it comes behind the first write
-pub not_early : (part : Part Leaves) (task : Task) (c : Counts) (stop : Stop) → IsLateStop part task c stop → IsEarly stop → ⊥
-not_early part task c (WriteFault name) is early = early
-not_early part task c OutputFault is early = early
-not_early part task c NoMemory is early = early
-not_early part task c Usage is early = absurd is
-not_early part task c (Refuses refusal) is early = absurd is
-not_early part task c (ReadFault name) is early = absurd is

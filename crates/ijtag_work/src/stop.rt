@@ -5,7 +5,7 @@ ghost use Rattle.ij_io.specs.Causes.{HasCause};
 ghost use Rattle.ijtag_work.specs.Runs.{IsOrMemory, Tells};
 ghost use Rattle.ijtag_work.specs.Seen.{file_stop, output_stop, seen_made_name, seen_stop, stop_from};
 ghost use Rattle.ijtag_work.specs.declared.stop.Stop.TheVariants as stops;
-ghost use Rattle.ijtag_work.specs.Stops.{status_of, stop_text, named_line};
+ghost use Rattle.ijtag_work.specs.Stops.{IsEarly, status_of, stop_text, named_line};
 
 use crate::names::MadeName;
 use crate::status::Status;
@@ -63,7 +63,8 @@ impl<'a> From<AllocFailed<Vec<u8>>> for Stop<'a> {
 impl<'a> Stop<'a> {
     /// Why a run stops at a write of a file.
     pub fn of_file(fault: StoreFault, name: &'a str) -> Stop<'a>
-        ensures { seen_stop result ≡ file_stop name.entry.now fault }
+        ensures stop { seen_stop result ≡ file_stop name.entry.now fault }
+        ensures late { ¬ IsEarly (seen_stop result) }
     {
         match fault {
             StoreFault::Failed => Stop::WriteFault(name),
@@ -73,7 +74,8 @@ impl<'a> Stop<'a> {
 
     /// Why a run stops at a write of the output.
     pub fn of_output(fault: StoreFault) -> Stop<'a>
-        ensures { seen_stop result ≡ output_stop fault }
+        ensures stop { seen_stop result ≡ output_stop fault }
+        ensures late { ¬ IsEarly (seen_stop result) }
     {
         match fault {
             StoreFault::Failed => Stop::OutputFault,

@@ -46,7 +46,7 @@ returns-clause-stop g c =
     let old : Seen = record { files = g.S.Shelf.files c.args.shelf.now; printed = g.O.Sink.taken c.args.out.now } in
     let new : Seen = record { files = g.S.Shelf.files c.write_svf.new.shelf; printed = g.O.Sink.taken c.put_report.new.out } in
     let now : Counts = counts g.S.Shelf.load_faults g.S.Shelf.store_faults g.O.Sink.faults c.args.shelf.now c.write_svf.new.shelf c.args.out.now c.put_report.new.out in
-    subst (λ (s : Stop). IsPlayStop (made_of [] svf it) svf now s) (sym c.of_output.ensures)
+    subst (λ (s : Stop). IsPlayStop (made_of [] svf it) svf now s) (sym c.of_output.ensures.stop)
     (line_stop svf it old new c.in_ok-commands.commands c.in_ok-commands.ensures.whole now c.in-Err.fault c.in-Err.ensures.cause.failed)
 
 pub returns-clause-part : goal.returns-clause-part

@@ -52,7 +52,7 @@ returns-clause-stop g c =
     let name : List ℕ = words.written in
     let now : ℕ = g.S.Shelf.store_faults c.write_file.new.shelf name in
     let k : Counts = counts g.S.Shelf.load_faults g.S.Shelf.store_faults g.O.Sink.faults c.args.shelf.now c.write_file.new.shelf c.args._out.now c.args._out.now in
-    subst (λ (s : Stop). IsStop files (migrate words) k s) (sym c.of_file.ensures)
+    subst (λ (s : Stop). IsStop files (migrate words) k s) (sym c.of_file.ensures.stop)
     (file_stop_of files (migrate words) k name c.in-Err.fault (filed name bytes, own) (inl refl)
     (λ failed. subst (λ (before : ℕ). Rose before now) (c.in_ok-texts.ensures.stores name) (c.in-Err.ensures.cause.failed failed)))
 

@@ -24,7 +24,7 @@ returns-in-Err-clause-stop g c =
     let name : List ℕ = c.args.self.now.svf.now in
     let part = compiled name (seen_accepted c.args.it.now) in
     let k : Counts = counts g.S.Shelf.load_faults g.S.Shelf.store_faults g.O.Sink.faults c.args.shelf.now c.write_svf.new.shelf c.args._out.now c.args._out.now in
-    subst (λ (s : Stop). IsLateStop part (task_of (compile (seen_compile c.args.self.now))) k s) (sym c.of_file.ensures)
+    subst (λ (s : Stop). IsLateStop part (task_of (compile (seen_compile c.args.self.now))) k s) (sym c.of_file.ensures.stop)
     (file_stops part (task_of (compile (seen_compile c.args.self.now))) k name c.in-Err.fault
     (λ failed. let text = c.in-Err.ensures.text failed in (filed name text.0, (text.0, text.1, refl))) (inl refl) c.in-Err.ensures.cause.failed)
 

@@ -32,7 +32,7 @@ returns-in-Err-clause-stop g c =
     let written : (written_text it).gives bytes = subst (λ (b : List ℕ). (written_text it).gives b) (sym c.bytes-bytes.ensures) c.in_ok-svf.ensures.text in
     let plans : HasPlans it = c.in_ok-svf.ensures.plans in
     let k : Counts = counts g.S.Shelf.load_faults g.S.Shelf.store_faults g.O.Sink.faults c.args.shelf.now c.write_file.new.shelf c.args.out.now c.args.out.now in
-    subst (λ (s : Stop). IsLateStop (run_of name it) (task_of (run (seen_run c.args.self.now))) k s) (sym c.of_file.ensures)
+    subst (λ (s : Stop). IsLateStop (run_of name it) (task_of (run (seen_run c.args.self.now))) k s) (sym c.of_file.ensures.stop)
     (file_stops (run_of name it) (task_of (run (seen_run c.args.self.now))) k name c.in-Err.fault (λ failed. can_run name it bytes written plans) (inl refl) c.in-Err.ensures.cause.failed)
 
 pub returns-in-Err-clause-part : goal.returns-in-Err-clause-part
@@ -81,7 +81,7 @@ returns-clause-stop g c =
     let written : (written_text it).gives bytes = subst (λ (b : List ℕ). (written_text it).gives b) (sym c.bytes-bytes.ensures) c.in_ok-svf.ensures.text in
     let plans : HasPlans it = c.in_ok-svf.ensures.plans in
     let k : Counts = counts g.S.Shelf.load_faults g.S.Shelf.store_faults g.O.Sink.faults c.args.shelf.now c.write_file.new.shelf c.args.out.now c.put_lines.new.out in
-    subst (λ (s : Stop). IsLateStop (run_of name it) (task_of (run (seen_run c.args.self.now))) k s) (sym c.of_output.ensures)
+    subst (λ (s : Stop). IsLateStop (run_of name it) (task_of (run (seen_run c.args.self.now))) k s) (sym c.of_output.ensures.stop)
     (output_stops (run_of name it) (task_of (run (seen_run c.args.self.now))) k c.in-Err-put_lines.fault (λ failed. can_run name it bytes written plans) refl c.in-Err-put_lines.ensures.cause.failed)
 
 pub returns-clause-part : goal.returns-clause-part
