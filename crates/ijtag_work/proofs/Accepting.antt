@@ -1,9 +1,8 @@
 -- A text that is refused behind others that are accepted.
-use Rattle.std.proofs.Common.{inl, inr, ℕ, Option, List}
+use Rattle.std.proofs.Common.{inl, inr, Option, List}
 use Rattle.icl_lexer.specs.Values.{SeenModule}
 use Rattle.instruments.specs.Seen.{SeenModel}
 use Rattle.net_graph.specs.declared.device.Device.{Device}
-use Rattle.net_graph.specs.SeenSteps.{SeenStep}
 use Rattle.svf_writer.specs.SeenCommands.{SeenCommand}
 use Rattle.table_file.specs.Tables.{SeenTable}
 use Rattle.ijtag_stages.specs.DeviceText.{device_text}

@@ -1,8 +1,6 @@
 -- The work of a command comes to one end at most: what is given is one value, and then nothing is refused; and a refusal is one.
-use Rattle.std.proofs.Common.{◌≡◌, ◌⊎◌, inl, inr, ◌<◌, ◌≤◌, ◌∙◌, sym, ap, ℕ, Option, Some, None, Result, Ok, List, [], ◌∷◌, ◌++◌, length, codes, arith}
+use Rattle.std.proofs.Common.{refl, ◌≡◌, ◌⊎◌, inl, inr, ◌<◌, ◌≤◌, ◌∙◌, sym, ap, ℕ, Option, Some, None, Result, Ok, List, [], ◌∷◌, length, codes, arith}
 use Rattle.ij_io.specs.Files.{Files, bytes_of}
-use Rattle.icl_lexer.specs.Values.{SeenModule}
-use Rattle.net_graph.specs.declared.device.Device.{Device}
 use Rattle.headline.specs.Retargeting.{TextsAreOne}
 use Rattle.bench_report.specs.Report.{named_report}
 use Rattle.run_report.specs.Laws.{PlacesAreOne}
@@ -17,10 +15,8 @@ use Rattle.ijtag_stages.specs.IclText.{icl_text}
 use Rattle.ijtag_stages.specs.Laws.{StagesAreDecided}
 use Rattle.ijtag_stages.specs.Networks.{NestedNet, network_below}
 use Rattle.ijtag_stages.specs.PdlText.{pdl_text}
-use Rattle.ijtag_stages.specs.Procedure.{procedure}
 use Rattle.ijtag_stages.specs.SvfText.{svf_text}
 use Rattle.ijtag_stages.specs.TablesText.{tables_text}
-use Rattle.table_file.specs.Tables.{SeenTable}
 use Rattle.ijtag_stages.specs.Refusals.{Part}
 use Rattle.ijtag_stages.specs.Work.{IsDecided}
 use Rattle.ijtag_stages.proofs.Turns.{give_decided, never_decided, in_turn_decided}

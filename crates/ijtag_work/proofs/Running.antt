@@ -1,12 +1,12 @@
 -- What a run does behind the texts that were accepted.
 use Rattle.std.specs.Prelude.{option_map}
-use Rattle.std.proofs.Common.{◌≡◌, ◌∙◌, ◌≤◌, inl, inr, sym, ap, refl, ℕ, Bool, Option, Some, List, [], ◌∷◌, length, arith}
+use Rattle.std.proofs.Common.{◌≡◌, ◌≤◌, inl, inr, refl, ℕ, Bool, Some, List, [], ◌∷◌, length, arith}
 use Rattle.retargeter.specs.Files.{HoldsPart}
 use Rattle.bench_report.specs.Report.{named_report}
 use Rattle.headline.specs.Retargeting.{PlannedStep, script_of}
 use Rattle.headline.specs.Script.{script_commands}
 use Rattle.ij_io.specs.Bytes.{Adds, AddsPart}
-use Rattle.ij_io.specs.Files.{Files, file_at}
+use Rattle.ij_io.specs.Files.{file_at}
 use Rattle.ij_io.proofs.Adding.{adds_none}
 use Rattle.net_graph.specs.Resets.{start_holds}
 use Rattle.run_report.specs.Places.{places, read_at}

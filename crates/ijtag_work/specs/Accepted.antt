@@ -1,12 +1,10 @@
 -- What the texts of a command are accepted as. Every command accepts its texts in this one order, each of them where the command has
 -- it: the lines of a `do` block are done in turn, and the first that refuses decides.
 use Rattle.std.specs.Prelude.{ℕ, List, [], Option, Some, None, unwrap_or}
-use Rattle.icl_lexer.specs.Values.{SeenModule}
 use Rattle.instruments.specs.Seen.{SeenModel}
 use Rattle.net_graph.specs.declared.device.Device.{Device}
 use Rattle.net_graph.specs.SeenSteps.{SeenStep}
 use Rattle.svf_writer.specs.SeenCommands.{SeenCommand}
-use Rattle.table_file.specs.Tables.{SeenTable}
 use Rattle.ijtag_stages.specs.DeviceText.{device_text}
 use Rattle.ijtag_stages.specs.Fitted.{models_of}
 use Rattle.ijtag_stages.specs.IclText.{icl_text}

@@ -1,5 +1,5 @@
 -- What is promised of what the texts of a command are accepted as.
-use Rattle.std.specs.Prelude.{◌≡◌, ℕ, List, Option}
+use Rattle.std.specs.Prelude.{ℕ, List, Option}
 use Rattle.ij_io.specs.Files.{Files}
 use Rattle.ijtag_work.specs.Accepted.{SeenAccepted, accepted_of}
 use Rattle.ijtag_work.specs.Loads.{loaded}

@@ -142,7 +142,9 @@ fn put_stop<K: Sink>(stop: &Stop<'_>, k: &mut K) -> Result<(), StoreFault>
     ensures cause { HasCause (K.faults k.old) (K.faults k.new) result StoreFault.Failed }
 {
     match stop {
-        Stop::Usage => k.write(b"usage: ijtag compile|play|run|direct|make|migrate|audit|muxtest\n"),
+        Stop::Usage => k.write(
+            b"usage: ijtag compile|play|run|direct|make|migrate|audit|muxtest\n",
+        ),
         Stop::Refused(refusal) => put_refusal(refusal, k),
         Stop::ReadFault(name) => put_named(b"read fault ", name, k),
         Stop::WriteFault(name) => put_named(b"write fault ", name, k),
