@@ -70,11 +70,7 @@ fn write_test<'n, S: Shelf>(
 
 /// Prints the report of a test.
 #[tactic(auto, unfolding(ijtag_work::specs::Order::test_report_of))]
-fn print_test<'n, O: Sink>(
-    it: &Accepted,
-    test: &MuxTest<'n>,
-    out: &mut O,
-) -> Result<(), StoreFault>
+fn print_test<'n, O: Sink>(it: &Accepted, test: &MuxTest<'n>, out: &mut O) -> Result<(), StoreFault>
     requires usable { IsUsable it.now }
     requires planned { IsReportOf (seen_accepted it.now) test.now }
     ensures printed { OnOk result (Adds (O.taken out.old) (O.taken out.new) (test_report_of (seen_accepted it.now))) }
