@@ -9,3 +9,4 @@ mod Playing
 mod Taking
 mod Writing
 mod Testing
+mod Sure

@@ -6,7 +6,7 @@ use Rattle.ijtag_work.specs.Seen.{differing}
 use Rattle.ijtag_work.specs.Task.{work}
 use Rattle.ijtag_work.specs.Words.{seen_command}
 use Rattle.ijtag_work.specs.declared.words.CommandWords.{CommandWords}
-use Rattle.ijtag_work.specs.declared.words.CommandWords.TheVariants.{Compile, Play, Direct, Run, Make, Migrate, Audit}
+use Rattle.ijtag_work.specs.declared.words.CommandWords.TheVariants.{Compile, Play, Direct, Run, Make, Migrate, Audit, MuxTest}
 use Rattle.ijtag_core.proofs.commands.CommandWordsCommand.run.Goals as goal
 
 pub returns-in-Compile-clause-done : goal.returns-in-Compile-clause-done
@@ -50,3 +50,9 @@ returns-in-Audit-clause-done g c =
     let is : Audit c.in-Audit.it ≡ c.args.self.now = search rules in
     subst (λ (w : CommandWords). IfOk c.accept_and_act-in-Audit.result (λ verdict. IsDone (work (g.S.Shelf.files c.args.shelf.now) (task (seen_command w)))
     (seen g.S.Shelf.files g.O.Sink.taken c.args.shelf.now c.args.out.now) (seen g.S.Shelf.files g.O.Sink.taken c.accept_and_act-in-Audit.new.shelf c.accept_and_act-in-Audit.new.out) (differing verdict))) is c.accept_and_act-in-Audit.ensures.done
+
+pub returns-in-MuxTest-clause-done : goal.returns-in-MuxTest-clause-done
+returns-in-MuxTest-clause-done g c =
+    let is : MuxTest c.in-MuxTest.it ≡ c.args.self.now = search rules in
+    subst (λ (w : CommandWords). IfOk c.accept_and_act-in-MuxTest.result (λ verdict. IsDone (work (g.S.Shelf.files c.args.shelf.now) (task (seen_command w)))
+    (seen g.S.Shelf.files g.O.Sink.taken c.args.shelf.now c.args.out.now) (seen g.S.Shelf.files g.O.Sink.taken c.accept_and_act-in-MuxTest.new.shelf c.accept_and_act-in-MuxTest.new.out) (differing verdict))) is c.accept_and_act-in-MuxTest.ensures.done
