@@ -1,12 +1,12 @@
 -- What is told of a write that failed.
 use Rattle.std.specs.Prelude.{IfSome}
-use Rattle.std.proofs.Common.{◌≡◌, ◌⊎◌, inl, inr, ℕ, List, Option, Some, None, sym, ◌∙◌}
+use Rattle.std.proofs.Common.{◌≡◌, inl, inr, Option, Some, None, sym, ◌∙◌}
 use Rattle.ij_io.specs.Files.{Files}
 use Rattle.ijtag_work.specs.Runs.{Counts, IsStop, IsWriteStop, IsRunStop, IsOrMemory}
 use Rattle.ijtag_work.specs.Stops.{Stop, Usage, Refuses, ReadFault, WriteFault, OutputFault, NoMemory, status_of}
 use Rattle.ijtag_work.specs.Task.{Task}
 use Rattle.ijtag_work.specs.declared.status.Status.{Status}
-use Rattle.ijtag_work.specs.declared.status.Status.TheVariants.{Usage as UsageStatus, Refused, ReadFault as ReadStatus, WriteFault as WriteStatus, OutOfMemory}
+use Rattle.ijtag_work.specs.declared.status.Status.TheVariants.{Refused, ReadFault as ReadStatus, WriteFault as WriteStatus, OutOfMemory}
 
 no_memory : (result : Status) → result ≡ WriteStatus → result ≡ OutOfMemory → ⊥
 no_memory result fault memory = cc

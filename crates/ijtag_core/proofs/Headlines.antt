@@ -1,15 +1,15 @@
 -- Where all of a command's work is done, the SVF file that it leaves is right; and what is promised besides of an audit.
 use Rattle.std.specs.Prelude.{IfSome, option_map}
-use Rattle.std.proofs.Common.{◌≡◌, ◌∙◌, ap, sym, subst, refl, ℕ, Bool, false, Option, Some, None, List, [], ◌∷◌, ◌++◌, codes}
+use Rattle.std.proofs.Common.{◌≡◌, ◌∙◌, ap, subst, refl, ℕ, Bool, false, Option, Some, None, List, [], ◌∷◌, ◌++◌, codes}
 use Rattle.ij_io.specs.Files.{Files, file_at}
 use Rattle.ijtag_work.specs.Accepted.{SeenAccepted, accepted_of}
 use Rattle.ijtag_work.specs.Audited.{IfAudits, IsAudited, IsPromised}
-use Rattle.ijtag_work.specs.Command.{Command, Compile, Compiles, Plays, Directs, Run, Runs, Make, Makes, made_names, made_svf, Migrates, Audits, MuxTests}
-use Rattle.ijtag_work.specs.Headline.{HasRightSvf, IsMadeRetargeted, IsRetargeted, IsRunRetargeted, LeavesRightSvf}
+use Rattle.ijtag_work.specs.Command.{Command, Compile, Compiles, Plays, Directs, Run, Runs, Make, Makes, made_svf, Migrates, Audits, MuxTests}
+use Rattle.ijtag_work.specs.Headline.{IsMadeRetargeted, IsRetargeted, IsRunRetargeted, LeavesRightSvf}
 use Rattle.ijtag_work.specs.Laws.{RunsDifferAlike}
 use Rattle.ijtag_work.specs.Leaves.{Leaves, Written}
 use Rattle.ijtag_work.specs.Tested.{IfTests, IsTested}
-use Rattle.ijtag_work.specs.Order.{accepted_made, direct_texts, made_files, made_of, made_texts, run_of, task, written_as, written_text}
+use Rattle.ijtag_work.specs.Order.{accepted_made, direct_texts, made_files, made_of, made_texts, run_of, task, written_text}
 use Rattle.ijtag_work.specs.Runs.{AllHold, IsDone, Seen}
 use Rattle.ijtag_work.specs.Task.{work}
 use Rattle.ijtag_work.proofs.Running.{ran_alike}

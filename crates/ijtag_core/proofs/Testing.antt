@@ -1,6 +1,6 @@
 -- What a mux test does after the texts that were accepted.
 use Rattle.std.specs.Prelude.{option_map}
-use Rattle.std.proofs.Common.{◌≡◌, ◌∙◌, ◌++◌, inl, inr, refl, ap, false, ℕ, Option, Some, List}
+use Rattle.std.proofs.Common.{◌≡◌, ◌∙◌, ◌++◌, inl, inr, refl, ap, false, ℕ, Some, List}
 use Rattle.ij_io.specs.Bytes.{Adds, AddsPart}
 use Rattle.ij_io.specs.Files.{file_at}
 use Rattle.ij_io.specs.Pieces.{HoldsPart}

@@ -1,6 +1,6 @@
 -- What is known of files that are written one after the other.
 use Rattle.std.specs.Prelude.{option_map, take}
-use Rattle.std.proofs.Common.{◌≡◌, ◌∙◌, inl, inr, refl, sym, ap, subst, ℕ, Option, Some, None, List, [], ◌∷◌, ◌++◌, length, arith}
+use Rattle.std.proofs.Common.{◌≡◌, ◌∙◌, inl, inr, refl, sym, subst, ℕ, Option, Some, None, List, [], ◌∷◌, ◌++◌}
 use Rattle.retargeter.specs.Files.{HoldsPart}
 use Rattle.ij_io.specs.Causes.{Rose}
 use Rattle.ij_io.specs.Files.{Files, file_at, OthersStay}

@@ -1,13 +1,12 @@
-use Rattle.std.proofs.Common.{◌≡◌, ◌∙◌, ap, sym, not, ℕ, Bool, List, Option, subst}
+use Rattle.std.proofs.Common.{◌≡◌, ◌∙◌, ap, sym, ℕ, List, Option, subst}
 use Rattle.ij_io.specs.Bytes.{Adds, AddsPart}
 use Rattle.ij_io.proofs.Adding.{at_refusal}
 use Rattle.merge_order.specs.BitSteps.{BitStepsOf}
 use Rattle.net_graph.specs.SeenSteps.{SeenStep}
-use Rattle.svf_audit.specs.Audit.{audit as audit_commands}
-use Rattle.svf_audit.specs.Report.{audit_text, says_no}
+use Rattle.svf_audit.specs.Report.{audit_text}
 use Rattle.svf_writer.specs.SeenCommands.{SeenCommand}
 use Rattle.ijtag_work.specs.Accepted.{SeenAccepted}
-use Rattle.ijtag_work.specs.Order.{line_of, verdict_of}
+use Rattle.ijtag_work.specs.Order.{line_of}
 use Rattle.ijtag_work.specs.Using.{seen_accepted}
 use Rattle.ijtag_core.proofs.audit.put_line.Goals as goal
 

@@ -8,7 +8,7 @@ use Rattle.ijtag_work.specs.Command.{made_names}
 use Rattle.ijtag_work.specs.Follows.{AreShort}
 use Rattle.ijtag_work.specs.Leaves.{Written}
 use Rattle.ijtag_work.specs.Order.{accepted_made, direct_texts, taken, written_as}
-use Rattle.ijtag_work.specs.Using.{AreShortTexts, seen_accepted, seen_named}
+use Rattle.ijtag_work.specs.Using.{AreShortTexts, seen_accepted}
 use Rattle.ijtag_core.specs.Files.{seen_file, text_of, texts_of}
 use Rattle.ijtag_core.specs.declared.made_files.MadeFile.{MadeFile}
 use Rattle.ijtag_core.proofs.Exits.{follows_fault}

@@ -1,6 +1,6 @@
 use Rattle.bench_report.specs.Report.{differs_of}
 use Rattle.ij_io.proofs.Adding.{at_refusal}
-use Rattle.ij_io.specs.Bytes.{Adds, AddsPart}
+use Rattle.ij_io.specs.Bytes.{AddsPart}
 use Rattle.instruments.specs.Seen.{SeenModel, seen_model}
 use Rattle.instruments.specs.declared.model.Model.{Model}
 use Rattle.merge_order.specs.BitSteps.{bit_steps}

@@ -1,4 +1,4 @@
-use Rattle.std.proofs.Common.{◌≡◌, inl, ⊎_elim, refl, sym, subst, ℕ, List, Option}
+use Rattle.std.proofs.Common.{inl, ⊎_elim, refl, sym, subst, ℕ, List, Option}
 use Rattle.ij_io.specs.Files.{Files}
 use Rattle.ijtag_work.specs.Accepted.{SeenAccepted}
 use Rattle.ijtag_work.specs.Filed.{IsPartFiled}

@@ -1,5 +1,5 @@
 use Rattle.std.specs.Prelude.{option_map}
-use Rattle.std.proofs.Common.{◌≡◌, inl, refl, sym, subst, ℕ, List, Option, Some}
+use Rattle.std.proofs.Common.{◌≡◌, inl, refl, sym, subst, ℕ, List, Some}
 use Rattle.ij_io.specs.Files.{file_at}
 use Rattle.ij_io.proofs.Adding.{at_refusal}
 use Rattle.ijtag_work.specs.Filed.{HasPlans}
