@@ -10,7 +10,7 @@ use thiserror::Error;
 #[derive(Clone, Copy, Debug, PartialEq, Eq, Error)]
 pub enum MuxFault {
     /// The test has more scans than this compiler takes.
-    #[error("the test has more than {number} scans")]
+    #[error("more than {number} scans")]
     Limit {
         /// The most that a test may have.
         number: u32,
