@@ -161,16 +161,22 @@ def chains():
 
 
 def most_scans():
-    """A multiplexer of 4096 rows, each of which is set by one scan and gone through by another but the first, and more of one row, which
-    take one scan each: 8192 scans may be, and no more."""
-    rows = ' '.join(f"12'd{k} : SI;" for k in range(4096))
+    """A multiplexer of 64 rows, each of which goes through one more of 63 rows: a row is opened by one scan and gone through by another,
+    but the first is open. Multiplexers of one row more take one scan each: 8192 scans may be, and no more."""
+
+    def mux(name, select, sources):
+        rows = ' '.join(f"6'd{k} : {source};" for k, source in enumerate(sources))
+        return (f"  ScanMux {name} SelectedBy {select} {{ {rows} }}\n"
+                f"  ScanRegister {select}[5:0] {{ ScanInSource {name}; CaptureSource {select}; ResetValue 6'b0; }}\n")
+
+    front = 'Module Net {\n  ScanInPort SI; ScanOutPort SO { Source T0; }\n  ScanInterface client { Port SI; Port SO; }\n'
+    rows = mux('m', 'S', [f'B{k}[0]' for k in range(64)]) + ''.join(mux(f'b{k}', f'B{k}', ['SI'] * 63) for k in range(64))
     for title, more, status, out, err in (
             ('Scans 8192 is taken', 1, 0, lambda text: text.endswith('\nmuxtest scans 8192 rows 4097 unseen 4097\n'), ''),
             ('more than Scans 8192', 2, 3, '', 'refused muxtest Limit Scans 8192\n')):
-        front = 'Module Net {\n  ScanInPort SI; ScanOutPort SO { Source T0; }\n  ScanInterface client { Port SI; Port SO; }\n'
-        icl = (f"{front}  ScanMux m SelectedBy S {{ {rows} }}\n  ScanRegister S[11:0] {{ ScanInSource m; CaptureSource S; ResetValue 12'b0; }}\n" + ''.join(
+        icl = front + rows + ''.join(
             f"  ScanMux n{k} SelectedBy T{k} {{ 1'b0 : {f'T{k + 1}' if k + 1 < more else 'S[0]'}; }}\n"
-            f"  ScanRegister T{k} {{ ScanInSource n{k}; CaptureSource T{k}; ResetValue 1'b0; }}\n" for k in range(more)) + '}\n' + full('<CHIP>'))
+            f"  ScanRegister T{k} {{ ScanInSource n{k}; CaptureSource T{k}; ResetValue 1'b0; }}\n" for k in range(more)) + '}\n' + full('<CHIP>')
         yield Case(
             f'muxtest: {title}', ('a.icl', icl), ('a.dev', full('<DEVICE>')),
             Run(['muxtest', 'a.icl', 'a.dev', 'chip', 'a.svf'], status, out, err, {} if status else {'a.svf': ANY}))
