@@ -39,5 +39,5 @@ returns-clause-own_text g c =
     let words : Option Command = command_in c.args.words.now.items in
     let files : Option Files = g.S.Shelf.files c.args.shelf.now in
     let k : Counts = counts g.S.Shelf.load_faults g.S.Shelf.store_faults g.O.Sink.faults c.args.shelf.now c.run_program.new.shelf c.args.out.now c.run_program.new.out in
-    own_good c.own_texts_pass.ensures words files k c.run_program.result
+    own_good c.own_texts_pass.ensures.files words files k c.run_program.result
     (subst (λ (ws : Option Command). IfTold ws files (λ command f. (leaves : Leaves) → (work (Some f) (task command)).gives leaves → (LoadRose (task command) k → ⊥) → (WriteRose (task command) k → ⊥) → IsOrMemory c.run_program.result (status_if leaves.differs))) c.read_words.ensures c.run_program.ensures.complete)
