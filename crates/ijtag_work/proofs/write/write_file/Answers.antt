@@ -1,5 +1,5 @@
 use Rattle.ij_io.proofs.Adding.{at_refusal}
-use Rattle.ijtag_work.proofs.Begun.{not_begun, begun}
+use Rattle.ijtag_work.proofs.Begun.{not_begun, begun, ended}
 use Rattle.ijtag_work.proofs.write.write_file.Goals as goal
 
 pub returns-in_err-begin-clause-part : goal.returns-in_err-begin-clause-part
