@@ -79,7 +79,7 @@ impl<'w> Effect for AuditWords<'w> {
 
     ghost needs = { λ _. record { tables = false; svf = true; pdl = true } };
 
-    ghost promise = { λ _ it differs. differs ≡ false → PlayAsMeant it };
+    ghost promise = { λ _ _ _ it differs. differs ≡ false → PlayAsMeant it };
 
     fn texts<'t>(&'t self, loaded: &'t [Vec<u8>]) -> Texts<'t> {
         let [svf, icl, pdl, device] = loaded else {

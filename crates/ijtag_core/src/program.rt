@@ -3,7 +3,7 @@ ghost use Rattle.std.specs.Prelude.{◌≡◌, Bool, List, ℕ, Option, Some, Is
 ghost use Rattle.std.specs.Bool.{OnTrue, OnFalse};
 ghost use Rattle.std.specs.Option.{option_map};
 ghost use Rattle.ij_io.specs.Bytes.{AddsPart};
-ghost use Rattle.ij_io.specs.Files.{Files};
+ghost use Rattle.ij_io.specs.Files.{Files, file_at};
 ghost use Rattle.ijtag_stages.specs.Refusals.{Refusal};
 ghost use Rattle.ijtag_work.specs.Leaves.{Leaves};
 ghost use Rattle.ijtag_work.specs.Loads.{names_of};
@@ -26,8 +26,8 @@ pub trait Command {
     /// What is loaded, written and printed, and the work on the texts that were loaded.
     ghost task: { Named → Task };
 
-    /// What is promised besides, by the files before a run, where the run ends with this verdict.
-    ghost promise: { Named → Option Files → Bool → Type 0 };
+    /// What is promised besides, by the files before a run and the contents of any file after it, where the run ends with this verdict.
+    ghost promise: { Named → Option Files → (List ℕ → Option (Option (List ℕ))) → Bool → Type 0 };
 
     /// The line that is printed where the words are no command, and its line feed.
     ghost usage_line: { List ℕ };
@@ -49,7 +49,7 @@ pub trait Command {
     ) -> Result<Verdict, Stop<'a>>
         ensures done { IfOk result (λ verdict. IsDone (work (S.files shelf.old) (task (named self.now)))
             (seen S.files O.taken shelf.old out.old) (seen S.files O.taken shelf.new out.new) (differing verdict)) }
-        ensures promise { IfOk result (λ verdict. promise (named self.now) (S.files shelf.old) (differing verdict)) }
+        ensures promise { IfOk result (λ verdict. promise (named self.now) (S.files shelf.old) (file_at (S.files shelf.new)) (differing verdict)) }
         ensures handed { OnOk result (OnTrue (task (named self.now)).prints (O.handed out.new ≡ O.taken out.new)) }
         ensures stop { IfErr result (λ stop. IsStop (S.files shelf.old) (task (named self.now))
             (counts S.load_faults S.store_faults O.faults shelf.old shelf.new out.old out.new) (seen_stop stop)) }
@@ -74,7 +74,7 @@ fn run_if_any<'a, C: Command, S: Shelf, O: Sink>(
     ensures done { IfOk result (λ verdict. IfSome (option_map C.named command.now) (λ command. IsDone (work (S.files shelf.old) (C.task command))
         (seen S.files O.taken shelf.old out.old) (seen S.files O.taken shelf.new out.new) (differing verdict))) }
     ensures some { OnOk result (IsSome (option_map C.named command.now)) }
-    ensures promise { IfOk result (λ verdict. IfSome (option_map C.named command.now) (λ command. C.promise command (S.files shelf.old) (differing verdict))) }
+    ensures promise { IfOk result (λ verdict. IfSome (option_map C.named command.now) (λ command. C.promise command (S.files shelf.old) (file_at (S.files shelf.new)) (differing verdict))) }
     ensures handed { OnOk result (OnTrue (prints_in C.task (option_map C.named command.now)) (O.handed out.new ≡ O.taken out.new)) }
     ensures stop { IfErr result (λ stop. IsRunStop C.task (option_map C.named command.now) (S.files shelf.old)
         (counts S.load_faults S.store_faults O.faults shelf.old shelf.new out.old out.new) (seen_stop stop)) }
@@ -105,7 +105,7 @@ pub fn run_program<C: Command, S: Shelf, O: Sink, E: Sink>(
     err: &mut E,
 ) -> Status
     ensures promise { (differs : Bool) → result ≡ status_if differs
-        → IfSome (option_map C.named command.now) (λ command. C.promise command (S.files shelf.old) differs) }
+        → IfSome (option_map C.named command.now) (λ command. C.promise command (S.files shelf.old) (file_at (S.files shelf.new)) differs) }
     ensures done { (differs : Bool) → result ≡ status_if differs
         → IfSome (option_map C.named command.now) (λ command. IsDone (work (S.files shelf.old) (C.task command))
         (seen S.files O.taken shelf.old out.old)

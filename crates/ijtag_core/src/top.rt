@@ -67,10 +67,10 @@ pub fn ijtag<S: Shelf, O: Sink, E: Sink>(
         IfAudits command (λ audit. IsOwnText files audit → ¬ LoadRose (task command) c
         → ¬ WriteRose (task command) c → IsOrMemory result Status.Good)) }
 
-    // What the text of a mux test does: played, nothing differs and no instrument has an event; and with a multiplexer stuck in a row
-    // that it sees, a compare differs.
+    // What the SVF file of a mux test does: it holds the text of the accepted network's test. Played, nothing differs and no instrument
+    // has an event; and with a multiplexer stuck in a row that it sees, a compare differs.
     ensures tested { result ≡ Status.Good → IfSome (command_in words.now.items) (λ command.
-        IfTests command (IsTested (S.files shelf.old))) }
+        IfTests command (λ m. IsTested (S.files shelf.old) (file_at (S.files shelf.new) m.svf) m)) }
 
     // Where all of the command's work is done, and all that was printed is handed on; and what is accepted is done where no fault is
     // counted.

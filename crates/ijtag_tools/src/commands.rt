@@ -18,7 +18,7 @@ impl<'w> Command for ToolWords<'w> {
 
     ghost task = { task_named };
 
-    ghost promise = { λ _ _ _. Unit {0} };
+    ghost promise = { λ _ _ _ _. Unit {0} };
 
     ghost usage_line = { usage_line };
 

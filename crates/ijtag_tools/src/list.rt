@@ -35,7 +35,7 @@ impl<'w> Effect for ListWords<'w> {
 
     ghost needs = { λ _. record { tables = false; svf = false; pdl = false } };
 
-    ghost promise = { λ _ _ _. Unit {0} };
+    ghost promise = { λ _ _ _ _ _. Unit {0} };
 
     fn texts<'t>(&'t self, loaded: &'t [Vec<u8>]) -> Texts<'t> {
         let [icl, device] = loaded else {

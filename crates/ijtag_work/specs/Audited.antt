@@ -55,13 +55,14 @@ WrittenTextsPass =
     (it : SeenAccepted) (bytes : List ℕ) (commands : List SeenCommand) → (written_text it).gives bytes → svf bytes ≡ Ok commands
     → says_no (audit_commands it.network.net it.device it.steps commands) ≡ false
 
--- what is promised of a command that ends with this verdict: of an audit without a difference, that what it audits is so
-abbrev pub IsPromised : Command → Option Files → Bool → Type 0
-IsPromised (Audits a) files differs = differs ≡ false → IsAudited files a
-IsPromised (Compiles c) files differs = Unit {0}
-IsPromised (Plays p) files differs = Unit {0}
-IsPromised (Directs d) files differs = Unit {0}
-IsPromised (Runs r) files differs = Unit {0}
-IsPromised (Makes m) files differs = Unit {0}
-IsPromised (Migrates m) files differs = Unit {0}
-IsPromised (MuxTests m) files differs = IsTested files m
+-- what is promised of a command that ends with this verdict, by the files before it and the contents of any file after it: of an audit
+-- without a difference, that what it audits is so, and of a mux test, that its SVF file is the test of what was accepted
+abbrev pub IsPromised : Command → Option Files → (List ℕ → Option (Option (List ℕ))) → Bool → Type 0
+IsPromised (Audits a) files file differs = differs ≡ false → IsAudited files a
+IsPromised (Compiles c) files file differs = Unit {0}
+IsPromised (Plays p) files file differs = Unit {0}
+IsPromised (Directs d) files file differs = Unit {0}
+IsPromised (Runs r) files file differs = Unit {0}
+IsPromised (Makes m) files file differs = Unit {0}
+IsPromised (Migrates m) files file differs = Unit {0}
+IsPromised (MuxTests m) files file differs = IsTested files (file m.svf) m

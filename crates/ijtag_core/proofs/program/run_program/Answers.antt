@@ -1,6 +1,7 @@
 use Rattle.std.specs.Option.{option_map}
 use Rattle.std.specs.Prelude.{IfSome}
 use Rattle.std.proofs.Common.{Bool}
+use Rattle.ij_io.specs.Files.{file_at}
 use Rattle.ijtag_work.specs.Task.{work}
 use Rattle.ijtag_work.specs.Runs.{IsDone, Tells, counts, seen}
 use Rattle.ijtag_work.specs.Seen.{seen_stop, differing}
@@ -39,7 +40,7 @@ returns-in-Ok-clause-done g c =
 
 pub returns-in-Ok-clause-promise : goal.returns-in-Ok-clause-promise
 returns-in-Ok-clause-promise g c =
-    with_verdict (λ (differs : Bool). IfSome (option_map g.C.Command.named c.args.command.now) (λ command. g.C.Command.promise command (g.S.Shelf.files c.args.shelf.now) differs))
+    with_verdict (λ (differs : Bool). IfSome (option_map g.C.Command.named c.args.command.now) (λ command. g.C.Command.promise command (g.S.Shelf.files c.args.shelf.now) (file_at (g.S.Shelf.files c.run_if_any.new.shelf)) differs))
     (differing c.in-Ok.verdict) c.status.result c.in-Ok.ensures.promise c.status.ensures
 
 pub returns-in-Err-clause-write_fault : goal.returns-in-Err-clause-write_fault
