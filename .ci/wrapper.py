@@ -1,7 +1,7 @@
 #!/usr/bin/env python3
 """Tries ./ijtag with a stand-in for the kit's rt, whose build takes a second: wrapper.py, run at the top of a checkout.
 
-Two calls at once, a touch, a copy, a copy that can't be written, a source that doesn't build, an interrupted build, no kit, and the
+Two calls at once, signals, a touch, a copy, a copy that can't be written, a source that doesn't build, an interrupted build, no kit, and the
 unproved program. Nothing is proved, and the checkout stays as it is."""
 import os
 import pathlib
@@ -90,6 +90,14 @@ with tempfile.TemporaryDirectory() as made:
     check('the kit is beside the program', (top / 'out' / 'kit').read_text(), 'stand-in\n')
     check('the second program is built by its first call', (call(top, program='ijtag-tools')[:2], builds()), (ran[:2], 1))
     check('and not once more', (call(top, program='ijtag-tools'), call(top), builds()), (ran, ran, 0))
+
+    # what the program is handed: a write past `ulimit -f` fails, and no signal ends it
+    program = top / 'out' / 'ijtag'
+    kept = program.read_bytes()
+    program.write_text('#!/usr/bin/env bash\ngrep SigIgn /proc/$$/status\n')
+    ignored = int(call(top)[1].split()[1], 16)
+    check('no signal where a file grows past the limit', ignored >> (signal.SIGXFSZ - 1) & 1, 1)
+    program.write_bytes(kept)
 
     source.touch()
     check('a touch', call(top), ran)

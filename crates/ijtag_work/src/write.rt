@@ -17,5 +17,6 @@ pub fn write_file<S: Shelf>(name: &str, bytes: &[u8], shelf: &mut S) -> Result<(
 {
     shelf.begin(name)?;
     shelf.append(name, bytes)?;
-    shelf.finish(name)
+    shelf.finish(name)?;
+    Ok(())
 }
