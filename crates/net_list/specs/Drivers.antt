@@ -22,9 +22,12 @@ index_of net b =
     let t = thing_of net b.reg in
     index_between (get_or (map (λ thing. thing.left) net.things.items) t 0) (get_or (map (λ thing. thing.right) net.things.items) t 0) b.pos
 
--- a bit: its register, and its index in brackets (91, 93)
+-- a bit: its register, and its index after a bracket (91), and in brackets (93)
+abbrev pub open_name : Net → BitId → List ℕ
+open_name net b = register_path net b.reg ++ (91 ∷ [] ++ decimal (index_of net b))
+
 abbrev pub bit_name : Net → BitId → List ℕ
-bit_name net b = register_path net b.reg ++ 91 ∷ (decimal (index_of net b) ++ 93 ∷ [])
+bit_name net b = open_name net b ++ 93 ∷ []
 
 -- whether a signal stands in a register at the left of another
 abbrev pub is_left_of : Sig → Sig → Bool
@@ -52,12 +55,12 @@ abbrev pub run_start : Net → Sig → List ℕ
 run_start net Absent = codes "-"
 run_start net Zero = codes "0"
 run_start net One = codes "1"
-run_start net (Bit b v) = cond v (codes "~") [] ++ (register_path net b.reg ++ 91 ∷ decimal (index_of net b))
+run_start net (Bit b v) = cond v (codes "~") [] ++ open_name net b
 run_start net (Out i p q v) = codes "-"
 
--- the right index of a run that has more than one bit, after a colon (58), and a bracket
+-- the right index of a run that has more than one bit, after a colon, and a bracket
 abbrev pub last_index : Net → BitId → Bool → List ℕ
-last_index net b more = cond more (58 ∷ (decimal (index_of net b) ++ 93 ∷ [])) (93 ∷ [])
+last_index net b more = cond more (codes ":" ++ (decimal (index_of net b) ++ codes "]")) (codes "]")
 
 -- the end of a run
 abbrev pub run_end : Net → Bool → Sig → List ℕ
@@ -67,12 +70,12 @@ run_end net more One = []
 run_end net more (Bit b v) = last_index net b more
 run_end net more (Out i p q v) = []
 
--- one position of so many bits; runs have commas (44) between
+-- one position of so many bits; runs have commas between
 abbrev pub driver : Net → List Sig → ℕ → List ℕ
 driver net bits p =
     let s = get_or bits p Absent in
     let more = goes_on bits p in
-    cond more [] (cond (suc p == length bits) [] (44 ∷ []) ++ run_start net s) ++ cond (is_followed bits p) [] (run_end net more s)
+    cond more [] (cond (suc p == length bits) [] (codes ",") ++ run_start net s) ++ cond (is_followed bits p) [] (run_end net more s)
 
 -- the lowest n positions, the highest first
 abbrev pub drivers : Net → List Sig → ℕ → List ℕ

@@ -1,8 +1,8 @@
 // What drives the inputs of instruments.
-ghost use Rattle.std.specs.Prelude.{◌≡◌, ◌<◌, ◌≤◌, ◌++◌, ◌∷◌, [], cond, get_or, length, true, All, OnOk, OnErr};
+ghost use Rattle.std.specs.Prelude.{◌≡◌, ◌<◌, ◌≤◌, ◌++◌, [], codes, cond, length, All, OnOk, OnErr};
 ghost use Rattle.ij_io.specs.Bytes.{Adds, AddsPart};
 ghost use Rattle.ij_io.specs.Causes.{HasCause};
-ghost use Rattle.net_graph.specs.Named.{IsSignalOf, IsInputOf};
+ghost use Rattle.net_graph.specs.Named.{IsInputOf};
 ghost use Rattle.net_graph.specs.Nets.{IsNet};
 ghost use Rattle.net_graph.specs.declared.net.Sig.TheVariants as sig;
 ghost use Rattle.net_list.specs.Drivers as drivers;
@@ -46,6 +46,20 @@ fn is_followed(bits: &[Sig], pos: usize) -> bool
     pos > 0 && goes_on(bits, pos - 1)
 }
 
+/// A tilde, for a signal that is a bit's inverse.
+fn tilde_if(inverted: bool) -> &'static [u8]
+    ensures { result.now ≡ cond inverted (codes "~") [] }
+{
+    if inverted { b"~" } else { b"" }
+}
+
+/// A comma, for a run that isn't the first.
+fn comma_unless(first: bool) -> &'static [u8]
+    ensures { result.now ≡ cond first [] (codes ",") }
+{
+    if first { b"" } else { b"," }
+}
+
 /// Writes the beginning of a run at a register bit.
 fn put_bit_start<K: Sink>(
     net: &Net,
@@ -59,7 +73,7 @@ fn put_bit_start<K: Sink>(
     ensures part { OnErr result (AddsPart (K.taken k.old) (K.taken k.new) (drivers.run_start net.now (sig.Bit bit inverted))) }
     ensures cause { HasCause (K.faults k.old) (K.faults k.new) result StoreFault.Failed }
 {
-    k.write(if inverted { b"~" } else { b"" })?;
+    k.write(tilde_if(inverted))?;
     put_open_name(net, bit, k)?;
     Ok(())
 }
@@ -80,8 +94,20 @@ fn put_run_start<K: Sink>(net: &Net, signal: Sig, k: &mut K) -> Result<(), Store
     }
 }
 
-/// Writes what a position begins with: a run, after a comma where another run came before it, or nothing where it goes on
-/// with one.
+/// Writes the beginning of a run, after a comma unless it is the first.
+fn put_run<K: Sink>(net: &Net, first: bool, signal: Sig, k: &mut K) -> Result<(), StoreFault>
+    requires well_formed { IsNet net.now }
+    requires there { IsInputOf net.now signal }
+    ensures whole { OnOk result (Adds (K.taken k.old) (K.taken k.new) (cond first [] (codes ",") ++ drivers.run_start net.now signal)) }
+    ensures part { OnErr result (AddsPart (K.taken k.old) (K.taken k.new) (cond first [] (codes ",") ++ drivers.run_start net.now signal)) }
+    ensures cause { HasCause (K.faults k.old) (K.faults k.new) result StoreFault.Failed }
+{
+    k.write(comma_unless(first))?;
+    put_run_start(net, signal, k)?;
+    Ok(())
+}
+
+/// Writes what a position begins with: a run, or nothing where it goes on with one.
 fn put_start<K: Sink>(
     net: &Net,
     goes_on: bool,
@@ -91,19 +117,19 @@ fn put_start<K: Sink>(
 ) -> Result<(), StoreFault>
     requires well_formed { IsNet net.now }
     requires there { IsInputOf net.now signal }
-    ensures whole { OnOk result (Adds (K.taken k.old) (K.taken k.new) (cond goes_on [] (cond first [] (44 ∷ []) ++ drivers.run_start net.now signal))) }
-    ensures part { OnErr result (AddsPart (K.taken k.old) (K.taken k.new) (cond goes_on [] (cond first [] (44 ∷ []) ++ drivers.run_start net.now signal))) }
+    ensures whole { OnOk result (Adds (K.taken k.old) (K.taken k.new) (cond goes_on [] (cond first [] (codes ",") ++ drivers.run_start net.now signal))) }
+    ensures part { OnErr result (AddsPart (K.taken k.old) (K.taken k.new) (cond goes_on [] (cond first [] (codes ",") ++ drivers.run_start net.now signal))) }
     ensures cause { HasCause (K.faults k.old) (K.faults k.new) result StoreFault.Failed }
 {
     if goes_on {
-        return k.write(b"");
+        k.write(b"")
+    } else {
+        put_run(net, first, signal, k)
     }
-    k.write(if first { b"" } else { b"," })?;
-    put_run_start(net, signal, k)?;
-    Ok(())
 }
 
 /// Writes the right index of a run, if it has more than one bit, and a bracket.
+#[tactic(auto, unfolding(ij_io::specs::Words::words_text))]
 fn put_index<K: Sink>(net: &Net, bit: BitId, more: bool, k: &mut K) -> Result<(), StoreFault>
     requires well_formed { IsNet net.now }
     requires there { bit.reg < length net.now.regs.items }
@@ -111,14 +137,15 @@ fn put_index<K: Sink>(net: &Net, bit: BitId, more: bool, k: &mut K) -> Result<()
     ensures part { OnErr result (AddsPart (K.taken k.old) (K.taken k.new) (drivers.last_index net.now bit more)) }
     ensures cause { HasCause (K.faults k.old) (K.faults k.new) result StoreFault.Failed }
 {
-    if !more {
-        return k.write(b"]");
+    if more {
+        let index = index_of(net, bit);
+        put_words(
+            k,
+            &[Word::Text(b":"), Word::Number(index), Word::Text(b"]")],
+        )
+    } else {
+        k.write(b"]")
     }
-    let index = index_of(net, bit);
-    put_words(
-        k,
-        &[Word::Text(b":"), Word::Number(index), Word::Text(b"]")],
-    )
 }
 
 /// Writes the end of a run, which has more than one bit or one.

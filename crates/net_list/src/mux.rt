@@ -1,20 +1,16 @@
 // The lines of multiplexers.
-ghost use Rattle.std.specs.Prelude.{◌≡◌, ◌<◌, ◌≤◌, ◌++◌, ◌∷◌, [], codes, length, All, OnOk, OnErr};
+ghost use Rattle.std.specs.Prelude.{◌≡◌, ◌<◌, ◌≤◌, ◌++◌, [], codes, length, All, OnOk, OnErr};
 ghost use Rattle.ij_io.specs.Bytes.{Adds, AddsPart};
 ghost use Rattle.ij_io.specs.Causes.{HasCause};
 ghost use Rattle.net_graph.specs.Nets.{IsNet};
-ghost use Rattle.net_graph.specs.Named.{IsBitOf};
-ghost use Rattle.net_graph.specs.Path.{rows_of};
 ghost use Rattle.net_graph.specs.PathNames.{mux_path};
-ghost use Rattle.net_graph.specs.declared.net.Point.TheVariants as point;
-ghost use Rattle.net_tree.specs.Lawful.{selects_of};
 ghost use Rattle.net_list.specs.Drivers as drivers;
 ghost use Rattle.net_list.specs.Forms as forms;
 ghost use Rattle.net_list.specs.Lines as lines;
 ghost use Rattle.net_list.specs.Listing.{lines_from};
 
 use crate::format::{ListFormat, either, put_count, put_either};
-use crate::names::put_open_name;
+use crate::names::put_bit_name;
 use crate::values::put_values;
 use ij_io::{Sink, StoreFault};
 use net_graph::{BitId, Net, Row};
@@ -30,15 +26,14 @@ fn put_bit<K: Sink>(
     k: &mut K,
 ) -> Result<(), StoreFault>
     requires well_formed { IsNet net.now }
-    requires there { IsBitOf net.now bit }
+    requires there { bit.reg < length net.now.regs.items }
     ensures whole { OnOk result (Adds (K.taken k.old) (K.taken k.new) (before.now ++ lines.quoted format (drivers.bit_name net.now bit))) }
     ensures part { OnErr result (AddsPart (K.taken k.old) (K.taken k.new) (before.now ++ lines.quoted format (drivers.bit_name net.now bit))) }
     ensures cause { HasCause (K.faults k.old) (K.faults k.new) result StoreFault.Failed }
 {
     k.write(before)?;
     put_either(format, b"", b"\"", k)?;
-    put_open_name(net, bit, k)?;
-    k.write(b"]")?;
+    put_bit_name(net, bit, k)?;
     put_either(format, b"", b"\"", k)?;
     Ok(())
 }
@@ -51,7 +46,7 @@ fn put_select_bits<K: Sink>(
     k: &mut K,
 ) -> Result<(), StoreFault>
     requires well_formed { IsNet net.now }
-    requires there { All (IsBitOf net.now) bits.now }
+    requires there { All (λ b. b.reg < length net.now.regs.items) bits.now }
     ensures whole { OnOk result (Adds (K.taken k.old) (K.taken k.new) (lines.select_bits format net.now [] bits.now (length bits.now))) }
     ensures part { OnErr result (AddsPart (K.taken k.old) (K.taken k.new) (lines.select_bits format net.now [] bits.now (length bits.now))) }
     ensures cause { HasCause (K.faults k.old) (K.faults k.new) result StoreFault.Failed }

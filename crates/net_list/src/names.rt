@@ -1,5 +1,5 @@
 // The names of registers, of their bits and of muxes.
-ghost use Rattle.std.specs.Prelude.{◌≡◌, ◌<◌, ◌++◌, ◌∷◌, [], decimal, get_or, length, map, OnOk, OnErr};
+ghost use Rattle.std.specs.Prelude.{◌≡◌, ◌<◌, ◌++◌, get_or, length, map, OnOk, OnErr};
 ghost use Rattle.ij_io.specs.Bytes.{Adds, AddsPart};
 ghost use Rattle.ij_io.specs.Causes.{HasCause};
 ghost use Rattle.net_graph.specs.Named as named;
@@ -76,14 +76,27 @@ pub(crate) fn put_register_path<K: Sink>(net: &Net, reg: u32, k: &mut K) -> Resu
 pub(crate) fn put_open_name<K: Sink>(net: &Net, bit: BitId, k: &mut K) -> Result<(), StoreFault>
     requires well_formed { IsNet net.now }
     requires there { bit.reg < length net.now.regs.items }
-    ensures whole { OnOk result (Adds (K.taken k.old) (K.taken k.new) (drivers.register_path net.now bit.reg ++ 91 ∷ decimal (drivers.index_of net.now bit))) }
-    ensures part { OnErr result (AddsPart (K.taken k.old) (K.taken k.new) (drivers.register_path net.now bit.reg ++ 91 ∷ decimal (drivers.index_of net.now bit))) }
+    ensures whole { OnOk result (Adds (K.taken k.old) (K.taken k.new) (drivers.open_name net.now bit)) }
+    ensures part { OnErr result (AddsPart (K.taken k.old) (K.taken k.new) (drivers.open_name net.now bit)) }
     ensures cause { HasCause (K.faults k.old) (K.faults k.new) result StoreFault.Failed }
 {
     let index = index_of(net, bit);
     put_register_path(net, bit.reg, k)?;
     k.write(b"[")?;
     put_decimal(index, k)?;
+    Ok(())
+}
+
+/// Writes the path of a register and the index of a bit in brackets.
+pub(crate) fn put_bit_name<K: Sink>(net: &Net, bit: BitId, k: &mut K) -> Result<(), StoreFault>
+    requires well_formed { IsNet net.now }
+    requires there { bit.reg < length net.now.regs.items }
+    ensures whole { OnOk result (Adds (K.taken k.old) (K.taken k.new) (drivers.bit_name net.now bit)) }
+    ensures part { OnErr result (AddsPart (K.taken k.old) (K.taken k.new) (drivers.bit_name net.now bit)) }
+    ensures cause { HasCause (K.faults k.old) (K.faults k.new) result StoreFault.Failed }
+{
+    put_open_name(net, bit, k)?;
+    k.write(b"]")?;
     Ok(())
 }
 

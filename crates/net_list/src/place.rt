@@ -24,6 +24,16 @@ fn values_of(net: &Net, branch: Branch) -> &[Tern]
     mux.rows.get(branch.row as usize).values.as_slice()
 }
 
+/// Writes the select values of a row.
+fn put_row_values<K: Sink>(net: &Net, branch: Branch, k: &mut K) -> Result<(), StoreFault>
+    requires { IsBranchOf net.now branch }
+    ensures whole { OnOk result (Adds (K.taken k.old) (K.taken k.new) (forms.values_text (values_of net.now branch))) }
+    ensures part { OnErr result (AddsPart (K.taken k.old) (K.taken k.new) (forms.values_text (values_of net.now branch))) }
+    ensures cause { HasCause (K.faults k.old) (K.faults k.new) result StoreFault.Failed }
+{
+    put_values(values_of(net, branch), k)
+}
+
 /// Writes the mux of a row and its select values.
 fn put_row<K: Sink>(
     format: ListFormat,
@@ -37,11 +47,10 @@ fn put_row<K: Sink>(
     ensures part { OnErr result (AddsPart (K.taken k.old) (K.taken k.new) (lines.branch_text format net.now branch)) }
     ensures cause { HasCause (K.faults k.old) (K.faults k.new) result StoreFault.Failed }
 {
-    let values = values_of(net, branch);
     put_either(format, b"", b"[\"", k)?;
     put_mux_path(net, branch.mux, k)?;
     put_either(format, b"=", b"\",\"", k)?;
-    put_values(values, k)?;
+    put_row_values(net, branch, k)?;
     put_either(format, b"", b"\"]", k)?;
     Ok(())
 }
