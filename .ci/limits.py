@@ -5,6 +5,7 @@
 """
 import os
 import pathlib
+import resource
 import subprocess
 import sys
 import tempfile
@@ -94,6 +95,20 @@ with tempfile.TemporaryDirectory() as folder:
     opened = [int(line.split('TDI (')[1].split(')')[0], 16) >> 1 for line in scans[1::2]]
     check('the rows that they open', opened, order[1:])
 
+    # the mux test of one multiplexer with as many rows as 12 bits select, all from scan-in: each row but the first takes two scans, none
+    # changes the path, and rows are judged so often that a search for each of them would take minutes
+    rows = 4096
+    icl.write_text('Module Rows {\n  ScanInPort SI;\n  ScanOutPort SO { Source S[0]; }\n  ScanInterface client { Port SI; Port SO; }\n'
+                   '  ScanMux M SelectedBy S {\n' + ''.join(f'    12\'d{i} : SI;\n' for i in range(rows)) + '  }\n'
+                   '  ScanRegister S[11:0] { ScanInSource M; CaptureSource S; ResetValue 12\'b0; }\n}\n'
+                   'Module chip {\n  Instance net Of Rows;\n  AccessLink tap Of STD_1149_1_2001 {\n'
+                   '    BSDLEntity chip; IJTAG { ScanInterface { net.client; } }\n  }\n}\n')
+    before = resource.getrusage(resource.RUSAGE_CHILDREN).ru_utime
+    status, out, err = run(['muxtest', icl, FLAT / 'chip.dev', 'chip', folder / 'rows.svf'])
+    check(f'the mux test of {rows} rows', (status, out.count(b'\n'), out.split(b'\n')[-2], err),
+          (0, rows + 1, f'muxtest scans {2 * rows - 1} rows {rows} unseen {rows}'.encode(), b''))
+    check('its processor seconds are few', resource.getrusage(resource.RUSAGE_CHILDREN).ru_utime - before < 20, True)
+
     # a device that takes nothing, and one that was closed
     check('SVF on a full device', compile_to('/dev/full'), (5, b'', b'write fault /dev/full\n'))
     # of each command that prints: its output is flushed before the status is decided
@@ -110,6 +125,42 @@ with tempfile.TemporaryDirectory() as folder:
         os.close(reader)
         check(f'{name} on a closed pipe', run([name, *words], writer)[::2], (5, b'write fault output\n'))
         os.close(writer)
+
+    # an SVF text of two pieces: into a pipe with a name, whose reader sees one writer throughout
+    made = folder / 'long'
+    check('a long SVF text', run(['make', '7', '64', made])[::2], (0, b''))
+    long = made.with_suffix('.svf').read_bytes()
+    check('it has more than one piece', len(long) > 65_536, True)
+    words = ['compile', *(made.with_suffix(f'.{kind}') for kind in ('icl', 'pdl', 'dev')), 'chip', 'p']
+    pipe = folder / 'pipe'
+    os.mkfifo(pipe)
+    with subprocess.Popen(['cat', pipe], stdout=subprocess.PIPE) as reader:
+        writer = subprocess.Popen([program, *map(str, words), pipe], stderr=subprocess.PIPE)
+        try:
+            got = reader.communicate(timeout=600)[0]
+            check('an SVF text in a pipe with a name', (writer.wait(timeout=600), writer.stderr.read(), got == long), (0, b'', True))
+        except subprocess.TimeoutExpired:
+            reader.kill(), writer.kill()
+            failed.append('an SVF text in a pipe with a name: it hangs')
+
+    # a limit on the size of files, as `ulimit -f` sets it and as ./ijtag hands it on: the second piece is cut
+    svf = folder / 'cut.svf'
+    at = 70_000
+    done = subprocess.run([program, *map(str, words), svf], stderr=subprocess.PIPE, restore_signals=False,
+                          preexec_fn=lambda: resource.setrlimit(resource.RLIMIT_FSIZE, (at, at)))
+    check('SVF above a limit on files', (done.returncode, done.stderr), (5, f'write fault {svf}\n'.encode()))
+    check('what it leaves', svf.read_bytes() == long[:at], True)
+
+    # pairs of compiles at once to one file: of equal texts, one whole text stands wherever both end well
+    for number in range(200):
+        svf = folder / f'pair{number % 2}.svf'
+        words = ['compile', FLAT / 'chip.icl', FLAT / 'chip.pdl', FLAT / 'chip.dev', 'chip', 'p', svf]
+        pair = [subprocess.Popen([program, *map(str, words)]) for _ in range(2)]
+        ended = [it.wait() for it in pair]
+        if ended != [0, 0] or svf.read_bytes() != text:
+            check(f'pair {number} of compiles to one file', (ended, svf.read_bytes()), ([0, 0], text))
+            break
+    check('pairs of compiles to one file', number, 199)
 
     # a long report is handed to the operating system in pieces of 8 KiB: in such a pipe each write stands apart, in packets
     # of at most 4,096 bytes

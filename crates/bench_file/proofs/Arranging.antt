@@ -1,6 +1,6 @@
 -- Models in the order of their instruments are well formed.
 use Rattle.std.proofs.Common.{◌≡◌, ◌≢◌, ℕ, zero, suc, ◌+◌, ◌-◌, ◌<◌, Bool, true, false, cond, List, [], ◌∷◌, ◌++◌, length, map, Option, Some, None, All, get_or, refl, ap, sym, ◌∙◌, subst, arith}
-use Rattle.std.specs.Prelude.{◌==◌, ◌||◌, Contains, IfSome, IfOk, unwrap_or, Result, Ok, Err}
+use Rattle.std.specs.Prelude.{◌==◌, ◌||◌, Contains, IfSome, IfOk, unwrap_or, Result, Ok, Err, codes, decimal}
 use Rattle.std.specs.List.{list_all}
 use Rattle.std.specs.Str.{bytes_eq}
 use Rattle.std.proofs.lemmas.Bool.{eqb-true, and_parts}
@@ -29,7 +29,8 @@ use Rattle.table_file.specs.declared.table.Table.{Table}
 use Rattle.table_file.specs.Tables.{SeenTable, seen_table, named, same_path}
 use Rattle.bench_file.specs.declared.fault.FitsFault.{FitsFault}
 use Rattle.bench_file.specs.declared.fault.FitsFault.TheVariants.{PortWidth}
-use Rattle.bench_file.specs.Fits.{in_port, out_port, in_ports, out_ports, model_out_port, model_out_ports, same_port, among, same_ports, has_ports, ModelFits, EachFits, ModelsFit, input_names, moved, operand_moved, cond_moved, slot_moved, amount_moved, set_moved, row_moved, no_out, out_named, arranged, table_named, inst_path, in_front, one_model, models_from, unless, missing, extra, fitted, misfit, FittedModelsFit}
+use Rattle.bench_file.specs.Fits.{in_port, out_port, in_ports, out_ports, model_out_port, model_out_ports, same_port, among, same_ports, has_ports, ModelFits, EachFits, ModelsFit, input_names, moved, operand_moved, cond_moved, slot_moved, amount_moved, set_moved, row_moved, no_out, out_named, arranged, table_named, inst_path, in_front, one_model, models_from, unless, missing, extra, fitted, misfit, FittedModelsFit, RowsSayTheSame}
+use Rattle.bench_file.specs.Written.{line, parted, memory_name, operand_text, entry_text, compared_text, cond_text, slot_text, amount_text, set_text, when_text, row_text}
 use Rattle.bench_file.proofs.Modelling.{no_misfit}
 use Rattle.bench_file.proofs.Places.{IsAt, place, second_apart, not_both}
 use Rattle.ij_bits.proofs.Contained.{all_contained, map_in}
@@ -110,19 +111,23 @@ module _ (net : Net) (inst : Inst) (m : SeenModel) (is : IsInst net inst) (model
   record IsMoved (k : ℕ) : Type 0 where
     within : moved Q P k < length P
     width : get_or (map (λ d. d.width) P) (moved Q P k) 0 ≡ get_or (map (λ d. d.width) Q) k 0
+    name : get_or (input_names P) (moved Q P k) [] ≡ get_or (input_names Q) k []
 
   port_moved : (k : ℕ) → k < length Q → IsMoved k
   port_moved k lt =
       let q = get_or Q k no_port in
       let there : IsAt (λ (p : SeenPort). p.name) P q = place (λ (p : SeenPort). p.name) P q names_apart (old_in_new q (Contains-get_or Q k no_port lt)) in
-      let name : get_or (input_names Q) k [] ≡ q.name = get_or-map (λ (p : SeenPort). p.name) Q k no_port [] lt in
-      let number : moved Q P k ≡ unwrap_or (named q.name (input_names P)) 0 = ap (λ (n : List ℕ). unwrap_or (named n (input_names P)) 0) name in
+      let called : get_or (input_names Q) k [] ≡ q.name = get_or-map (λ (p : SeenPort). p.name) Q k no_port [] lt in
+      let number : moved Q P k ≡ unwrap_or (named q.name (input_names P)) 0 = ap (λ (n : List ℕ). unwrap_or (named n (input_names P)) 0) called in
       let within : moved Q P k < length P = omega (arith, number, there.within) in
       record {
         within = within;
         width = get_or-map (λ (p : SeenPort). p.width) P (moved Q P k) no_port 0 within
             ∙ ap (λ (p : SeenPort). p.width) (ap (λ i. get_or P i no_port) number ∙ there.at no_port)
             ∙ sym (get_or-map (λ (p : SeenPort). p.width) Q k no_port 0 lt);
+        name = get_or-map (λ (p : SeenPort). p.name) P (moved Q P k) no_port [] within
+            ∙ ap (λ (p : SeenPort). p.name) (ap (λ i. get_or P i no_port) number ∙ there.at no_port)
+            ∙ sym called;
       }
 
   operand : (o : Operand) → IsOperand m o → IsOperand new (operand_moved Q P o)
@@ -216,6 +221,53 @@ module _ (net : Net) (inst : Inst) (m : SeenModel) (is : IsInst net inst) (model
 
   one_run : (r : SeenRow) → IsRunRow r → IsRunRow (row_moved Q P r)
   one_run r h = all_moved (λ (c : Cond). IsPresent c.of) (λ (c : Cond). IsPresent c.of) (cond_moved Q P) (λ c k. present c.of k) r.conds h
+
+  -- ---- what rows say
+
+  operand_says : (o : Operand) → IsOperand m o → operand_text new (operand_moved Q P o) ≡ operand_text m o
+  operand_says (Word k) h = refl
+  operand_says (Input k) h = (port_moved k h).name
+  operand_says (Old k) h = ap (λ (t : List ℕ). codes "old " ++ t) (port_moved k h).name
+
+  cond_says : (c : Cond) → IsCond m c → cond_text new (cond_moved Q P c) ≡ cond_text m c
+  cond_says c h =
+      ap (λ (t : List ℕ). t ++ (codes " = " ++ compared_text (operand_width new (operand_moved Q P c.of)) c.value c.care)) (operand_says c.of h.of)
+      ∙ ap (λ (w : ℕ). operand_text m c.of ++ (codes " = " ++ compared_text w c.value c.care)) (width c.of h.of)
+
+  entry_says : (o : Operand) → IsIndex m o → entry_text new (operand_moved Q P o) ≡ entry_text m o
+  entry_says o h = ap (λ (t : List ℕ). memory_name m.memory ++ (codes "[" ++ (t ++ codes "]"))) (operand_says o h.there)
+
+  slot_says : (s : Slot) → IsSlot m s → slot_text new (slot_moved Q P s) ≡ slot_text m s
+  slot_says (TheWord k) h = refl
+  slot_says (TheEntry o) h = entry_says o h
+
+  amount_says : (w : ℕ) (a : Amount) → IsAmount m w a → amount_text new (amount_moved Q P a) ≡ amount_text m a
+  amount_says w (Number n) h = refl
+  amount_says w (Copy o) h = operand_says o h.there
+  amount_says w (Plus o n) h = ap (λ (t : List ℕ). t ++ (codes " + " ++ decimal n)) (operand_says o h.0.there)
+  amount_says w (Minus o n) h = ap (λ (t : List ℕ). t ++ (codes " - " ++ decimal n)) (operand_says o h.0.there)
+  amount_says w (Entry o) h = entry_says o h.0
+
+  set_says : (x : Set) → IsSet m x → set_text new (set_moved Q P x) ≡ set_text m x
+  set_says x h =
+      ap (λ (t : List ℕ). t ++ (codes " = " ++ amount_text new (amount_moved Q P x.amount))) (slot_says x.slot h.slot)
+      ∙ ap (λ (t : List ℕ). slot_text m x.slot ++ (codes " = " ++ t)) (amount_says (width_of m x.slot) x.amount h.amount)
+
+  all_say : {A : Type 0} (R : A → Type 0) (move : A → A) (f g : A → List ℕ) → ((a : A) → R a → f (move a) ≡ g a) → (xs : List A) → All R xs → map f (map move xs) ≡ map g xs
+  all_say R move f g h [] all = refl
+  all_say R move f g h (x ∷ xs) all =
+      ap (λ (t : List ℕ). t ∷ map f (map move xs)) (h x (All-head R x xs all))
+      ∙ ap (λ (ts : List (List ℕ)). g x ∷ ts) (all_say R move f g h xs (All-tail R x xs all))
+
+  when_says : (cs : List Cond) → All (IsCond m) cs → when_text new (map (cond_moved Q P) cs) ≡ when_text m cs
+  when_says [] all = refl
+  when_says (c ∷ cs) all =
+      ap (λ (ts : List (List ℕ)). codes " when " ++ parted (codes ", ") ts) (all_say (IsCond m) (cond_moved Q P) (cond_text new) (cond_text m) cond_says (c ∷ cs) all)
+
+  row_says : (kind : List ℕ) (r : SeenRow) → IsRow m r → row_text new kind (row_moved Q P r) ≡ row_text m kind r
+  row_says kind r h =
+      ap (λ (t : List ℕ). line (kind ∷ t ∷ codes " do " ∷ parted (codes ", ") (map (set_text new) (map (set_moved Q P) r.sets)) ∷ [])) (when_says r.conds h.conds)
+      ∙ ap (λ (ts : List (List ℕ)). line (kind ∷ when_text m r.conds ∷ codes " do " ∷ parted (codes ", ") ts ∷ [])) (all_say (IsSet m) (set_moved Q P) (set_text new) (set_text m) set_says r.sets h.sets)
 
   -- ---- outputs
 
@@ -333,6 +385,10 @@ module _ (net : Net) (ts : List SeenTable) (all : All (λ t. IsModel t.model) ts
   pub models_fit : IsNet net → IfOk (fitted net ts) (ModelsFit net)
   unfolding fitted
   models_fit is = unless_fits (missing net ts 0 net.insts.items) (extra net ts) (models_from net ts 0 net.insts.items) (all_insts 0 net.insts.items is.insts)
+
+pub rows_say_the_same : RowsSayTheSame
+unfolding arranged
+rows_say_the_same net inst m kind row is model ports well = row_says net inst m is model ports kind row well
 
 pub fitted_models_fit : FittedModelsFit
 fitted_models_fit net ts is all = models_fit net ts all is

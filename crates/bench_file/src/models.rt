@@ -1,5 +1,5 @@
 // The models of a network's instruments.
-ghost use Rattle.std.specs.Prelude.{◌≡◌, ◌<◌, ◌≤◌, ℕ, [], map, length, option_map, slice_index_or, All, IfOk, IsErrOf, Ok, Err, None};
+ghost use Rattle.std.specs.Prelude.{◌≡◌, ◌<◌, ◌≤◌, ℕ, [], map, length, option_map, All, IfOk, IsErrOf, Ok, Err, None};
 ghost use Rattle.ij_text.specs.declared.Place.{Place};
 ghost use Rattle.net_graph.specs.Nets.{IsNet, IsInst};
 ghost use Rattle.instruments.specs.Models.{IsModel};
@@ -38,15 +38,6 @@ impl std::marker::Model for Fitted {
 }
 
 impl Fitted {
-    /// The model of an instrument, by the instrument's number in the network: its ports stand in the network's order, and
-    /// its operands name them in this order. Takes no memory.
-    pub fn model(&self, inst: u32) -> &Model
-        requires { inst < length self.now }
-        ensures { result.now ≡ slice_index_or self.now inst result.now }
-    {
-        self.models.get(inst as usize)
-    }
-
     /// The models, for a bench. Takes no memory.
     pub fn models(&self) -> &List<Model>
         ensures { result.now.items ≡ self.now }

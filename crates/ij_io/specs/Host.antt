@@ -9,5 +9,5 @@ pub record Stream (W : Type 0) : Type 0 where
 pub record FailedNames : Type 0 where
   -- the name of each load that failed
   pub loads : List (List ℕ)
-  -- the name of each begin and append that failed
+  -- the name of each begin, append and finish that failed
   pub stores : List (List ℕ)

@@ -19,6 +19,10 @@ pub(crate) fn append<S: Shelf>(shelf: &mut S, name: &str, piece: &[u8]) -> Resul
     shelf.append(name, piece)
 }
 
+pub(crate) fn finish<S: Shelf>(shelf: &mut S, name: &str) -> Result<(), StoreFault> {
+    shelf.finish(name)
+}
+
 pub(crate) fn write<S: Sink>(sink: &mut S, piece: &[u8]) -> Result<(), StoreFault> {
     sink.write(piece)
 }

@@ -8,7 +8,7 @@ use std::alloc::Global;
 use std::process::Abort;
 use std::test::Fail;
 
-/// Behind so many calls that passed, one failed: a load leaves all, a store leaves a first part of the file, nothing is printed, and there
+/// After so many calls that passed, one failed: a load leaves all, a store leaves a first part of the file, nothing is printed, and there
 /// are no other calls.
 fn check_call(
     rt: &impl Abort,
@@ -25,7 +25,7 @@ fn check_call(
         assert_eq!(rt; ended.err.bytes(), told.as_bytes());
         assert_eq!(rt; ended.out.bytes(), b"".as_slice());
         assert!(rt; written.is_none());
-    } else if passed < loads.saturating_add(2) && !command.writes.is_empty() {
+    } else if passed < loads.saturating_add(3) && !command.writes.is_empty() {
         let told = format!(in alloc; "write fault {}\n", command.writes)?;
         assert_eq!(rt; ended.status, Status::WriteFault);
         assert_eq!(rt; ended.err.bytes(), told.as_bytes());
@@ -40,7 +40,7 @@ fn check_call(
     Ok(())
 }
 
-/// Each file is loaded once, in its order, and the one that is written is begun once and gets one piece.
+/// Each file is loaded once, in its order, and the one that is written is begun once, gets one piece, and is finished.
 #[test]
 fn each_call_of_the_files_fails_once(rt: HostRuntime) -> Result<(), Fail> {
     let alloc = rt.alloc();

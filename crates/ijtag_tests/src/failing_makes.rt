@@ -5,7 +5,7 @@ use std::process::Abort;
 use std::test::Fail;
 
 /// The files of a design, in the order in which they are written, and what they hold before.
-const FILES: [(&str, &[u8]); 5] = [
+pub(crate) const FILES: [(&str, &[u8]); 5] = [
     ("t.icl", b"old"),
     ("t.pdl", b"old"),
     ("t.dev", b"old"),
@@ -14,39 +14,52 @@ const FILES: [(&str, &[u8]); 5] = [
 ];
 
 /// No call fails.
-const NONE: Failing<'static> = Failing {
+pub(crate) const NONE: Failing<'static> = Failing {
     shelf: &[],
     out: &[],
     err: &[],
 };
 
-const MAKE: [&str; 4] = ["make", "1", "1", "t"];
+pub(crate) const MAKE: [&str; 4] = ["make", "1", "1", "t"];
 
-/// The line of a failed store: each file is begun by one call and written by the next.
+/// The line of a failed store: each file is begun by one call, written by the next, and finished by the third.
 fn fault_of_store(call: u32) -> &'static [u8] {
     match call {
-        1 | 2 => b"write fault t.icl\n",
-        3 | 4 => b"write fault t.pdl\n",
-        5 | 6 => b"write fault t.dev\n",
-        7 | 8 => b"write fault t.tab\n",
+        1 | 2 | 3 => b"write fault t.icl\n",
+        4 | 5 | 6 => b"write fault t.pdl\n",
+        7 | 8 | 9 => b"write fault t.dev\n",
+        10 | 11 | 12 => b"write fault t.tab\n",
         _ => b"write fault t.svf\n",
     }
 }
 
-/// The files in front of the one of the failed call are whole, and those behind it are as before.
+/// What a file holds after a refused call, whose own calls are three from the one of this number on: it is as before until the
+/// first of them, and whole from the third on.
+pub(crate) fn check_file(
+    rt: &impl Abort,
+    call: u32,
+    first: u32,
+    before: &[u8],
+    all: &[u8],
+    held: &[u8],
+) {
+    if call > first.wrapping_add(1) {
+        assert!(rt; held == all);
+    } else if call < first {
+        assert!(rt; held == before);
+    } else {
+        assert!(rt; held == before || all.starts_with(held));
+    }
+}
+
+/// The files before the one of the failed call are whole, and those after it are as before.
 fn check_files(rt: &impl Abort, whole: &Ended, ended: &Ended, call: u32) {
     let mut first = 1u32;
     for file in &FILES {
         let all = whole.shelf.file(file.0).unwrap_or(b"".as_slice());
         let held = ended.shelf.file(file.0).unwrap_or(b"".as_slice());
-        if call > first.wrapping_add(1) {
-            assert!(rt; held == all);
-        } else if call < first {
-            assert!(rt; held == file.1);
-        } else {
-            assert!(rt; held == file.1 || all.starts_with(held));
-        }
-        first = first.wrapping_add(2);
+        check_file(rt, call, first, file.1, all, held);
+        first = first.wrapping_add(3);
     }
 }
 
@@ -62,7 +75,7 @@ fn each_call_of_the_files_fails_once_in_a_make(rt: HostRuntime) -> Result<(), Fa
             err: &[],
         };
         let ended = run(alloc, &MAKE, &FILES, &failing)?;
-        if call > 10 {
+        if call > 15 {
             assert_eq!(rt; ended.status, Status::Good);
             assert_eq!(rt; ended.out.bytes(), whole.out.bytes());
         } else {

@@ -10,6 +10,8 @@ mod failing_files;
 mod failing_makes;
 #[cfg(test)]
 mod failing_streams;
+#[cfg(test)]
+mod short_memory;
 
 /// It does nothing: the tests are run, and not the program.
 fn main() {}

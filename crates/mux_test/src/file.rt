@@ -12,7 +12,7 @@ ghost use Rattle.mux_test.specs.Given.{seen_test_scan};
 ghost use Rattle.mux_test.specs.Texts.{CanWrite, mark_of, scan_text, scans_text};
 
 use crate::test::{MuxTest, TestScan};
-use ij_io::{Shelf, Sink, StoreFault, SureSink, next_piece, put_piece};
+use ij_io::{Shelf, Sink, StoreFault, SureSink, next_piece, put_last_piece};
 use net_graph::{Device, Net};
 use std::alloc::Global;
 use svf_writer::{put, put_preface, put_row_mark};
@@ -46,7 +46,7 @@ fn put_scan<K: Sink>(net: &Net, scan: TestScan, k: &mut K) -> Result<(), StoreFa
     Ok(())
 }
 
-/// Writes the scans that are still to come after a piece of the file's text. After a refusal the file holds some first bytes.
+/// Writes the scans that are still to come after a piece of the file's text, and finishes the file. After a refusal the file holds some first bytes.
 fn put_scans<'a, S: Shelf>(
     alloc: Global,
     net: &Net,
@@ -73,7 +73,7 @@ fn put_scans<'a, S: Shelf>(
         put_scan(net, scan, &mut piece)?;
         piece = next_piece(alloc, name, piece, shelf)?;
     }
-    put_piece(name, &piece, shelf)
+    put_last_piece(name, &piece, shelf)
 }
 
 /// Writes the scans of a test that are still to come to a file, from its front (Serial Vector Format, revision E): the lines

@@ -12,14 +12,14 @@ ghost use Rattle.ij_io.specs.Pieces.{HoldsFront, IsThere, with_piece};
 
 use crate::retargeter::Retargeter;
 use headline::planned_steps_law;
-use ij_io::{Shelf, StoreFault, SureSink, next_piece, put_piece};
+use ij_io::{Shelf, StoreFault, SureSink, next_piece, put_last_piece};
 use merge_order::{BitSteps, next_step};
 use net_graph::{Device, Net};
 use net_tree::Tree;
 use std::alloc::Global;
 use svf_writer::put_preface;
 
-/// Writes the bit steps that are left of a procedure behind a piece. After a refusal the file holds some first bytes.
+/// Writes the bit steps that are left of a procedure after a piece, and finishes the file. After a refusal the file holds some first bytes.
 fn put_steps<'a, 'b, S: Shelf>(
     alloc: Global,
     session: &mut Retargeter<'a>,
@@ -44,7 +44,7 @@ fn put_steps<'a, 'b, S: Shelf>(
         session.put_step(&step, &mut piece)?;
         piece = next_piece(alloc, name, piece, shelf)?;
     }
-    put_piece(name, &piece, shelf)
+    put_last_piece(name, &piece, shelf)
 }
 
 /// Writes the preface and the bit steps.
@@ -84,7 +84,7 @@ fn put_script<'b, S: Shelf>(
 ///
 /// # Errors
 ///
-/// - `Failed`: the shelf could not begin the file or write a piece, and its count of failed stores under this name rose.
+/// - `Failed`: the shelf could not begin the file, write a piece or finish the file, and its count of failed stores under this name rose.
 /// - `OutOfMemory`: there was no memory for a bit step, for its plans or for their text, or the shelf had none.
 ///
 /// After a refusal the file is as before, or holds some first bytes of the text. Other files and the counts of failed loads stay.

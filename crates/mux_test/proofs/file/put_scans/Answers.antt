@@ -59,6 +59,6 @@ loop-piece-preserved g c =
 pub returns-clause-part : goal.returns-clause-part
 returns-clause-part g c =
     let files = g.S.Shelf.files c.loop-piece.shelf in
-    on_err_weaker c.put_piece.result
+    on_err_weaker c.put_last_piece.result
     (λ h. is_part c.args.net.now c.args.test.now.scans (with_piece (g.S.Shelf.files c.args.shelf.now) c.args.name.now c.args.piece) c.args.name.now c.loop-piece.test.scans files c.loop-piece.piece c.loop-piece.invariant.go
-    (g.S.Shelf.files c.put_piece.new.shelf) (h c.loop-piece.invariant.there)) c.put_piece.ensures.part
+    (g.S.Shelf.files c.put_last_piece.new.shelf) (h c.loop-piece.invariant.there)) c.put_last_piece.ensures.part
