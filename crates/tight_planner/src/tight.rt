@@ -76,6 +76,9 @@ impl<'a> Planner<'a> {
 
     /// Writes the text of the work since the last reset.
     fn put_stretch(&mut self) -> Result<(), Stop> {
+        if self.stretch.items.is_empty() {
+            return Ok(());
+        }
         let empty = Stretch::new(self.alloc, &self.all)?;
         let mut stretch = mem::replace(&mut self.stretch, empty);
         stretch.settle(&self.all)?;
