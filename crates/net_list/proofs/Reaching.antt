@@ -26,7 +26,7 @@ use Rattle.net_tree.specs.ScanPlans.{seen_plan}
 use Rattle.std.proofs.lemmas.List.{length-map}
 use Rattle.path_planner.specs.Scannable.{IsScannable}
 use Rattle.path_planner.specs.Settling.{settle, is_in_row}
-use Rattle.path_planner.proofs.Among.{Among, among-left, among-right, among-cases, among_contains, contains_among, on_true, true_on, true_all, all_true}
+use Rattle.path_planner.proofs.Among.{Among, among-left, among-right, among-cases, all_among, among_contains, contains_among, on_true, true_on, true_all, all_true}
 use Rattle.path_planner.proofs.Inside.{IsAround, around, reg_item, mux_place, mux_below, path_open, open_path}
 use Rattle.path_planner.proofs.Opening.{IsPlaced, IsBehind, behind_itself, behind_next, next_listed, next_unseen}
 use Rattle.path_planner.proofs.Places.{one_branch, AreIn}
@@ -35,7 +35,9 @@ use Rattle.path_planner.proofs.RowScans.{brought, scans_are, unseen_listed}
 use Rattle.path_planner.proofs.Rows.{in_row, row_in}
 use Rattle.path_planner.proofs.Starting.{start_scannable}
 use Rattle.path_planner.proofs.Step.{IsNeeded, has_path}
+use Rattle.net_list.specs.declared.format.ListFormat.{ListFormat}
 use Rattle.net_list.specs.Fewest.{fewest_scans, names, ScansAreFewest}
+use Rattle.net_list.specs.Lines.{register_text, register_line}
 
 -- ---- the innermost row of a place
 
@@ -217,3 +219,12 @@ planned_scans net form r row h plans start i p =
     ∙ ap length p.lead
     ∙ ap (λ (x : Holds). length (scans_of_row net form row x)) start
     ∙ ap (λ (bs : List Branch). length (row_scans net bs (length bs) (start_holds net))) (sym i.needs)
+
+-- the rows around a register are rows of the network
+pub place_there : (net : Net) (form : Items) (r : ℕ) (place : List Branch) → Describes net form → r < length net.regs.items → place ≡ place_of form (FromReg r) → All (IsBranchOf net) place
+place_there net form r place d l is =
+    subst (All (IsBranchOf net)) (sym is) (all_among (IsBranchOf net) (place_of form (FromReg r)) (λ b a. let x = around net form d (FromReg r) (place_of form (FromReg r)) b (reg_item net form d r l) a in record { mux = x.there; row = x.row }))
+
+pub line_is : (f : ListFormat) (net : Net) (form : Items) (r : ℕ) (place : List Branch) (scans : ℕ) → place ≡ place_of form (FromReg r) → scans ≡ fewest_scans net form r → register_text f net r place scans ≡ register_line f net form r
+line_is f net form r place scans p s =
+    ap (λ (bs : List Branch). register_text f net r bs scans) p ∙ ap (register_text f net r (place_of form (FromReg r))) s

@@ -1,8 +1,8 @@
 -- What a network has, one thing a line: each register, multiplexer and instrument once, in the network's order, and totals.
-use Rattle.std.specs.Prelude.{ℕ, zero, suc, List, [], ◌++◌, codes, length, map, sum, unwrap_or}
+use Rattle.std.specs.Prelude.{ℕ, zero, suc, List, [], ◌++◌, codes, length, map, sum}
 use Rattle.net_graph.specs.Chain.{chain}
 use Rattle.net_graph.specs.declared.net.Net.{Net}
-use Rattle.net_graph.specs.Path.{path}
+use Rattle.net_graph.specs.Path.{route_of}
 use Rattle.net_graph.specs.Resets.{start_holds}
 use Rattle.net_tree.specs.Form.{Items}
 use Rattle.net_list.specs.declared.format.ListFormat.{ListFormat}
@@ -19,7 +19,7 @@ abbrev pub bit_count : Net → ℕ
 bit_count net = sum (map (λ reg. reg.width) net.regs.items)
 
 abbrev pub start_path_bits : Net → ℕ
-start_path_bits net = length (chain (unwrap_or (path net (start_holds net)) []) (start_holds net))
+start_path_bits net = length (chain (route_of net (start_holds net)) (start_holds net))
 
 abbrev pub totals_line : ListFormat → Net → ℕ → ℕ → List ℕ
 totals_line f net bits path =

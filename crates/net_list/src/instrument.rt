@@ -184,6 +184,14 @@ fn put_instrument<K: Sink>(
     Ok(())
 }
 
+/// How many instruments there are.
+fn inst_count(net: &Net) -> u32
+    requires { IsNet net.now }
+    ensures { result ≡ length net.now.insts.items }
+{
+    net.insts.len() as u32
+}
+
 /// Writes the line of each instrument.
 pub(crate) fn put_instruments<K: Sink>(
     format: ListFormat,
@@ -195,7 +203,7 @@ pub(crate) fn put_instruments<K: Sink>(
     ensures part { OnErr result (AddsPart (K.taken k.old) (K.taken k.new) (lines_from (lines.instrument_line format net.now) 0 (length net.now.insts.items))) }
     ensures cause { HasCause (K.faults k.old) (K.faults k.new) result StoreFault.Failed }
 {
-    let count = net.insts.len() as u32;
+    let count = inst_count(net);
     for inst in 0..count {
         put_instrument(format, net, inst, k)?;
     }

@@ -25,9 +25,3 @@ pub use whole::put_list;
 pub fn list_law()
     ensures fewest { ScansAreFewest }
 {}
-
-#[cfg(test)]
-mod tests {
-    #[test]
-    fn compiles() {}
-}

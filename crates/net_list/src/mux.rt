@@ -1,5 +1,5 @@
 // The lines of multiplexers.
-ghost use Rattle.std.specs.Prelude.{◌≡◌, ◌<◌, ◌≤◌, ◌++◌, [], codes, length, All, OnOk, OnErr};
+ghost use Rattle.std.specs.Prelude.{◌≡◌, ◌<◌, ◌-◌, ◌++◌, [], codes, get_or, length, All, OnOk, OnErr};
 ghost use Rattle.ij_io.specs.Bytes.{Adds, AddsPart};
 ghost use Rattle.ij_io.specs.Causes.{HasCause};
 ghost use Rattle.net_graph.specs.Nets.{IsNet};
@@ -38,6 +38,14 @@ fn put_bit<K: Sink>(
     Ok(())
 }
 
+/// The bit at a place, counted from the highest position.
+fn from_left(bits: &[BitId], place: usize) -> BitId
+    requires { place < length bits.now }
+    ensures { result ≡ get_or bits.now (length bits.now - 1 - place) (record { reg = 0; pos = 0 }) }
+{
+    bits[bits.len() - 1 - place]
+}
+
 /// Writes select bits, the highest first.
 fn put_select_bits<K: Sink>(
     format: ListFormat,
@@ -54,7 +62,7 @@ fn put_select_bits<K: Sink>(
     let between = either(format, b" ", b",");
     let mut before: &[u8] = b"";
     for j in 0..bits.len() {
-        put_bit(format, before, net, bits[bits.len() - 1 - j], k)?;
+        put_bit(format, before, net, from_left(bits, j), k)?;
         before = between;
     }
     Ok(())
@@ -223,6 +231,14 @@ fn put_mux<K: Sink>(
     put_text(format, net, mux, depth, k)
 }
 
+/// How many muxes there are.
+fn mux_count(net: &Net) -> u32
+    requires { IsNet net.now }
+    ensures { result ≡ length net.now.muxes.items }
+{
+    net.muxes.len() as u32
+}
+
 /// Writes the line of each mux.
 pub(crate) fn put_muxes<K: Sink>(
     format: ListFormat,
@@ -235,7 +251,7 @@ pub(crate) fn put_muxes<K: Sink>(
     ensures part { OnErr result (AddsPart (K.taken k.old) (K.taken k.new) (lines_from (lines.mux_line format net.now tree.now) 0 (length net.now.muxes.items))) }
     ensures cause { HasCause (K.faults k.old) (K.faults k.new) result StoreFault.Failed }
 {
-    let count = net.muxes.len() as u32;
+    let count = mux_count(net);
     for mux in 0..count {
         put_mux(format, net, tree, mux, k)?;
     }

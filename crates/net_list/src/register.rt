@@ -1,11 +1,10 @@
 // The lines of registers.
-ghost use Rattle.std.specs.Prelude.{◌≡◌, ◌<◌, ◌≤◌, ◌++◌, filter, length, All, IfOk, OnOk, OnErr};
-ghost use Rattle.std.specs.List.{list_any, range_with_len};
+ghost use Rattle.std.specs.Prelude.{◌≡◌, ◌<◌, ◌==◌, ◌++◌, ◌∷◌, [], cond, length, All, IfOk, OnOk, OnErr};
+ghost use Rattle.std.specs.List.{list_any};
 ghost use Rattle.ij_io.specs.Bytes.{Adds, AddsPart};
 ghost use Rattle.ij_io.specs.Causes.{HasCause};
 ghost use Rattle.net_graph.specs.Nets.{IsNet};
 ghost use Rattle.net_graph.specs.PathNames.{mux_path};
-ghost use Rattle.net_graph.specs.Named as named;
 ghost use Rattle.net_graph.specs.Resets.{start_holds};
 ghost use Rattle.net_graph.specs.declared.net.Point.TheVariants as point;
 ghost use Rattle.net_tree.specs.Form.{Describes};
@@ -31,7 +30,12 @@ use std::alloc::Global;
 fn names_register(bits: &[BitId], reg: u32) -> bool
     ensures { result ≡ list_any (λ b. b.reg == reg) bits.now }
 {
-    bits.iter().any(|bit| bit.reg == reg)
+    for bit in bits {
+        if bit.reg == reg {
+            return true;
+        }
+    }
+    false
 }
 
 /// Whether a register has a select bit of a mux.
@@ -42,6 +46,16 @@ fn selects_in(net: &Net, reg: u32, mux: u32) -> bool
     names_register(net.muxes.get(mux as usize).select.as_slice(), reg)
 }
 
+/// Adds a mux that is selected.
+fn push_if(muxes: &mut List<u32>, mux: u32, selected: bool) -> Result<(), OutOfMemory>
+    ensures { OnOk result (muxes.new.items ≡ muxes.old.items ++ cond selected (mux ∷ []) []) }
+{
+    if selected {
+        muxes.push(mux)?;
+    }
+    Ok(())
+}
+
 /// The muxes in which a register selects.
 fn selected_by(alloc: Global, net: &Net, reg: u32) -> Result<List<u32>, OutOfMemory>
     requires { IsNet net.now }
@@ -50,9 +64,7 @@ fn selected_by(alloc: Global, net: &Net, reg: u32) -> Result<List<u32>, OutOfMem
 {
     let mut muxes = List::new(alloc);
     for mux in 0..net.muxes.len() {
-        if selects_in(net, reg, mux as u32) {
-            muxes.push(mux as u32)?;
-        }
+        push_if(&mut muxes, mux as u32, selects_in(net, reg, mux as u32))?;
     }
     Ok(muxes)
 }

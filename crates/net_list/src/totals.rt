@@ -4,15 +4,12 @@ ghost use Rattle.ij_io.specs.Bytes.{Adds, AddsPart};
 ghost use Rattle.ij_io.specs.Causes.{HasCause};
 ghost use Rattle.net_graph.specs.Chain.{chain, IsRoute};
 ghost use Rattle.net_graph.specs.Nets.{IsNet};
-ghost use Rattle.net_tree.specs.Form.{Describes};
-ghost use Rattle.net_tree.specs.Lawful.{IsLawful};
 ghost use Rattle.net_list.specs.Listing as listing;
 
 use crate::format::{ListFormat, put_count, put_either};
-use ij_bits::OutOfMemory;
+use ij_bits::{List, OutOfMemory};
 use ij_io::{Sink, StoreFault};
-use net_graph::{Holds, Net};
-use net_tree::{Route, Tree};
+use net_graph::{Holds, Net, find_path};
 use std::alloc::Global;
 
 /// How many bits the registers of a network have.
@@ -41,16 +38,16 @@ fn path_bits(holds: &Holds, path: &[u32]) -> u32
 }
 
 /// How many bits the active path has at power-up.
-fn start_path_bits(alloc: Global, net: &Net, tree: &Tree) -> Result<u32, OutOfMemory>
-    requires well_formed { IsNet net.now }
-    requires form { Describes net.now tree.now }
-    requires lawful { IsLawful net.now tree.now }
+#[tactic(auto, using(net_graph::proofs::Widths::started_held))]
+fn start_path_bits(alloc: Global, net: &Net) -> Result<u32, OutOfMemory>
+    requires { IsNet net.now }
     ensures { IfOk result (λ bits. bits ≡ listing.start_path_bits net.now) }
 {
     let start = Holds::power_up(alloc, net)?;
-    let mut route = Route::new(alloc, net)?;
-    tree.walk(net, &start, &mut route);
-    Ok(path_bits(&start, route.regs().as_slice()))
+    let mut path = List::new(alloc);
+    path.reserve(net.regs.len())?;
+    find_path(net, &start, &mut path);
+    Ok(path_bits(&start, path.as_slice()))
 }
 
 /// Writes the line of totals, with so many bits in all and so many on the path.
@@ -94,16 +91,13 @@ pub(crate) fn put_totals<K: Sink>(
     alloc: Global,
     format: ListFormat,
     net: &Net,
-    tree: &Tree,
     k: &mut K,
 ) -> Result<(), StoreFault>
-    requires well_formed { IsNet net.now }
-    requires form { Describes net.now tree.now }
-    requires lawful { IsLawful net.now tree.now }
+    requires { IsNet net.now }
     ensures whole { OnOk result (Adds (K.taken k.old) (K.taken k.new) (listing.totals_line format net.now (listing.bit_count net.now) (listing.start_path_bits net.now))) }
     ensures part { OnErr result (AddsPart (K.taken k.old) (K.taken k.new) (listing.totals_line format net.now (listing.bit_count net.now) (listing.start_path_bits net.now))) }
     ensures cause { HasCause (K.faults k.old) (K.faults k.new) result StoreFault.Failed }
 {
-    let path = start_path_bits(alloc, net, tree)?;
+    let path = start_path_bits(alloc, net)?;
     put_line(format, net, bit_count(net), path, k)
 }

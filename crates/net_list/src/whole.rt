@@ -46,6 +46,6 @@ pub fn put_list<K: Sink>(
     put_registers(alloc, format, net, tree, k)?;
     put_muxes(format, net, tree, k)?;
     put_instruments(format, net, k)?;
-    put_totals(alloc, format, net, tree, k)?;
+    put_totals(alloc, format, net, k)?;
     Ok(())
 }
