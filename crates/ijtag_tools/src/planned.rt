@@ -79,8 +79,7 @@ fn compiled(alloc: Global, it: &Accepted) -> Result<Planned, OutOfMemory>
 }
 
 /// The commands that a reader finds in a text, where it finds some.
-fn read(alloc: Global, text: &[u8]) -> Result<Option<Commands>, OutOfMemory>
-{
+fn read(alloc: Global, text: &[u8]) -> Result<Option<Commands>, OutOfMemory> {
     if text.len() > SVF_LIMIT as usize {
         return Ok(None);
     }

@@ -149,12 +149,7 @@ fn put_index<K: Sink>(net: &Net, bit: BitId, more: bool, k: &mut K) -> Result<()
 }
 
 /// Writes the end of a run, which has more than one bit or one.
-fn put_run_end<K: Sink>(
-    net: &Net,
-    more: bool,
-    signal: Sig,
-    k: &mut K,
-) -> Result<(), StoreFault>
+fn put_run_end<K: Sink>(net: &Net, more: bool, signal: Sig, k: &mut K) -> Result<(), StoreFault>
     requires well_formed { IsNet net.now }
     requires there { IsInputOf net.now signal }
     ensures whole { OnOk result (Adds (K.taken k.old) (K.taken k.new) (drivers.run_end net.now more signal)) }

@@ -126,12 +126,7 @@ fn put_port_lists<K: Sink>(
 }
 
 /// Writes the ports of an instrument.
-fn put_ports<K: Sink>(
-    format: ListFormat,
-    net: &Net,
-    inst: u32,
-    k: &mut K,
-) -> Result<(), StoreFault>
+fn put_ports<K: Sink>(format: ListFormat, net: &Net, inst: u32, k: &mut K) -> Result<(), StoreFault>
     requires well_formed { IsNet net.now }
     requires there { inst < length net.now.insts.items }
     ensures whole { OnOk result (Adds (K.taken k.old) (K.taken k.new) (lines.ports_text format net.now inst)) }

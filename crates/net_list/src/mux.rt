@@ -155,12 +155,7 @@ fn put_row_list<K: Sink>(
 }
 
 /// Writes the select values of the rows of a mux.
-fn put_rows<K: Sink>(
-    format: ListFormat,
-    net: &Net,
-    mux: u32,
-    k: &mut K,
-) -> Result<(), StoreFault>
+fn put_rows<K: Sink>(format: ListFormat, net: &Net, mux: u32, k: &mut K) -> Result<(), StoreFault>
     requires well_formed { IsNet net.now }
     requires there { mux < length net.now.muxes.items }
     ensures whole { OnOk result (Adds (K.taken k.old) (K.taken k.new) (lines.rows_text format net.now mux)) }
