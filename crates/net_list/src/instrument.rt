@@ -76,7 +76,7 @@ fn put_output<K: Sink>(
     k.write(before)?;
     put_either(format, b"out ", b"{\"port\":\"", k)?;
     put_name(&port.name, k)?;
-    put_count(format, b" ", b"\",\"bits\":", u64::from(port.width), k)?;
+    put_count(format, b" ", b"\",\"bits\":", port.width as u64, k)?;
     put_either(format, b"", b"}", k)?;
     Ok(())
 }
@@ -126,12 +126,7 @@ fn put_port_lists<K: Sink>(
 }
 
 /// Writes the ports of an instrument.
-fn put_ports<K: Sink>(
-    format: ListFormat,
-    net: &Net,
-    inst: u32,
-    k: &mut K,
-) -> Result<(), StoreFault>
+fn put_ports<K: Sink>(format: ListFormat, net: &Net, inst: u32, k: &mut K) -> Result<(), StoreFault>
     requires well_formed { IsNet net.now }
     requires there { inst < length net.now.insts.items }
     ensures whole { OnOk result (Adds (K.taken k.old) (K.taken k.new) (lines.ports_text format net.now inst)) }
@@ -185,7 +180,7 @@ fn put_instrument<K: Sink>(
 }
 
 /// How many instruments there are.
-fn inst_count(net: &Net) -> u32
+pub(crate) fn inst_count(net: &Net) -> u32
     requires { IsNet net.now }
     ensures { result ≡ length net.now.insts.items }
 {

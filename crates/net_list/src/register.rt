@@ -116,19 +116,14 @@ fn put_selected<K: Sink>(
 }
 
 /// Writes how many bits a register has.
-fn put_width<K: Sink>(
-    format: ListFormat,
-    net: &Net,
-    reg: u32,
-    k: &mut K,
-) -> Result<(), StoreFault>
+fn put_width<K: Sink>(format: ListFormat, net: &Net, reg: u32, k: &mut K) -> Result<(), StoreFault>
     requires { reg < length net.now.regs.items }
     ensures whole { OnOk result (Adds (K.taken k.old) (K.taken k.new) (lines.width_text format net.now reg)) }
     ensures part { OnErr result (AddsPart (K.taken k.old) (K.taken k.new) (lines.width_text format net.now reg)) }
     ensures cause { HasCause (K.faults k.old) (K.faults k.new) result StoreFault.Failed }
 {
     let width = net.regs.get(reg as usize).width;
-    put_count(format, b" bits ", b"\",\"bits\":", u64::from(width), k)
+    put_count(format, b" bits ", b"\",\"bits\":", width as u64, k)
 }
 
 /// Writes the reset value of a register.
