@@ -7,12 +7,7 @@ use std::alloc::Global;
 use std::test::Fail;
 
 /// The listing of the network of an ICL text.
-fn list_of(
-    alloc: Global,
-    source: &str,
-    parts: &str,
-    format: ListFormat,
-) -> Result<SureSink, Fail> {
+fn list_of(alloc: Global, source: &str, parts: &str, format: ListFormat) -> Result<SureSink, Fail> {
     let net = network_of(alloc, source, parts)?;
     let Ok(tree) = nest(alloc, &net) else {
         return Err(Fail::new("the network has no lawful form"));
@@ -127,8 +122,10 @@ fn a_listing_is_written_in_json(rt: HostRuntime) -> Result<(), Fail> {
 #[test]
 fn segments_and_instruments_are_listed(rt: HostRuntime) -> Result<(), Fail> {
     let alloc = rt.alloc();
-    let parts = "Instance s1 Of Sib { InputPort SI = SI; InputPort fromSO = w1.SO; } Instance s2 Of Sib { InputPort SI = s1.SO; InputPort fromSO = w2.SO; } Instance s3 Of Sib { InputPort SI = s2.SO; InputPort fromSO = w3.SO; } Instance w1 Of Wrap { InputPort SI = s1.toSI; Parameter W = 4; } Instance w2 Of Wrap { InputPort SI = s2.toSI; } Instance w3 Of Wrap { InputPort SI = s3.toSI; Parameter W = 4; } } Module Sib { ScanInPort SI; ScanOutPort SO { Source SR; } ScanInPort fromSO; ScanOutPort toSI { Source SI; } ScanRegister SR { ScanInSource m; CaptureSource SR; ResetValue 1'b0; } ScanMux m SelectedBy SR { 1'b0 : SI; 1'b1 : fromSO; } } Module Both { Parameter W = 8; DataInPort d[$W-1:0]; DataOutPort q[$W-1:0]; } Module Wrap { Parameter W = 8; ScanInPort SI; ScanOutPort SO { Source R[0]; } ScanRegister R[$W-1:0] { ScanInSource SI; CaptureSource ins.q; ResetValue $W'b0; } Instance ins Of Both { Parameter W = $W; InputPort d = R; }";
-    let wanted = "register net.s1.SR bits 1 reset 0 depth 0 scans 1 selects net.s1.m\nregister net.s2.SR bits 1 reset 0 depth 0 scans 1 selects net.s2.m\nregister net.s3.SR bits 1 reset 0 depth 0 scans 1 selects net.s3.m\nregister net.w1.R bits 4 reset 0000 depth 1 scans 2 in net.s1.m=1\nregister net.w2.R bits 8 reset 00000000 depth 1 scans 2 in net.s2.m=1\nregister net.w3.R bits 4 reset 0000 depth 1 scans 2 in net.s3.m=1\nmux net.s1.m rows 2 select net.s1.SR[0] depth 0\nrow net.s1.m=0\nrow net.s1.m=1\nmux net.s2.m rows 2 select net.s2.SR[0] depth 0\nrow net.s2.m=0\nrow net.s2.m=1\nmux net.s3.m rows 2 select net.s3.SR[0] depth 0\nrow net.s3.m=0\nrow net.s3.m=1\ninstrument net.w1.ins in d 4 from net.w1.R[3:0] out q 4\ninstrument net.w2.ins in d 8 from net.w2.R[7:0] out q 8\ninstrument net.w3.ins in d 4 from net.w3.R[3:0] out q 4\nnetwork registers 6 bits 19 muxes 3 instruments 3 path at reset 3\n";
+    let parts =
+        "Instance s1 Of Sib { InputPort SI = SI; InputPort fromSO = w1.SO; } Instance s2 Of Sib { InputPort SI = s1.SO; InputPort fromSO = w2.SO; } Instance s3 Of Sib { InputPort SI = s2.SO; InputPort fromSO = w3.SO; } Instance w1 Of Wrap { InputPort SI = s1.toSI; Parameter W = 4; } Instance w2 Of Wrap { InputPort SI = s2.toSI; } Instance w3 Of Wrap { InputPort SI = s3.toSI; Parameter W = 4; } } Module Sib { ScanInPort SI; ScanOutPort SO { Source SR; } ScanInPort fromSO; ScanOutPort toSI { Source SI; } ScanRegister SR { ScanInSource m; CaptureSource SR; ResetValue 1'b0; } ScanMux m SelectedBy SR { 1'b0 : SI; 1'b1 : fromSO; } } Module Both { Parameter W = 8; DataInPort d[$W-1:0]; DataOutPort q[$W-1:0]; } Module Wrap { Parameter W = 8; ScanInPort SI; ScanOutPort SO { Source R[0]; } ScanRegister R[$W-1:0] { ScanInSource SI; CaptureSource ins.q; ResetValue $W'b0; } Instance ins Of Both { Parameter W = $W; InputPort d = R; }";
+    let wanted =
+        "register net.s1.SR bits 1 reset 0 depth 0 scans 1 selects net.s1.m\nregister net.s2.SR bits 1 reset 0 depth 0 scans 1 selects net.s2.m\nregister net.s3.SR bits 1 reset 0 depth 0 scans 1 selects net.s3.m\nregister net.w1.R bits 4 reset 0000 depth 1 scans 2 in net.s1.m=1\nregister net.w2.R bits 8 reset 00000000 depth 1 scans 2 in net.s2.m=1\nregister net.w3.R bits 4 reset 0000 depth 1 scans 2 in net.s3.m=1\nmux net.s1.m rows 2 select net.s1.SR[0] depth 0\nrow net.s1.m=0\nrow net.s1.m=1\nmux net.s2.m rows 2 select net.s2.SR[0] depth 0\nrow net.s2.m=0\nrow net.s2.m=1\nmux net.s3.m rows 2 select net.s3.SR[0] depth 0\nrow net.s3.m=0\nrow net.s3.m=1\ninstrument net.w1.ins in d 4 from net.w1.R[3:0] out q 4\ninstrument net.w2.ins in d 8 from net.w2.R[7:0] out q 8\ninstrument net.w3.ins in d 4 from net.w3.R[3:0] out q 4\nnetwork registers 6 bits 19 muxes 3 instruments 3 path at reset 3\n";
     let sink = list_of(alloc, "s3.SO", parts, ListFormat::Text)?;
     assert_eq!(rt; sink.bytes(), wanted.as_bytes());
     Ok(())

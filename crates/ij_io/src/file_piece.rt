@@ -37,7 +37,11 @@ pub fn put_piece<S: Shelf>(name: &str, piece: &SureSink, shelf: &mut S) -> Resul
 /// - `OutOfMemory`: the shelf had no memory for it.
 ///
 /// After any refusal the file holds some first bytes of the text, or all of it. Other files and the counts of failed loads stay.
-pub fn put_last_piece<S: Shelf>(name: &str, piece: &SureSink, shelf: &mut S) -> Result<(), StoreFault>
+pub fn put_last_piece<S: Shelf>(
+    name: &str,
+    piece: &SureSink,
+    shelf: &mut S,
+) -> Result<(), StoreFault>
     ensures there { OnOk result (IsThere (S.files shelf.new) name.now) }
     ensures whole { OnOk result (told_bytes (S.files shelf.new) name.now ≡ with_piece (S.files shelf.old) name.now piece.now) }
     ensures part { OnErr result (IsThere (S.files shelf.old) name.now → HoldsFront (S.files shelf.new) name.now (with_piece (S.files shelf.old) name.now piece.now)) }

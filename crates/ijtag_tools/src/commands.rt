@@ -8,7 +8,7 @@ ghost use Rattle.ijtag_tools.specs.Words.{seen_command};
 use crate::words::ToolWords;
 use ij_io::{Shelf, Sink};
 use ijtag_core::{Command, accept_and_act};
-use ijtag_work::{Stop, Verdict, rows_settle};
+use ijtag_work::{Stop, Verdict, texts_are_decided};
 use std::alloc::Global;
 
 impl<'w> Command for ToolWords<'w> {
@@ -29,7 +29,7 @@ impl<'w> Command for ToolWords<'w> {
     fn works_settle()
         ensures { AreSettled task_named }
     {
-        rows_settle();
+        texts_are_decided();
     }
 
     fn run<'a, S: Shelf, O: Sink>(

@@ -23,7 +23,8 @@ fn count_clocks(player: &mut Player) -> u64
     ensures { result ≡ length player.old.pins }
 {
     let mut clocks = 0u64;
-    while let Some(_pins) = player.next() {
+    while let Some(pins) = player.next() {
+        let _pins = pins;
         clocks += 1;
     }
     clocks

@@ -1,8 +1,10 @@
 // The SVF texts of a procedure: the one that a compile writes, and one that is planned as a whole.
-ghost use Rattle.std.specs.Prelude.{◌≡◌, ◌≤◌, false, not, true, length, IfOk, IfSome, OnOk};
+ghost use Rattle.std.specs.Prelude.{◌≡◌, ◌≤◌, false, not, true, length, IfOk, IfSome, Ok};
 ghost use Rattle.svf_audit.specs.Audit.{audit as audit_commands};
 ghost use Rattle.svf_audit.specs.Report.{says_no};
-ghost use Rattle.tap_machine.specs.Play.{scans_in};
+ghost use Rattle.svf_reader.specs.Meaning.{svf};
+ghost use Rattle.tap_machine.specs.declared.Stable.TheVariants.{Reset as InReset};
+ghost use Rattle.tap_machine.specs.Play.{pins, scans_in};
 ghost use Rattle.ijtag_work.specs.Using.{IsUsable, seen_accepted, there};
 ghost use Rattle.ijtag_tools.specs.Planned.{IsCompiled, IsSound, IsTightened};
 
@@ -79,7 +81,11 @@ fn compiled(alloc: Global, it: &Accepted) -> Result<Planned, OutOfMemory>
 }
 
 /// The commands that a reader finds in a text, where it finds some.
+#[tactic(auto, unfolding(ijtag_stages::specs::SvfText::svf_text))]
 fn read(alloc: Global, text: &[u8]) -> Result<Option<Commands>, OutOfMemory>
+    ensures found { IfOk result (λ found. IfSome found (λ commands. svf text.now ≡ Ok commands)) }
+    ensures clocks { IfOk result (λ found. IfSome found (λ commands. length (pins InReset 0 commands) ≤ 1000000000)) }
+    ensures scans { IfOk result (λ found. IfSome found (λ commands. scans_in commands ≤ 1000000000)) }
 {
     if text.len() > SVF_LIMIT as usize {
         return Ok(None);

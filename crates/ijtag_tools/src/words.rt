@@ -1,6 +1,6 @@
 // The words that the program is called with.
 ghost use Rattle.std.specs.Prelude.{◌≡◌, [], ◌∷◌, map, option_map};
-ghost use Rattle.ijtag_tools.specs.Command.{command_in, command_of, format_named, how_named};
+ghost use Rattle.ijtag_tools.specs.Command.{command_in, command_of, format_named, how_named, list_of, tighten_of};
 ghost use Rattle.ijtag_tools.specs.Order.{list, tighten};
 ghost use Rattle.ijtag_tools.specs.Words.{seen_command, seen_list, seen_tighten};
 ghost use Rattle.ijtag_work.specs.Seen.{seen_load};
@@ -98,6 +98,48 @@ fn how_of(word: &str) -> Option<How>
     }
 }
 
+/// The command `list` of its words, where the first is a format.
+fn list_words<'a>(
+    format: &str,
+    icl: &'a str,
+    device: &'a str,
+    top: &'a str,
+) -> Option<ToolWords<'a>>
+    ensures { option_map seen_command result ≡ list_of (format_named format.now) icl.now device.now top.now }
+{
+    let format = format_of(format)?;
+    Some(ToolWords::List(ListWords {
+        format,
+        icl,
+        device,
+        top,
+    }))
+}
+
+/// The command `tighten` of its words, where the first is a way of planning.
+fn tighten_words<'a>(
+    how: &str,
+    icl: &'a str,
+    pdl: &'a str,
+    device: &'a str,
+    top: &'a str,
+    procedure: &'a str,
+    svf: &'a str,
+) -> Option<ToolWords<'a>>
+    ensures { option_map seen_command result ≡ tighten_of (how_named how.now) icl.now pdl.now device.now top.now procedure.now svf.now }
+{
+    let how = how_of(how)?;
+    Some(ToolWords::Tighten(TightenWords {
+        how,
+        icl,
+        pdl,
+        device,
+        top,
+        procedure,
+        svf,
+    }))
+}
+
 /// The command of five words.
 fn five_words<'a>(
     command: &str,
@@ -109,13 +151,7 @@ fn five_words<'a>(
     ensures { option_map seen_command result ≡ command_of (command.now ∷ format.now ∷ icl.now ∷ device.now ∷ top.now ∷ []) }
 {
     if command == "list" {
-        let format = format_of(format)?;
-        Some(ToolWords::List(ListWords {
-            format,
-            icl,
-            device,
-            top,
-        }))
+        list_words(format, icl, device, top)
     } else {
         None
     }
@@ -135,16 +171,7 @@ fn eight_words<'a>(
     ensures { option_map seen_command result ≡ command_of (command.now ∷ how.now ∷ icl.now ∷ pdl.now ∷ device.now ∷ top.now ∷ procedure.now ∷ svf.now ∷ []) }
 {
     if command == "tighten" {
-        let how = how_of(how)?;
-        Some(ToolWords::Tighten(TightenWords {
-            how,
-            icl,
-            pdl,
-            device,
-            top,
-            procedure,
-            svf,
-        }))
+        tighten_words(how, icl, pdl, device, top, procedure, svf)
     } else {
         None
     }

@@ -1,6 +1,6 @@
 -- What a file holds that was begun and then grown.
 use Rattle.std.specs.Prelude.{unwrap_or, option_map, ◌⊎◌}
-use Rattle.std.proofs.Common.{◌≡◌, inl, inr, ℕ, Option, Some, None, List, [], ◌∷◌, ◌++◌, take, length, refl, ap, sym, ◌∙◌}
+use Rattle.std.proofs.Common.{◌≡◌, inl, inr, ℕ, Option, Some, None, List, [], ◌++◌, take, length, take_all, le_refl, ap, sym, ◌∙◌}
 use Rattle.retargeter.specs.Files.{HoldsPart}
 use Rattle.ij_io.specs.Files.{Files, file_at, bytes_of, Grows, GrowsPart}
 use Rattle.std.proofs.lemmas.Option.{same_Some}
@@ -21,13 +21,9 @@ begun (Some f) (Some m) new name piece empty grows =
       | inr part ↦ inr (part.0, part.1 ∙ ap (λ (file : Option (List ℕ)). Some (Some (unwrap_or file [] ++ take part.0 piece))) is)
     ]
 
-take_all : (bytes : List ℕ) → take (length bytes) bytes ≡ bytes
-take_all [] = refl
-take_all (b ∷ bs) = ap (λ (l : List ℕ). b ∷ l) (take_all bs)
-
 -- after a begin, an append, and a refused end: all of it
 pub ended : (old mid new : Option Files) (name piece : List ℕ) → file_at mid name ≡ option_map (λ f. Some []) old → Grows mid new name piece → HoldsPart old new name piece
 ended old mid new name piece empty grows =
     begun old mid new name piece empty (record {
-      either = inr (length piece, grows.grown ∙ ap (λ (bytes : List ℕ). option_map (λ f. Some (bytes_of f name ++ bytes)) mid) (sym (take_all piece)));
+      either = inr (length piece, grows.grown ∙ ap (λ (bytes : List ℕ). option_map (λ f. Some (bytes_of f name ++ bytes)) mid) (sym (take_all (length piece) piece (le_refl (length piece)))));
     })

@@ -26,8 +26,8 @@ use Rattle.ijtag_work.specs.Leaves.{Leaves, Written}
 use Rattle.ijtag_work.specs.Loads.{Load, loaded, loaded_one}
 use Rattle.ijtag_work.specs.Order.{accepted_made, audit, commands_of, compile, compiled, direct, direct_texts, made_files, made_of, make_work, mux_test, mux_tested, play, read_tables_of, run, run_of, run_report, taken, taken_one, task, within_limit, written_text}
 use Rattle.mux_test.specs.Test.{scanned}
-use Rattle.ijtag_work.specs.Runs.{AreDecided, AreSettled, IsSettled, RowsSettle}
-use Rattle.ijtag_work.specs.Task.{Row, Task, row_work, task_of, work}
+use Rattle.ijtag_work.specs.Runs.{AreDecided, AreSettled, IsSettled}
+use Rattle.ijtag_work.specs.Task.{Row, Task, row_work, work}
 
 -- ---- work that is decided is settled, and so is what follows it
 
@@ -54,7 +54,7 @@ unfolding loaded_one
 one_decided files load =
     record { one = λ a b p q. p.1 ∙ sym q.1; apart = λ a r p q. fits_not a (bytes_of files load.name) load.limit p.0 p.1 q.1; alike = λ r s p q. p.0 ∙ sym q.0 }
 
-loads_decided : (files : Files) (loads : List Load) → IsDecided (loaded (Some files) loads)
+pub loads_decided : (files : Files) (loads : List Load) → IsDecided (loaded (Some files) loads)
 loads_decided files [] = give_decided []
 loads_decided files (load ∷ loads) =
     in_turn_decided (loaded_one (Some files) load) _ (one_decided files load) (λ text. in_turn_decided (loaded (Some files) loads) _ (loads_decided files loads) (λ texts. give_decided (text ∷ texts)))
@@ -145,7 +145,7 @@ module _ (stages : StagesAreDecided) (texts_one : TextsAreOne) (places_one : Pla
       (λ models. in_turn_decided (if_given t.pdl (followed network t.procedure)) _ (given_decided t.pdl (followed network t.procedure) (followed_decided network t.procedure))
       (λ steps. give_decided _)))))))
 
-  accepted_of_decided : (t : Option Texts) → IsDecided (accepted_of t)
+  pub accepted_of_decided : (t : Option Texts) → IsDecided (accepted_of t)
   accepted_of_decided None = never_decided
   accepted_of_decided (Some t) = accepted_decided t
 
@@ -197,9 +197,3 @@ module _ (stages : StagesAreDecided) (texts_one : TextsAreOne) (places_one : Pla
 
   pub work_decided : AreDecided task
   work_decided files command = in_turn_decided (loaded (Some files) (task command).loads) _ (loads_decided files (task command).loads) (work_on_decided command)
-
-  -- a command of any table
-  pub row_settled : RowsSettle
-  row_settled row leaves files =
-      in_turn_settled (loaded (Some files) row.loads) (row_work row) (loads_decided files row.loads)
-      (λ texts. in_turn_settled (accepted_of (row.texts texts)) row.leaves (accepted_of_decided (row.texts texts)) leaves)

@@ -5,12 +5,12 @@ use Rattle.ij_io.specs.Bytes.{Adds, AddsPart}
 use Rattle.ij_io.specs.Causes.{Rose}
 use Rattle.ij_io.specs.Files.{Files, file_at}
 use Rattle.retargeter.specs.Files.{HoldsPart}
-use Rattle.ijtag_work.specs.Loads.{Load, loaded_one, names_of, IsOneOf, IsNoneOf}
+use Rattle.ijtag_work.specs.Loads.{Load, loaded, loaded_one, names_of, IsOneOf, IsNoneOf}
 use Rattle.ijtag_work.specs.Leaves.{Leaves, Written}
 use Rattle.ijtag_stages.specs.Work.{IsDecided}
-use Rattle.ijtag_work.specs.Task.{Row, Task, task_of, work}
+use Rattle.ijtag_work.specs.Task.{Task, work}
 use Rattle.ijtag_stages.specs.Refusals.{Part, Refusal}
-use Rattle.ijtag_work.specs.Accepted.{SeenAccepted}
+use Rattle.ijtag_work.specs.Accepted.{Texts, accepted_of}
 use Rattle.ijtag_work.specs.Stops.{Stop, Usage, Refuses, ReadFault, WriteFault, OutputFault, NoMemory, IsUsage}
 use Rattle.ijtag_work.specs.declared.status.Status.{Status}
 use Rattle.ijtag_work.specs.declared.status.Status.TheVariants.{Good, Differs, Usage as UsageStatus, Refused, ReadFault as ReadStatus, WriteFault as WriteStatus, OutOfMemory}
@@ -229,7 +229,10 @@ pub record IsSettled (part : Part Leaves) : Type 0 where
 abbrev pub AreSettled : {C : Type 0} → (C → Task) → Type 0
 AreSettled {C} task = (files : Files) (command : C) → IsSettled (work (Some files) (task command))
 
--- so it is of a command that accepts texts, where it is of what it leaves of what they are accepted as
-abbrev pub RowsSettle : Type 0
-RowsSettle =
-    (row : Row) → ((it : SeenAccepted) → IsSettled (row.leaves it)) → (files : Files) → IsSettled (work (Some files) (task_of row))
+-- ---- what comes before the work of a command that accepts texts: its loads, and what its texts are accepted as, are one
+
+abbrev pub LoadsAreDecided : Type 0
+LoadsAreDecided = (files : Files) (loads : List Load) → IsDecided (loaded (Some files) loads)
+
+abbrev pub TextsAreDecided : Type 0
+TextsAreDecided = (texts : Option Texts) → IsDecided (accepted_of texts)

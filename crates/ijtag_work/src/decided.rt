@@ -1,6 +1,6 @@
 // What follows from the order of work.
 ghost use Rattle.ijtag_work.specs.Order.{task};
-ghost use Rattle.ijtag_work.specs.Runs.{AreDecided, AreSettled, RowsSettle};
+ghost use Rattle.ijtag_work.specs.Runs.{AreDecided, AreSettled, LoadsAreDecided, TextsAreDecided};
 
 use headline::planned_steps_law;
 use ijtag_stages::stages_are_decided;
@@ -19,9 +19,13 @@ pub fn works_are_decided()
     places_are_one();
 }
 
-/// The work of any command that accepts texts is settled where what it leaves of what they are accepted as is.
-pub fn rows_settle()
-    ensures { RowsSettle }
+/// What comes before the work of any command that accepts texts comes to one end at most.
+///
+/// - `loads`: the texts that are loaded are one, or the refusal is one, and not both.
+/// - `texts`: so is what they are accepted as.
+pub fn texts_are_decided()
+    ensures loads { LoadsAreDecided }
+    ensures texts { TextsAreDecided }
 {
     stages_are_decided();
     planned_steps_law();

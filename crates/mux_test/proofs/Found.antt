@@ -1,8 +1,9 @@
 -- The test of a network's muxes: on the bench it is quiet, and a stuck mux that is seen is found.
-use Rattle.std.proofs.Common.{◌≡◌, ⊎_elim, ℕ, ◌<◌, ◌≤◌, true, List, [], ◌++◌, length, refl, sym, ap, ◌∙◌, subst, arith}
+use Rattle.std.proofs.Common.{◌≡◌, ⊎_elim, ℕ, ◌<◌, ◌≤◌, true, List, [], ◌∷◌, ◌++◌, length, refl, sym, ap, ◌∙◌, subst, arith}
 use Rattle.std.specs.Prelude.{map}
 use Rattle.std.specs.List.{flat_map}
 use Rattle.std.proofs.lemmas.Bool.{cases_lt, true≢false}
+use Rattle.std.proofs.lemmas.List.{append-nil}
 use Rattle.instruments.specs.Machine.{Log, Machine, whole_log}
 use Rattle.net_graph.specs.declared.branch.Branch.{Branch}
 use Rattle.net_graph.specs.declared.device.Device.{Device}
@@ -27,12 +28,21 @@ use Rattle.net_bench.proofs.Commanding.{rests_idle}
 use Rattle.net_bench.proofs.Splitting.{play-append, compares_from-append}
 use Rattle.mux_test.specs.Seen.{begins, is_seen, is_seen_in_test}
 use Rattle.mux_test.specs.Test.{flushes, scanned, tested_from, branches}
-use Rattle.mux_test.specs.Laws.{IsTestable, stuck, after_test, compared, TestsAreQuiet, StuckAreFound, RowsAreReached}
+use Rattle.mux_test.specs.Laws.{IsTestable, stuck, after_scans, after_test, compared, TestsAreQuiet, StuckAreFound, RowsAreReached}
 use Rattle.mux_test.proofs.Flushing.{Rests}
 use Rattle.mux_test.proofs.Playing.{AreQuiet, quiet, finds_stuck, flushes_whole, data_as}
 use Rattle.mux_test.proofs.Preface.{preface_plays, preface_compares_nothing, preface_rests}
 use Rattle.mux_test.proofs.Testing.{all_branches, no_branches, not_empty, test_reached, test_unseen}
 use Rattle.net_bench.proofs.Wide.{captures_wide}
+
+-- the first of some scans
+first_unseen : (net : Net) (h : Holds) (xs ys : List Holds) → AreUnseen net h (xs ++ ys) → AreUnseen net h xs
+first_unseen net h [] ys u = tt
+first_unseen net h (x ∷ xs) ys u = (u.0, first_unseen net x xs ys u.1)
+
+none_first : (xs ys : List Holds) → xs ++ ys ≡ [] → xs ≡ []
+none_first [] ys e = refl
+none_first (x ∷ xs) ys e = let l : length (x ∷ xs ++ ys) ≡ 0 = ap length e in absurd (omega (arith, l))
 
 module _ (net : Net) (form : Items) (t : IsTestable net form) where
   abbrev start : Holds
@@ -81,8 +91,9 @@ module _ (net : Net) (form : Items) (t : IsTestable net form) where
       s_insts : s.insts ≡ (power_up chip).insts
       s_insts = ap (λ (z : State L). z.insts) (preface_plays chip some)
 
-      plays : after_test chip form ≡ play_from chip 1 all s
-      plays = play-append chip pre all 0 (power_up chip) (flushes_whole net start hs) (rests_idle s s_rests.idle)
+      plays : (first : List Holds) → after_scans chip first ≡ play_from chip 1 (map SDR (flushes net start first)) s
+      plays first =
+          play-append chip pre (map SDR (flushes net start first)) 0 (power_up chip) (flushes_whole net start first) (rests_idle s s_rests.idle)
 
       compares : compared chip form ≡ compares_from chip 1 all s
       compares =
@@ -97,21 +108,27 @@ module _ (net : Net) (form : Items) (t : IsTestable net form) where
     abbrev good : Chip L
     good = fault_free log net device machines
 
-    with_muxes : 0 < length net.muxes.items → AreQuiet good 1 (s (route_of net)) start hs
-    with_muxes some_mux =
-        let s0 = s (route_of net) in
-        subst (λ z. AreQuiet good 1 s0 z hs) (s_holds (route_of net)) (quiet good t.well_formed wide (λ h. route_is net h t.well_formed) (not_empty net form t some_mux) (λ h. refl) hs 1 s0 (s_rests (route_of net)) (here (route_of net) (IsScannable net) scannable) (here (route_of net) (λ z. AreUnseen net z hs) unseen))
+    module _ (first later : List Holds) (both : first ++ later ≡ hs) where
+      with_muxes : 0 < length net.muxes.items → AreQuiet good 1 (s (route_of net)) start first
+      with_muxes some_mux =
+          let s0 = s (route_of net) in
+          let u = first_unseen net start first later (subst (AreUnseen net start) (sym both) unseen) in
+          subst (λ z. AreQuiet good 1 s0 z first) (s_holds (route_of net)) (quiet good t.well_formed wide (λ h. route_is net h t.well_formed) (not_empty net form t some_mux) (λ h. refl) first 1 s0 (s_rests (route_of net)) (here (route_of net) (IsScannable net) scannable) (here (route_of net) (λ z. AreUnseen net z first) u))
 
-    good_quiet : AreQuiet good 1 (s (route_of net)) start hs
-    good_quiet =
-        ⊎_elim (λ some_mux. with_muxes some_mux) (λ none. subst (AreQuiet good 1 (s (route_of net)) start) (sym (no_scans none)) (record { holds = s_holds (route_of net); insts = refl; none = refl })) (cases_lt 0 (length net.muxes.items))
+      good_quiet : AreQuiet good 1 (s (route_of net)) start first
+      good_quiet =
+          ⊎_elim (λ some_mux. with_muxes some_mux) (λ none. subst (AreQuiet good 1 (s (route_of net)) start) (sym (none_first first later (both ∙ no_scans none))) (record { holds = s_holds (route_of net); insts = refl; none = refl })) (cases_lt 0 (length net.muxes.items))
+
+      pub scans_held : (after_scans good first).holds ≡ last_holds start first
+      scans_held = ap (λ (z : State L). z.holds) (plays (route_of net) first) ∙ good_quiet.holds
 
     pub quiet_test : (differing (compared good form) ≡ []) × ((after_test good form).insts ≡ (power_up good).insts) × ((after_test good form).holds ≡ last_holds start hs)
-    quiet_test = (
-      ap differing (compares (route_of net)) ∙ good_quiet.none,
-      ap (λ (z : State L). z.insts) (plays (route_of net)) ∙ good_quiet.insts ∙ s_insts (route_of net),
-      ap (λ (z : State L). z.holds) (plays (route_of net)) ∙ good_quiet.holds,
-    )
+    quiet_test =
+        let all_quiet = good_quiet hs [] (append-nil hs) in (
+          ap differing (compares (route_of net)) ∙ all_quiet.none,
+          ap (λ (z : State L). z.insts) (plays (route_of net) hs) ∙ all_quiet.insts ∙ s_insts (route_of net),
+          scans_held hs [] (append-nil hs),
+        )
 
     -- ---- with a stuck mux
 
@@ -134,7 +151,7 @@ module _ (net : Net) (form : Items) (t : IsTestable net form) where
 pub tests_are_quiet : TestsAreQuiet
 tests_are_quiet net form device machines t v =
     let (none, insts, holds) = quiet_test net form t whole_log device machines v in
-    record { none_differs = none; no_event = insts; data_stays = λ b f. ap (λ h. hold_at h b) holds ∙ data_as net (start_holds net) (scanned net form) b (unseen net form t) f }
+    record { none_differs = none; no_event = insts; data_stays = λ b f. ap (λ h. hold_at h b) holds ∙ data_as net (start_holds net) (scanned net form) b (unseen net form t) f; stages = scans_held net form t whole_log device machines v }
 
 pub stuck_are_found : StuckAreFound
 stuck_are_found net form device machines b t v seen = stuck_found net form t whole_log device machines v b seen

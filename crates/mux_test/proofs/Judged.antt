@@ -16,13 +16,14 @@ use Rattle.path_planner.specs.Scannable.{IsScannable}
 use Rattle.scan_packer.specs.Packing.{CanScan}
 use Rattle.net_graph.specs.declared.branch.Branch.{Branch}
 use Rattle.net_graph.specs.declared.net.Net.{Net}
+use Rattle.net_graph.specs.declared.step.WriteBit.{WriteBit}
 use Rattle.net_graph.specs.Path.{route_of}
 use Rattle.net_graph.specs.Signals.{Holds}
 use Rattle.net_graph.specs.Stuck.{stuck_route}
 use Rattle.mux_test.specs.declared.judge.JudgedRow.{JudgedRow}
 use Rattle.mux_test.specs.declared.judge.Verdict.{Verdict}
 use Rattle.mux_test.specs.declared.judge.Verdict.TheVariants.{Open, Seen, Unseen}
-use Rattle.mux_test.specs.Judged.{judged_row, judged_rows, verdict_of, open_row, is_untold, untold_rows, unseen_rows}
+use Rattle.mux_test.specs.Judged.{judge, judged_row, judged_rows, verdict_of, open_row, is_untold, untold_rows, unseen_rows}
 use Rattle.mux_test.specs.Seen.{begins, is_seen}
 use Rattle.mux_test.specs.declared.planned.PlannedScan.{PlannedScan}
 use Rattle.mux_test.specs.Planned.{AreFlushable, holds_after, seen_planned}
@@ -85,6 +86,40 @@ module _ (net : Net) where
       on false later = later
 
 -- ---- judging, as loops do it
+
+-- a scan without a write
+pub was_empty : (b : Bool) → not b ≡ false → b ≡ true
+was_empty true e = refl
+was_empty false e = sym e
+
+-- what a scan says of a row it says again
+module _ (net : Net) (h : Holds) where
+  says_again : (b : Branch) (v : Verdict) → judge net h b (judge net h b v) ≡ judge net h b v
+  says_again b Seen = refl
+  says_again b Unseen = refl
+  says_again b Open =
+      let own = route_of net h in
+      let other = stuck_route net b h in
+      on (same_registers own other) (length (chain own h) == length (chain other h)) refl
+    where
+      on : (s t : Bool) → same_registers (route_of net h) (stuck_route net b h) ≡ s
+          → judge net h b (elim s as (λ _. Verdict) [ true ↦ Open | false ↦ elim t as (λ _. Verdict) [ true ↦ Unseen | false ↦ Seen ] ]) ≡ elim s as (λ _. Verdict) [ true ↦ Open | false ↦ elim t as (λ _. Verdict) [ true ↦ Unseen | false ↦ Seen ] ]
+      on true t e =
+          ap (λ (s : Bool). elim s as (λ _. Verdict) [ true ↦ Open | false ↦ elim (length (chain (route_of net h) h) == length (chain (stuck_route net b h) h)) as (λ _. Verdict) [ true ↦ Unseen | false ↦ Seen ] ]) e
+      on false true e = refl
+      on false false e = refl
+
+  judged_again : (rows : List JudgedRow) → map (judged_row net h) (map (judged_row net h) rows) ≡ map (judged_row net h) rows
+  judged_again [] = refl
+  judged_again (r ∷ rs) =
+      ap (λ v. record { branch = r.branch; verdict = v } ∷ map (judged_row net h) (map (judged_row net h) rs)) (says_again r.branch r.verdict)
+      ∙ ap (λ xs. judged_row net h r ∷ xs) (judged_again rs)
+
+  -- after a scan that changes nothing, rows are judged already
+  pub next_alike : (next : Holds) (ws : List WriteBit) (rows now : List JudgedRow) → next ≡ write_all h ws → ws ≡ [] → now ≡ map (judged_row net h) rows → map (judged_row net next) now ≡ now
+  next_alike next ws rows now n e a =
+      let same : next ≡ h = n ∙ ap (write_all h) e in
+      ap (λ k. map (judged_row net k) now) same ∙ ap (map (judged_row net h)) a ∙ judged_again rows ∙ sym a
 
 -- what doesn't change the path says nothing
 pub says_nothing : (h : Holds) (own other : List ℕ) → other ≡ own → Open ≡ verdict_of h own other

@@ -13,3 +13,4 @@ pub mod StuckPaths
 pub mod Judged
 pub mod Listing
 pub mod Planning
+pub mod StuckPlays

@@ -3,7 +3,7 @@ use Rattle.std.proofs.Common.{◌≡◌, ◌⊎◌, inl, inr, ℕ, zero, suc, �
 use Rattle.std.specs.Prelude.{map, All, option_map, ◌==◌, unwrap_or, slice_set}
 use Rattle.std.specs.List.{slice_get}
 use Rattle.std.specs.Option.{option_and_then}
-use Rattle.std.proofs.lemmas.Bool.{cases_eq, eq-eqb, eqb-true, true≢false}
+use Rattle.std.proofs.lemmas.Bool.{cases_eq, cases_lt, eq-eqb, eqb-true, true≢false}
 use Rattle.std.proofs.lemmas.List.{append_assoc, append-nil, get_or-map, get_or-set_same, get_or-set_other, length-set}
 use Rattle.std.proofs.lemmas.List.Elements.{All-head, All-tail}
 use Rattle.std.proofs.lemmas.Option.{same_Some, none-some}
@@ -24,7 +24,8 @@ use Rattle.net_graph.specs.Stuck.{trace_by, row_source, stuck_source}
 use Rattle.net_graph.specs.Tracing.{registers_at}
 use Rattle.net_graph.proofs.Tracing.{before_is_point, mux_points, route_fits}
 use Rattle.path_planner.specs.Planning.{IsBranchOf}
-use Rattle.mux_test.specs.Steps.{HasMark, before, marked, source_of}
+use Rattle.mux_test.specs.Judging.{IsKnown}
+use Rattle.mux_test.specs.Steps.{HasMark, before, marked, noted, source_of}
 
 -- ---- what a mux passes on
 
@@ -191,6 +192,44 @@ module _ (net : Net) (source : ℕ → Option Point) where
           let fits = route_fits (length net.regs.items) whole (subst (λ o. IsRoute (length net.regs.items) (unwrap_or o [])) e r) in
           absurd (omega (arith, fits, l, longer n tail f, ap length g, length-append met tail))
 
+-- ---- what is known of what muxes pass on
+
+pub none_known : (net : Net) (holds : Holds) (passed : List (Option Point)) → length passed ≡ length net.muxes.items → ((m : ℕ) → get_or passed m None ≡ None) → IsKnown net holds passed
+none_known net holds passed l none = record { long = l; right = λ m p e. absurd (none-some p (sym (none m) ∙ e)) }
+
+past : (xs : List (Option Point)) (m : ℕ) → length xs ≤ m → get_or xs m None ≡ None
+past [] m l = refl
+past (x ∷ xs) zero l = absurd (omega (arith, l))
+past (x ∷ xs) (suc m) l = past xs m (omega (arith, l))
+
+-- one place more is made nothing
+pub none_set : (xs now : List (Option Point)) (i : ℕ) → i < length xs → now ≡ slice_set xs i None → ((m : ℕ) → m < i → get_or xs m None ≡ None) → (m : ℕ) → m < i + 1 → get_or now m None ≡ None
+none_set xs now i l e f m h = ap (λ (ys : List (Option Point)). get_or ys m None) e ∙ on (cases_lt m i)
+  where
+    on : (m < i) ⊎ (i ≤ m) → get_or (slice_set xs i None) m None ≡ None
+    on (inl k) = get_or-set_other xs i m None None (λ s. absurd (omega (arith, s, k))) ∙ f m k
+    on (inr k) =
+        let same : m ≡ i = omega (arith, h, k) in
+        ap (λ j. get_or (slice_set xs i None) j None) same ∙ get_or-set_same xs i None None l
+
+pub all_none : (xs : List (Option Point)) (i : ℕ) → length xs ≤ i → ((m : ℕ) → m < i → get_or xs m None ≡ None) → (m : ℕ) → get_or xs m None ≡ None
+all_none xs i l f m = on (cases_lt m i)
+  where
+    on : (m < i) ⊎ (i ≤ m) → get_or xs m None ≡ None
+    on (inl k) = f m k
+    on (inr k) = past xs m (omega (arith, l, k))
+
+pub next_known : (net : Net) (holds : Holds) (passed now : List (Option Point)) (at : Point) (source : Option Point) → HasMark passed at → source ≡ before net (mux_source net holds) at → now ≡ noted passed at source → IsKnown net holds passed → IsKnown net holds now
+next_known net holds passed now Entry source h e a k = subst (IsKnown net holds) (sym a) k
+next_known net holds passed now (Reg r) source h e a k = subst (IsKnown net holds) (sym a) k
+next_known net holds passed now (FromMux x) source h e a k =
+    subst (IsKnown net holds) (sym a) (record { long = length-set passed x source ∙ k.long; right = λ m p f. on m p f (cases_eq m x) })
+  where
+    on : (m : ℕ) (p : Point) → get_or (slice_set passed x source) m None ≡ Some p → (m ≡ x) ⊎ ((m ≡ x) → ⊥) → mux_source net holds m ≡ Some p
+    on m p f (inl s) =
+        ap (mux_source net holds) s ∙ sym e ∙ sym (get_or-set_same passed x source None h) ∙ ap (λ j. get_or (slice_set passed x source) j None) (sym s) ∙ f
+    on m p f (inr n) = k.right m p (sym (get_or-set_other passed x m source None n) ∙ f)
+
 -- ---- the muxes met so far
 
 pub still_long : (marks now : List Bool) (p : Point) → now ≡ marked marks p → length now ≡ length marks
@@ -198,10 +237,10 @@ still_long marks now Entry e = ap length e
 still_long marks now (Reg r) e = ap length e
 still_long marks now (FromMux m) e = ap length e ∙ length-set marks m true
 
-pub has_mark : (net : Net) (marks : List Bool) (p : Point) → length marks ≡ length net.muxes.items → IsPointOf net p → HasMark marks p
-has_mark net marks Entry l i = tt
-has_mark net marks (Reg r) l i = tt
-has_mark net marks (FromMux m) l i = omega (arith, l, i)
+pub has_mark : {A : Type 0} (net : Net) (marks : List A) (p : Point) → length marks ≡ length net.muxes.items → IsPointOf net p → HasMark marks p
+has_mark {A} net marks Entry l i = tt
+has_mark {A} net marks (Reg r) l i = tt
+has_mark {A} net marks (FromMux m) l i = omega (arith, l, i)
 
 module _ (net : Net) (holds : Holds) where
   abbrev pub AreMet : ℕ → Point → List Bool → Type 0

@@ -1,5 +1,5 @@
 // The SVF file of a test.
-ghost use Rattle.std.specs.Prelude.{◌≡◌, ◌++◌, ◌<◌, All, List, Option, Some, ℕ, length, OnOk, OnErr};
+ghost use Rattle.std.specs.Prelude.{◌≡◌, ◌++◌, ◌<◌, [], All, List, Option, Some, ℕ, length, OnOk, OnErr};
 ghost use Rattle.std.specs.Option.{option_map};
 ghost use Rattle.ij_io.specs.Bytes.{Adds, AddsPart};
 ghost use Rattle.ij_io.specs.Causes.{HasCause, HasCauseAt, SameCounts};
@@ -64,6 +64,7 @@ fn put_scans<'a, S: Shelf>(
     ensures others { OthersStay (S.files shelf.old) (S.files shelf.new) name.now }
     ensures cause { HasCauseAt name.now (S.store_faults shelf.old) (S.store_faults shelf.new) result StoreFault.Failed }
     ensures loads { SameCounts (S.load_faults shelf.old) (S.load_faults shelf.new) }
+    ensures given { OnOk result (test.new.scans ≡ []) }
     ensures unseen { test.new.unseen ≡ test.old.unseen }
     ensures scan_count { test.new.scan_count ≡ test.old.scan_count }
     ensures row_count { test.new.row_count ≡ test.old.row_count }
@@ -78,7 +79,7 @@ fn put_scans<'a, S: Shelf>(
 
 /// Writes the scans of a test that are still to come to a file, from its front (Serial Vector Format, revision E): the lines
 /// that bring a device to Run-Test/Idle with the link's instruction loaded, and then each scan on a line of its own, with a
-/// comment before the first one of each row. Of the text no more than one scan's and 65,536 bytes are kept.
+/// comment before the first one of each row. No scan is left then. Of the text no more than one scan's and 65,536 bytes are kept.
 ///
 /// # Errors
 ///
@@ -102,6 +103,7 @@ pub fn put_test_file<'a, S: Shelf>(
     ensures others { OthersStay (S.files shelf.old) (S.files shelf.new) name.now }
     ensures cause { HasCauseAt name.now (S.store_faults shelf.old) (S.store_faults shelf.new) result StoreFault.Failed }
     ensures loads { SameCounts (S.load_faults shelf.old) (S.load_faults shelf.new) }
+    ensures given { OnOk result (test.new.scans ≡ []) }
     ensures unseen { test.new.unseen ≡ test.old.unseen }
     ensures scan_count { test.new.scan_count ≡ test.old.scan_count }
     ensures row_count { test.new.row_count ≡ test.old.row_count }

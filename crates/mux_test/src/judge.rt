@@ -1,5 +1,5 @@
 // Which rows a mux may be stuck in unseen, scan by scan.
-ghost use Rattle.std.specs.Prelude.{◌≡◌, ◌+◌, ◌<◌, ◌≤◌, ◌^◌, [], ℕ, false, true, length, map, slice_index_or, All, IfOk, OnOk};
+ghost use Rattle.std.specs.Prelude.{◌≡◌, ◌+◌, ◌<◌, ◌≤◌, ◌^◌, [], ℕ, false, true, length, map, slice_index_or, All, IfOk, IsFalse, OnOk};
 ghost use Rattle.std.specs.Str.{bytes_eq as same_registers};
 ghost use Rattle.net_graph.specs.Chain.{chain, IsRoute, NotIn};
 ghost use Rattle.net_graph.specs.Held.{AreHolds};
@@ -17,7 +17,7 @@ ghost use Rattle.mux_test.specs.Seen.{begins};
 use crate::planned::PlannedScan;
 use crate::stuck::{find_stuck_path, is_passed, mark_met};
 use ij_bits::{Bits, List, OutOfMemory};
-use net_graph::{Branch, Holds, Net, find_path};
+use net_graph::{Branch, Holds, Net, Point, find_path};
 use path_planner::advance;
 use std::alloc::Global;
 
@@ -50,6 +50,8 @@ pub(crate) struct Judge {
     pub other: List<u32>,
     /// 1 for each mux that the active path goes through.
     pub met: Bits,
+    /// What such a mux passes on by its select.
+    pub passed: List<Option<Point>>,
 }
 
 /// No registers, and room for those of a network.
@@ -59,6 +61,18 @@ fn path_room(alloc: Global, net: &Net) -> Result<List<u32>, OutOfMemory>
     let mut path = List::new(alloc);
     path.reserve(net.regs.len())?;
     Ok(path)
+}
+
+/// Nothing known of any mux of a network.
+fn passed_room(alloc: Global, net: &Net) -> Result<List<Option<Point>>, OutOfMemory>
+    ensures { IfOk result (λ passed. length passed.items ≡ length net.now.muxes.items) }
+{
+    let mut passed = List::new(alloc);
+    passed.reserve(net.muxes.len())?;
+    for _mux in 0..net.muxes.len() {
+        passed.push_reserved(None);
+    }
+    Ok(passed)
 }
 
 /// How many bits the registers of a path have. Takes no memory.
@@ -108,6 +122,7 @@ impl Judge {
             own: path_room(alloc, net)?,
             other: path_room(alloc, net)?,
             met: Bits::zeros(alloc, net.muxes.len() as u32)?,
+            passed: passed_room(alloc, net)?,
         })
     }
 
@@ -120,7 +135,7 @@ impl Judge {
         ensures knows { Knows net.now holds.now self.new }
     {
         find_path(net, holds, &mut self.own);
-        mark_met(net, holds, &mut self.met);
+        mark_met(net, holds, &mut self.met, &mut self.passed);
     }
 
     /// What a scan says of a row that no scan has told yet. A mux that the path doesn't go through, or that passes on the same
@@ -135,10 +150,11 @@ impl Judge {
         ensures room { HasJudgeRoom net.now self.new }
         ensures knows { Knows net.now holds.now self.new }
     {
-        if !self.met.get(row.mux) || is_passed(net, holds, row) {
+        let passed = self.passed.as_slice();
+        if !self.met.get(row.mux) || is_passed(net, holds, passed, row) {
             return Verdict::Open;
         }
-        find_stuck_path(net, holds, row, &mut self.other);
+        find_stuck_path(net, holds, passed, row, &mut self.other);
         verdict_of(holds, self.own.as_slice(), self.other.as_slice())
     }
 
@@ -176,9 +192,24 @@ impl Judge {
             rows.set(i, self.judge(net, holds, *rows.get(i)));
         }
     }
+
+    /// The same where the scan before changed something; else they are judged so already. Takes no memory.
+    fn judge_changed(&mut self, net: &Net, holds: &Holds, changed: bool, rows: &mut List<JudgedRow>)
+        requires well_formed { IsNet net.now }
+        requires holds { AreHolds net.now holds.now }
+        requires rows { All (λ r. IsBranchOf net.now r.branch) rows.old.items }
+        requires room { HasJudgeRoom net.now self.old }
+        requires alike { IsFalse changed → map (judged.judged_row net.now holds.now) rows.old.items ≡ rows.old.items }
+        ensures rows { rows.new.items ≡ map (judged.judged_row net.now holds.now) rows.old.items }
+        ensures room { HasJudgeRoom net.now self.new }
+    {
+        if changed {
+            self.judge_rows(net, holds, rows);
+        }
+    }
 }
 
-/// Judges rows at the beginning of each scan of a test.
+/// Judges rows at the beginning of each scan of a test. A scan that changes nothing isn't told from the next one: they begin alike.
 fn judge_scans(
     alloc: Global,
     net: &Net,
@@ -192,8 +223,10 @@ fn judge_scans(
 {
     let mut holds = Holds::power_up(alloc, net)?;
     let mut judge = Judge::new(alloc, net)?;
+    let mut changed = true;
     for scan in scans {
-        judge.judge_rows(net, &holds, rows);
+        judge.judge_changed(net, &holds, changed, rows);
+        changed = !scan.plan.writes.is_empty();
         advance(&mut holds, &scan.plan);
     }
     Ok(())

@@ -1,19 +1,17 @@
 // The scans of a test, planned.
 ghost use Rattle.std.specs.Prelude.{◌≡◌, ◌+◌, ◌<◌, ◌≤◌, ◌∷◌, ◌++◌, ◌^◌, [], ℕ, drop, true, length, map, IfOk, OnOk, IsErrOf};
 ghost use Rattle.net_graph.specs.Nets.{IsNet};
-ghost use Rattle.path_planner.specs.Opening.{last_holds};
-ghost use Rattle.path_planner.specs.RowScans.{holds_after_each};
 ghost use Rattle.net_tree.specs.ScanPlans.{seen_plan};
 ghost use Rattle.mux_test.specs.Laws.{IsTestable};
-ghost use Rattle.mux_test.specs.Planned.{ArePlannedTest, AreWritable, row_planned, seen_planned};
+ghost use Rattle.mux_test.specs.Planned.{ArePlannedTest, row_planned, seen_planned};
 ghost use Rattle.mux_test.specs.Test as test;
 ghost use Rattle.mux_test.specs.declared.fault.MuxFault.TheVariants as fault;
 
 use crate::fault::MuxFault;
 use ij_bits::{List, OutOfMemory};
 use net_graph::{Branch, Holds, Net, Row};
-use net_tree::{ScanPlan, Tree};
-use path_planner::{advance, plan_row};
+use net_tree::{Route, ScanPlan, Tree};
+use path_planner::plan_row_on;
 use std::alloc::Global;
 
 /// A scan of a test, planned.
@@ -60,22 +58,18 @@ pub(crate) fn branches_of(alloc: Global, net: &Net) -> Result<List<Branch>, OutO
     Ok(branches)
 }
 
-/// Adds the scans of a row's plans, and leaves what the update stages hold after them.
+/// Adds the scans of a row's plans.
 fn push_scans(
     branch: Branch,
     plans: List<ScanPlan>,
-    holds: &mut Holds,
     scans: &mut List<PlannedScan>,
 ) -> Result<(), OutOfMemory>
-    requires { AreWritable holds.old (map seen_plan plans.items) }
-    ensures scans { OnOk result (map seen_planned scans.new.items ≡ map seen_planned scans.old.items ++ row_planned branch true (map seen_plan plans.items)) }
-    ensures holds { OnOk result (holds.new ≡ last_holds holds.old (holds_after_each holds.old (map seen_plan plans.items))) }
+    ensures { OnOk result (map seen_planned scans.new.items ≡ map seen_planned scans.old.items ++ row_planned branch true (map seen_plan plans.items)) }
 {
     let mut left = plans.into_vec();
     left.reverse();
     let mut first = true;
     'plans: while let Some(plan) = left.pop() {
-        advance(holds, &plan);
         scans.push(PlannedScan {
             branch,
             first,
@@ -86,7 +80,7 @@ fn push_scans(
     Ok(())
 }
 
-/// The scans of the test of these rows, which are all rows of the network's muxes.
+/// The scans of the test of these rows, which are all rows of the network's muxes. What is held and its route go on from row to row.
 pub(crate) fn plan_test(
     alloc: Global,
     net: &Net,
@@ -100,13 +94,15 @@ pub(crate) fn plan_test(
     ensures limit { (number : ℕ) → IsErrOf result (fault.Limit number) → (number ≡ 8192) × (8192 < length (test.scanned net.now tree.now)) }
 {
     let mut holds = Holds::power_up(alloc, net)?;
+    let mut route = Route::new(alloc, net)?;
+    tree.walk(net, &holds, &mut route);
     let mut scans = List::new(alloc);
     for branch in branches {
-        let plans = plan_row(alloc, net, tree, &holds, *branch)?;
+        let plans = plan_row_on(alloc, net, tree, *branch, &mut holds, &mut route)?;
         if LIMIT as usize - scans.len() < plans.len() {
             return Err(MuxFault::Limit { number: LIMIT });
         }
-        push_scans(*branch, plans, &mut holds, &mut scans)?;
+        push_scans(*branch, plans, &mut scans)?;
     }
     Ok(scans)
 }

@@ -11,6 +11,7 @@ ghost use Rattle.net_graph.specs.Stuck as stuck;
 ghost use Rattle.net_graph.specs.Tracing.{registers_at};
 ghost use Rattle.net_graph.specs.declared.net.Point.TheVariants as point;
 ghost use Rattle.path_planner.specs.Planning.{IsBranchOf};
+ghost use Rattle.mux_test.specs.Judging.{IsKnown};
 ghost use Rattle.mux_test.specs.Steps as steps;
 
 use ij_bits::{Bits, List};
@@ -42,11 +43,32 @@ fn selected_source(net: &Net, holds: &Holds, mux: u32) -> Option<Point>
     }
 }
 
+/// The same, by what is known already.
+fn known_source(net: &Net, holds: &Holds, passed: &[Option<Point>], mux: u32) -> Option<Point>
+    requires well_formed { IsNet net.now }
+    requires holds { AreHolds net.now holds.now }
+    requires known { IsKnown net.now holds.now passed.now }
+    requires mux { mux < length net.now.muxes.items }
+    ensures { result ≡ paths.mux_source net.now holds.now mux }
+{
+    match passed[mux as usize] {
+        Some(source) => Some(source),
+        None => selected_source(net, holds, mux),
+    }
+}
+
 /// What a mux passes on, where the mux of a row that it is stuck in passes on that row.
-fn source_of(net: &Net, stuck: Option<Branch>, holds: &Holds, mux: u32) -> Option<Point>
+fn source_of(
+    net: &Net,
+    stuck: Option<Branch>,
+    holds: &Holds,
+    passed: &[Option<Point>],
+    mux: u32,
+) -> Option<Point>
     requires well_formed { IsNet net.now }
     requires stuck { ForSome stuck (IsBranchOf net.now) }
     requires holds { AreHolds net.now holds.now }
+    requires known { IsKnown net.now holds.now passed.now }
     requires mux { mux < length net.now.muxes.items }
     ensures { result ≡ steps.source_of net.now stuck holds.now mux }
 {
@@ -55,25 +77,32 @@ fn source_of(net: &Net, stuck: Option<Branch>, holds: &Holds, mux: u32) -> Optio
             if mux == row.mux {
                 Some(row_source(net, row))
             } else {
-                selected_source(net, holds, mux)
+                known_source(net, holds, passed, mux)
             }
         }
-        None => selected_source(net, holds, mux),
+        None => known_source(net, holds, passed, mux),
     }
 }
 
 /// What is met before a point, going back.
-fn back(net: &Net, stuck: Option<Branch>, holds: &Holds, from: Point) -> Option<Point>
+fn back(
+    net: &Net,
+    stuck: Option<Branch>,
+    holds: &Holds,
+    passed: &[Option<Point>],
+    from: Point,
+) -> Option<Point>
     requires well_formed { IsNet net.now }
     requires stuck { ForSome stuck (IsBranchOf net.now) }
     requires holds { AreHolds net.now holds.now }
+    requires known { IsKnown net.now holds.now passed.now }
     requires there { IsPointOf net.now from }
     ensures { result ≡ steps.before net.now (steps.source_of net.now stuck holds.now) from }
 {
     match from {
         Point::Entry => Some(Point::Entry),
         Point::Reg(reg) => Some(net.regs.get(reg as usize).from),
-        Point::Mux(mux) => source_of(net, stuck, holds, mux),
+        Point::Mux(mux) => source_of(net, stuck, holds, passed, mux),
     }
 }
 
@@ -104,9 +133,16 @@ fn is_entry(at: Point) -> bool
 
 /// Leaves the registers of the active path in a list, nearest scan-out first, where a mux always passes on this row; and
 /// nothing where there is no path then. Takes no memory.
-pub(crate) fn find_stuck_path(net: &Net, holds: &Holds, row: Branch, path: &mut List<u32>)
+pub(crate) fn find_stuck_path(
+    net: &Net,
+    holds: &Holds,
+    passed: &[Option<Point>],
+    row: Branch,
+    path: &mut List<u32>,
+)
     requires well_formed { IsNet net.now }
     requires holds { AreHolds net.now holds.now }
+    requires known { IsKnown net.now holds.now passed.now }
     requires row { IsBranchOf net.now row }
     requires room { length net.now.regs.items ≤ length path.old.items + path.old.spare }
     ensures path { path.new.items ≡ stuck.stuck_route net.now row holds.now }
@@ -120,7 +156,7 @@ pub(crate) fn find_stuck_path(net: &Net, holds: &Holds, row: Branch, path: &mut 
             path.clear();
             return;
         }
-        match back(net, Some(row), holds, at) {
+        match back(net, Some(row), holds, passed, at) {
             Some(before) => at = before,
             None => {
                 path.clear();
@@ -143,19 +179,44 @@ fn mark(at: Point, met: &mut Bits)
     }
 }
 
-/// Marks the muxes that the active path goes through, and maybe others. Takes no memory.
-pub(crate) fn mark_met(net: &Net, holds: &Holds, met: &mut Bits)
+/// Notes what a point's mux passes on. Takes no memory.
+fn note(at: Point, before: Option<Point>, passed: &mut List<Option<Point>>)
+    requires { steps.HasMark passed.old.items at }
+    ensures { passed.new.items ≡ steps.noted passed.old.items at before }
+{
+    if let Point::Mux(mux) = at {
+        passed.set(mux as usize, before);
+    }
+}
+
+/// Nothing is known of any mux. Takes no memory.
+fn forget(passed: &mut List<Option<Point>>)
+    ensures long { length passed.new.items ≡ length passed.old.items }
+    ensures none { (m : ℕ) → slice_index_or passed.new.items m None ≡ None }
+{
+    for i in 0..passed.len() {
+        passed.set(i, None);
+    }
+}
+
+/// Marks the muxes that the active path goes through, and maybe others, and notes what they pass on. Takes no memory.
+pub(crate) fn mark_met(net: &Net, holds: &Holds, met: &mut Bits, passed: &mut List<Option<Point>>)
     requires well_formed { IsNet net.now }
     requires holds { AreHolds net.now holds.now }
     requires long { length met.old.items ≡ length net.now.muxes.items }
+    requires passed { length passed.old.items ≡ length net.now.muxes.items }
     ensures long { length met.new.items ≡ length net.now.muxes.items }
     ensures unmarked { (m : ℕ) → m < length net.now.muxes.items → slice_index_or met.new.items m false ≡ false → NotIn m (active_muxes net.now holds.now) }
+    ensures known { IsKnown net.now holds.now passed.new.items }
 {
     met.fill(false);
+    forget(passed);
     let mut at = net.out;
     for _turn in 0..net.regs.len() + net.muxes.len() {
         mark(at, met);
-        match back(net, None, holds, at) {
+        let source = back(net, None, holds, passed.as_slice(), at);
+        note(at, source, passed);
+        match source {
             Some(before) => at = before,
             None => return,
         }
@@ -163,13 +224,14 @@ pub(crate) fn mark_met(net: &Net, holds: &Holds, met: &mut Bits)
 }
 
 /// Whether a mux passes on by its select what it passes on in this row.
-pub(crate) fn is_passed(net: &Net, holds: &Holds, row: Branch) -> bool
+pub(crate) fn is_passed(net: &Net, holds: &Holds, passed: &[Option<Point>], row: Branch) -> bool
     requires well_formed { IsNet net.now }
     requires holds { AreHolds net.now holds.now }
+    requires known { IsKnown net.now holds.now passed.now }
     requires row { IsBranchOf net.now row }
     ensures { IsTrue result → paths.mux_source net.now holds.now row.mux ≡ stuck.row_source net.now row }
 {
-    match selected_source(net, holds, row.mux) {
+    match known_source(net, holds, passed, row.mux) {
         Some(source) => same_point(source, row_source(net, row)),
         None => false,
     }

@@ -17,5 +17,5 @@ returns-in_err-append-clause-part g c =
 pub returns-in_err-finish-clause-part : goal.returns-in_err-finish-clause-part
 returns-in_err-finish-clause-part g c =
     at_refusal c.from_residual-in_err-finish.result
-    (subst (λ (files : Option Files). HoldsPart (g.S.Shelf.files c.args.shelf.now) files c.args.name.now c.args.bytes.now) (sym c.in_err-finish.ensures.files)
+    (subst (λ (files : Option Files). HoldsPart (g.S.Shelf.files c.args.shelf.now) files c.args.name.now c.args.bytes.now) (sym c.finish.ensures.files)
     (ended (g.S.Shelf.files c.args.shelf.now) (g.S.Shelf.files c.begin.new.self) (g.S.Shelf.files c.append.new.self) c.args.name.now c.args.bytes.now c.in_ok-begin.ensures.empty c.in_ok-append.ensures.whole))

@@ -1,4 +1,4 @@
-use Rattle.mux_test.proofs.Judged.{all_judged, next_can, next_judged}
+use Rattle.mux_test.proofs.Judged.{all_judged, next_alike, next_can, next_judged, was_empty}
 use Rattle.mux_test.proofs.judge.judge_scans.Goals as goal
 
 pub loop-scan-preserved : goal.loop-scan-preserved
@@ -8,7 +8,8 @@ loop-scan-preserved c =
     let h = c.loop-scan.holds in
     record {
       can = next_can net c.args.scans.now i c.scan-item.result c.loop-scan-test.true c.scan-item.is h c.advance.new.holds c.advance.ensures c.loop-scan.invariant.can;
-      judged = next_judged net c.args.scans.now i c.scan-item.result c.loop-scan-test.true c.scan-item.is h c.advance.new.holds c.advance.ensures c.loop-scan.rows.items c.judge_rows.new.rows.items _ c.judge_rows.ensures.rows c.loop-scan.invariant.judged;
-      there = all_judged net h c.loop-scan.rows.items c.judge_rows.new.rows.items c.judge_rows.ensures.rows c.loop-scan.invariant.there;
-      room = c.judge_rows.ensures.room;
+      judged = next_judged net c.args.scans.now i c.scan-item.result c.loop-scan-test.true c.scan-item.is h c.advance.new.holds c.advance.ensures c.loop-scan.rows.items c.judge_changed.new.rows.items _ c.judge_changed.ensures.rows c.loop-scan.invariant.judged;
+      there = all_judged net h c.loop-scan.rows.items c.judge_changed.new.rows.items c.judge_changed.ensures.rows c.loop-scan.invariant.there;
+      alike = λ same. next_alike net h c.advance.new.holds c.scan-item.result.plan.writes.items c.loop-scan.rows.items c.judge_changed.new.rows.items c.advance.ensures (c.is_empty-changed.ensures.0 (was_empty c.is_empty-changed.result same)) c.judge_changed.ensures.rows;
+      room = c.judge_changed.ensures.room;
     }

@@ -1,10 +1,20 @@
 use Rattle.std.proofs.Common.{◌≡◌, List, length, sym, ap, subst, arith}
 use Rattle.std.specs.Prelude.{map}
+use Rattle.net_graph.specs.Held.{AreHolds}
+use Rattle.net_graph.specs.Path.{AreListed}
 use Rattle.mux_test.specs.declared.planned.PlannedScan.{PlannedScan}
 use Rattle.mux_test.specs.Planned.{seen_planned}
 use Rattle.mux_test.specs.Test.{branches}
-use Rattle.mux_test.proofs.Planning.{IsOnTheWay, at_end, at_start, can_open, can_start, can_write, done, next_length, next_row, test_has}
+use Rattle.mux_test.proofs.Planning.{IsOnTheWay, at_end, at_start, can_open, can_start, done, next_length, next_row, test_has}
 use Rattle.mux_test.proofs.planned.plan_test.Goals as goal
+
+pub walk-requires-clause-holds : goal.walk-requires-clause-holds
+walk-requires-clause-holds c =
+    subst (AreHolds c.args.net.now) (sym c.in_ok-holds.ensures) (can_start c.args.net.now c.args.tree.now c.requires.network).widths
+
+pub walk-requires-clause-listed : goal.walk-requires-clause-listed
+walk-requires-clause-listed c =
+    subst (AreListed c.args.net.now) (sym c.in_ok-holds.ensures) (can_start c.args.net.now c.args.tree.now c.requires.network).rows
 
 pub loop-branch-init : goal.loop-branch-init
 loop-branch-init c =
@@ -15,10 +25,12 @@ loop-branch-init c =
     record {
       way = subst (IsOnTheWay net form (map seen_planned c.new-scans.result.items) c.in_ok-holds.holds) (sym c.requires.branches) empty;
       short = omega (arith, ap length c.new-scans.ensures);
+      path = c.walk.ensures.path;
+      room = c.walk.ensures.room;
     }
 
-pub plan_row-requires : goal.plan_row-requires
-plan_row-requires c =
+pub plan_row_on-requires-clause-can : goal.plan_row_on-requires-clause-can
+plan_row_on-requires-clause-can c =
     can_open c.args.net.now c.args.tree.now c.requires.network c.loop-branch.scans.items c.loop-branch.holds c.args.branches.now c.loop-branch.branch-index (record { mux = 0; row = 0 }) c.requires.branches c.loop-branch-test.true c.loop-branch.invariant.way
 
 pub returns-then-len-clause-limit : goal.returns-then-len-clause-limit
@@ -27,16 +39,14 @@ returns-then-len-clause-limit c number e =
     let same : number ≡ 8192 = cc e in
     (same, omega (arith, has, c.if-len.true, c.len.ensures, c.len-in-loop-branch.ensures))
 
-pub push_scans-requires : goal.push_scans-requires
-push_scans-requires c =
-    can_write c.args.net.now c.args.tree.now c.requires.network c.loop-branch.scans.items c.loop-branch.holds c.args.branches.now c.loop-branch.branch-index (record { mux = 0; row = 0 }) c.requires.branches c.loop-branch-test.true c.loop-branch.invariant.way c.in_ok-plans.plans.items c.in_ok-plans.ensures.plans c.in_ok-plans.ensures.planned
-
 pub loop-branch-preserved : goal.loop-branch-preserved
 loop-branch-preserved c =
-    let long = next_length c.args.net.now c.args.tree.now c.requires.network c.loop-branch.scans.items c.loop-branch.holds c.args.branches.now c.loop-branch.branch-index (record { mux = 0; row = 0 }) c.requires.branches c.loop-branch-test.true c.loop-branch.invariant.way c.in_ok-plans.plans.items c.in_ok-plans.ensures.plans c.in_ok-plans.ensures.planned c.push_scans.new.scans.items c.push_scans.new.holds c.in_ok-push_scans.ensures.scans c.in_ok-push_scans.ensures.holds in
+    let long = next_length c.args.net.now c.args.tree.now c.requires.network c.loop-branch.scans.items c.loop-branch.holds c.args.branches.now c.loop-branch.branch-index (record { mux = 0; row = 0 }) c.requires.branches c.loop-branch-test.true c.loop-branch.invariant.way c.in_ok-plans.plans.items c.in_ok-plans.ensures.plans c.in_ok-plans.ensures.planned c.push_scans.new.scans.items c.plan_row_on.new.now c.in_ok-push_scans.ensures c.in_ok-plans.ensures.holds in
     record {
-      way = next_row c.args.net.now c.args.tree.now c.requires.network c.loop-branch.scans.items c.loop-branch.holds c.args.branches.now c.loop-branch.branch-index (record { mux = 0; row = 0 }) c.requires.branches c.loop-branch-test.true c.loop-branch.invariant.way c.in_ok-plans.plans.items c.in_ok-plans.ensures.plans c.in_ok-plans.ensures.planned c.push_scans.new.scans.items c.push_scans.new.holds c.in_ok-push_scans.ensures.scans c.in_ok-push_scans.ensures.holds;
+      way = next_row c.args.net.now c.args.tree.now c.requires.network c.loop-branch.scans.items c.loop-branch.holds c.args.branches.now c.loop-branch.branch-index (record { mux = 0; row = 0 }) c.requires.branches c.loop-branch-test.true c.loop-branch.invariant.way c.in_ok-plans.plans.items c.in_ok-plans.ensures.plans c.in_ok-plans.ensures.planned c.push_scans.new.scans.items c.plan_row_on.new.now c.in_ok-push_scans.ensures c.in_ok-plans.ensures.holds;
       short = omega (arith, long, c.if-len.false, c.len.ensures, c.len-in-loop-branch.ensures, c.loop-branch.invariant.short);
+      path = c.in_ok-plans.ensures.path;
+      room = c.plan_row_on.ensures.room;
     }
 
 pub returns-clause-planned : goal.returns-clause-planned

@@ -1,6 +1,6 @@
 use Rattle.std.proofs.Common.{◌+◌, ◌<◌, None, length, sym, ◌∙◌, arith}
 use Rattle.net_graph.proofs.Tracing.{reg_count}
-use Rattle.mux_test.proofs.StuckPaths.{before_there, has_mark, met_ends, met_turn, still_long}
+use Rattle.mux_test.proofs.StuckPaths.{before_there, has_mark, met_ends, met_turn, next_known, still_long}
 use Rattle.mux_test.proofs.stuck.mark_met.Goals as goal
 
 pub overflow_add-turn-end : goal.overflow_add-turn-end
@@ -20,5 +20,6 @@ loop-turn-preserved c =
     record {
       there = before_there net None c.args.holds.now c.loop-turn.at c.in-Some.before c.requires.well_formed c.loop-turn.invariant.there (sym c.in-Some.ensures);
       long = still_long c.loop-turn.met.items c.mark.new.met.items c.loop-turn.at c.mark.ensures ∙ c.loop-turn.invariant.long;
+      known = next_known net c.args.holds.now c.loop-turn.passed.items c.note.new.passed.items c.loop-turn.at c.back-source.result (has_mark net c.loop-turn.passed.items c.loop-turn.at c.loop-turn.invariant.known.long c.loop-turn.invariant.there) c.back-source.ensures c.note.ensures c.loop-turn.invariant.known;
       met = met_turn net c.args.holds.now c.loop-turn._turn c.loop-turn.at c.in-Some.before c.loop-turn.met.items c.mark.new.met.items turn (has_mark net c.loop-turn.met.items c.loop-turn.at c.loop-turn.invariant.long c.loop-turn.invariant.there) c.in-Some.ensures c.mark.ensures c.loop-turn.invariant.met;
     }

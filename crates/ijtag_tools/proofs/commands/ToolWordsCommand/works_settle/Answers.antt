@@ -3,4 +3,4 @@ use Rattle.ijtag_tools.proofs.commands.ToolWordsCommand.works_settle.Goals as go
 
 pub returns : goal.returns
 returns c =
-    all_settle c.rows_settle.ensures
+    all_settle c.texts_are_decided.ensures.loads c.texts_are_decided.ensures.texts
