@@ -1,7 +1,7 @@
 -- Texts that are written piece by piece.
-use Rattle.std.specs.Prelude.{All, Bool, true, false, codes, cond, filter}
+use Rattle.std.specs.Prelude.{◌==◌, All, Bool, true, false, codes, cond, filter}
 use Rattle.std.specs.List.{range_with_len}
-use Rattle.std.proofs.Common.{◌≡◌, ◌<◌, ◌≤◌, ◌+◌, ◌-◌, ℕ, zero, suc, Option, List, [], ◌∷◌, ◌++◌, length, get_or, drop, refl, sym, ap, ◌∙◌, subst, append_assoc, append-nil, arith}
+use Rattle.std.proofs.Common.{◌≡◌, ◌<◌, ◌≤◌, ◌+◌, ℕ, zero, suc, Option, List, [], ◌∷◌, ◌++◌, length, get_or, drop, refl, sym, ap, ◌∙◌, subst, append_assoc, append-nil, arith}
 use Rattle.std.proofs.Math.Seq.{drop-cons}
 use Rattle.std.proofs.lemmas.List.{drop_all}
 use Rattle.std.proofs.lemmas.List.Elements.{All-append, All-cons, All-nil, filter-append}
@@ -20,10 +20,11 @@ use Rattle.net_graph.specs.Signals.{Holds}
 use Rattle.net_graph.proofs.Routes.{route_in}
 use Rattle.net_graph.proofs.Widths.{chain_fits, started_held}
 use Rattle.net_list.specs.declared.format.ListFormat.{ListFormat}
-use Rattle.net_list.specs.Drivers.{bit_name, driver, drivers}
+use Rattle.net_graph.specs.declared.net.Sig.TheVariants.{Absent}
+use Rattle.net_list.specs.Drivers.{bit_name, driver, drivers, goes_on, is_followed, run_end, run_start}
 use Rattle.net_list.specs.Forms.{either, items, tern_digit, tern_digits}
 use Rattle.net_list.specs.Lines.{quoted, select_bits}
-use Rattle.net_list.specs.Listing.{lines_from}
+use Rattle.net_list.specs.Listing.{bit_count, lines_from, start_path_bits, totals_line, totals_text}
 
 -- ---- items of a list
 
@@ -120,12 +121,13 @@ one_kept p m = kept (p m)
 
 pub kept_next : (p : ℕ → Bool) (old new : List ℕ) (m s : ℕ) (b : Bool) → old ≡ filter p (range_with_len 0 m) → new ≡ old ++ cond b (m ∷ []) [] → b ≡ p m → s ≡ suc m → new ≡ filter p (range_with_len 0 s)
 kept_next p old new m s b so_far more is next =
+    let at : 0 + m ≡ m = omega arith in
     more
     ∙ ap (λ (xs : List ℕ). xs ++ cond b (m ∷ []) []) so_far
     ∙ ap (λ (c : Bool). filter p (range_with_len 0 m) ++ cond c (m ∷ []) []) is
     ∙ ap (λ (xs : List ℕ). filter p (range_with_len 0 m) ++ xs) (sym (one_kept p m))
     ∙ sym (filter-append p (range_with_len 0 m) (m ∷ []))
-    ∙ ap (filter p) (sym (range_more 0 m))
+    ∙ ap (filter p) (sym (range_more 0 m ∙ ap (λ (k : ℕ). range_with_len 0 m ++ k ∷ []) at))
     ∙ ap (λ (k : ℕ). filter p (range_with_len 0 k)) (sym next)
 
 pub below_next : (n m : ℕ) (old new : List ℕ) (b : Bool) → m < n → All (λ k. k < n) old → new ≡ old ++ cond b (m ∷ []) [] → All (λ k. k < n) new
@@ -145,3 +147,22 @@ module _ (net : Net) (h : Holds) (path : List ℕ) (n : IsNet net) (start : h �
 
   pub start_short : length (chain path h) ≤ 4096
   start_short = omega (arith, chain_fits net path h held start_route, n.bits_within_limit)
+
+pub totals_are : (f : ListFormat) (net : Net) (r b m i p : ℕ) → r ≡ length net.regs.items → b ≡ bit_count net → m ≡ length net.muxes.items → i ≡ length net.insts.items → p ≡ start_path_bits net
+    → totals_text f r b m i p ≡ totals_line f net
+totals_are f net r b m i p er eb em ei ep =
+    ap (λ (n : ℕ). totals_text f n b m i p) er
+    ∙ ap (λ (n : ℕ). totals_text f (length net.regs.items) n m i p) eb
+    ∙ ap (λ (n : ℕ). totals_text f (length net.regs.items) (bit_count net) n i p) em
+    ∙ ap (λ (n : ℕ). totals_text f (length net.regs.items) (bit_count net) (length net.muxes.items) n p) ei
+    ∙ ap (totals_text f (length net.regs.items) (bit_count net) (length net.muxes.items) (length net.insts.items)) ep
+
+-- ---- one position of what drives an input
+
+pub driver_is : (net : Net) (bits : List Sig) (p : ℕ) (s : Sig) (first more followed : Bool) → s ≡ get_or bits p Absent → first ≡ (suc p == length bits) → more ≡ goes_on bits p → followed ≡ is_followed bits p
+    → cond more [] (cond first [] (codes ",") ++ run_start net s) ++ cond followed [] (run_end net more s) ≡ driver net bits p
+driver_is net bits p s first more followed es ef em el =
+    ap (λ (x : Sig). cond more [] (cond first [] (codes ",") ++ run_start net x) ++ cond followed [] (run_end net more x)) es
+    ∙ ap (λ (x : Bool). cond more [] (cond x [] (codes ",") ++ run_start net (get_or bits p Absent)) ++ cond followed [] (run_end net more (get_or bits p Absent))) ef
+    ∙ ap (λ (x : Bool). cond x [] (cond (suc p == length bits) [] (codes ",") ++ run_start net (get_or bits p Absent)) ++ cond followed [] (run_end net x (get_or bits p Absent))) em
+    ∙ ap (λ (x : Bool). cond (goes_on bits p) [] (cond (suc p == length bits) [] (codes ",") ++ run_start net (get_or bits p Absent)) ++ cond x [] (run_end net (goes_on bits p) (get_or bits p Absent))) el

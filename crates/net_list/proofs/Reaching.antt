@@ -1,20 +1,20 @@
 -- The rows around a register are settled in the fewest scans that reach it.
-use Rattle.std.proofs.Common.{◌≡◌, ◌⊎◌, inl, inr, ⊎_elim, ℕ, zero, suc, ◌+◌, ◌<◌, ◌≤◌, true, false, List, [], ◌∷◌, ◌++◌, length, Some, Option, refl, sym, ap, ◌∙◌, subst, arith, length-append}
+use Rattle.std.proofs.Common.{◌≡◌, ◌⊎◌, inl, inr, ⊎_elim, ℕ, zero, suc, ◌+◌, ◌<◌, ◌≤◌, true, false, List, [], ◌∷◌, ◌++◌, length, Option, refl, sym, ap, ◌∙◌, subst, arith, length-append}
 use Rattle.std.specs.Prelude.{All, Contains, unwrap_or, get_or, map}
 use Rattle.std.proofs.lemmas.Bool.{true≢false, cases_Bool}
 use Rattle.std.proofs.lemmas.List.Elements.{All-cons}
 use Rattle.net_graph.specs.declared.branch.Branch.{Branch}
 use Rattle.net_graph.specs.declared.net.Net.{Net}
 use Rattle.net_graph.specs.declared.net.Point.TheVariants.{Reg as FromReg, Mux as FromMux}
-use Rattle.net_graph.specs.Groups.{registers_of, IsEmpty}
+use Rattle.net_graph.specs.Groups.{IsEmpty}
 use Rattle.net_graph.specs.Nets.{IsNet}
-use Rattle.net_graph.specs.Path.{active, route_of, is_in}
+use Rattle.net_graph.specs.Path.{route_of, is_in}
 use Rattle.net_graph.specs.Resets.{start_holds}
 use Rattle.net_graph.specs.Signals.{Holds}
 use Rattle.net_tree.specs.Form.{Items, Nothing, RegThen, MuxThen, Rows, NoRow, RowThen, Describes}
 use Rattle.net_tree.specs.Lawful.{IsLawful}
 use Rattle.net_tree.specs.Places.{Placed, placed, placed_rows, place_of}
-use Rattle.path_planner.specs.Least.{ScanStep, AreOnPath, Reaches, IsLeast}
+use Rattle.path_planner.specs.Least.{AreOnPath, Reaches, IsLeast}
 use Rattle.path_planner.specs.Opening.{AreUnseen, last_holds}
 use Rattle.path_planner.specs.Planning.{IsBranchOf}
 use Rattle.path_planner.specs.Rows.{row_needs, all_in, BringsIn}
@@ -25,10 +25,10 @@ use Rattle.net_tree.specs.declared.plan.ScanPlan.{ScanPlan}
 use Rattle.net_tree.specs.ScanPlans.{seen_plan}
 use Rattle.std.proofs.lemmas.List.{length-map}
 use Rattle.path_planner.specs.Scannable.{IsScannable}
-use Rattle.path_planner.specs.Settling.{settle, is_in_row}
-use Rattle.path_planner.proofs.Among.{Among, among-left, among-right, among-cases, all_among, among_contains, contains_among, on_true, true_on, true_all, all_true}
-use Rattle.path_planner.proofs.Inside.{IsAround, around, reg_item, mux_place, mux_below, path_open, open_path}
-use Rattle.path_planner.proofs.Opening.{IsPlaced, IsBehind, behind_itself, behind_next, next_listed, next_unseen}
+use Rattle.path_planner.specs.Settling.{is_in_row}
+use Rattle.path_planner.proofs.Among.{Among, among-left, among-right, among-cases, all_among, among_contains, contains_among, true_on, true_all, all_true}
+use Rattle.path_planner.proofs.Inside.{around, reg_item, mux_place, path_open, open_path}
+use Rattle.path_planner.proofs.Opening.{IsPlaced, IsBehind, behind_itself, behind_next, next_listed}
 use Rattle.path_planner.proofs.Places.{one_branch, AreIn}
 use Rattle.path_planner.proofs.RowOpening.{needed, opens_row}
 use Rattle.path_planner.proofs.RowScans.{brought, scans_are, unseen_listed}
@@ -77,10 +77,10 @@ module _ (net : Net) (form : Items) (d : Describes net form) where
   row_around r l =
       let (x, a, i, p) = reg_item net form d r l in
       ⊎_elim (λ e. inl (sym p ∙ e)) (λ (y, m, q, b, j, e).
-          let place : place_of form (FromReg r) ≡ place_of form (FromMux m) ++ one_branch m q = sym p ∙ e ∙ ap (λ z. z ++ one_branch m q) (sym (mux_place net form d y m b j)) in
-          let last : Among (record { mux = m; row = q }) (place_of form (FromReg r)) = subst (Among (record { mux = m; row = q })) (sym place) (among-right (record { mux = m; row = q }) (place_of form (FromMux m)) (one_branch m q) (inl refl)) in
-          let it = around net form d (FromReg r) (place_of form (FromReg r)) (record { mux = m; row = q }) (x, a, i, p) last in
-          inr (record { row = record { mux = m; row = q }; there = record { mux = it.there; row = it.row }; needs = place }))
+      let place : place_of form (FromReg r) ≡ place_of form (FromMux m) ++ one_branch m q = sym p ∙ e ∙ ap (λ z. z ++ one_branch m q) (sym (mux_place net form d y m b j)) in
+      let last : Among (record { mux = m; row = q }) (place_of form (FromReg r)) = subst (Among (record { mux = m; row = q })) (sym place) (among-right (record { mux = m; row = q }) (place_of form (FromMux m)) (one_branch m q) (inl refl)) in
+      let it = around net form d (FromReg r) (place_of form (FromReg r)) (record { mux = m; row = q }) (x, a, i, p) last in
+      inr (record { row = record { mux = m; row = q }; there = record { mux = it.there; row = it.row }; needs = place }))
       (inner form [] x a)
 
 -- ---- scans that reach one register
@@ -106,14 +106,14 @@ module _ (net : Net) (form : Items) (n : IsNet net) (d : Describes net form) (w 
   on_in h s t =
       let (path, e) = has_path net form n d w h s in
       let on = true_on r path (ap (λ (o : Option (List ℕ)). is_in (unwrap_or o []) r) (sym e) ∙ t) in
-      let open = path_open net form d h path r e on in
-      all_true (is_in_row net h) bs (λ c a. row_in net h c (open c a))
+      let around_it = path_open net form d h path r e on in
+      all_true (is_in_row net h) bs (λ c a. row_in net h c (around_it c a))
 
   in_on : (h : Holds) → IsScannable net h → all_in net bs h ≡ true → AreOnPath net (r ∷ []) h
   in_on h s t =
       let (path, e) = has_path net form n d w h s in
-      let open : AreIn net h bs = λ c a. in_row net h c (true_all (is_in_row net h) bs t c a) in
-      let on = open_path net form d h path r e l open in
+      let all_here : AreIn net h bs = λ c a. in_row net h c (true_all (is_in_row net h) bs t c a) in
+      let on = open_path net form d h path r e l all_here in
       (path, e, All-cons (Contains path) r [] (among_contains r path on) (λ k x below. absurd (omega (arith, below))))
 
   off_now : (h : Holds) → IsScannable net h → all_in net bs h ≡ false → is_in (route_of net h) r ≡ false

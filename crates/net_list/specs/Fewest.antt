@@ -1,5 +1,5 @@
 -- The fewest scans in which a register is first written from power-up on.
-use Rattle.std.specs.Prelude.{◌<◌, ℕ, false, List, [], ◌∷◌, length}
+use Rattle.std.specs.Prelude.{◌<◌, ℕ, false, [], ◌∷◌, length}
 use Rattle.net_graph.specs.declared.net.Net.{Net}
 use Rattle.net_graph.specs.declared.net.Point.TheVariants.{Reg}
 use Rattle.net_graph.specs.Nets.{IsNet}

@@ -1,5 +1,5 @@
 -- The lines of a register, a multiplexer and an instrument (IEEE 1687-2014, ICL: ScanRegister, ScanMux, Instance).
-use Rattle.std.specs.Prelude.{ℕ, zero, suc, ◌==◌, Bool, List, [], ◌∷◌, ◌++◌, codes, decimal, filter, get_or, length, map}
+use Rattle.std.specs.Prelude.{ℕ, zero, suc, ◌==◌, Bool, List, [], ◌++◌, codes, filter, get_or, length, map}
 use Rattle.std.specs.List.{list_any, range_with_len}
 use Rattle.net_graph.specs.declared.branch.Branch.{Branch}
 use Rattle.net_graph.specs.declared.net.BitId.{BitId}
@@ -8,7 +8,6 @@ use Rattle.net_graph.specs.declared.net.Point.TheVariants.{Reg, Mux}
 use Rattle.net_graph.specs.declared.net.PortIn.{PortIn}
 use Rattle.net_graph.specs.declared.net.PortOut.{PortOut}
 use Rattle.net_graph.specs.declared.net.Row.{Row}
-use Rattle.ij_bits.specs.declared.tern.Tern.{Tern}
 use Rattle.net_graph.specs.Named.{width_of}
 use Rattle.net_graph.specs.Path.{rows_of}
 use Rattle.net_graph.specs.PathNames.{instance_path, mux_path}

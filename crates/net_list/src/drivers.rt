@@ -1,5 +1,5 @@
 // What drives the inputs of instruments.
-ghost use Rattle.std.specs.Prelude.{◌≡◌, ◌<◌, ◌≤◌, ◌++◌, [], codes, cond, length, All, OnOk, OnErr};
+ghost use Rattle.std.specs.Prelude.{◌≡◌, ◌<◌, ◌==◌, ◌++◌, [], suc, codes, cond, get_or, length, All, OnOk, OnErr};
 ghost use Rattle.ij_io.specs.Bytes.{Adds, AddsPart};
 ghost use Rattle.ij_io.specs.Causes.{HasCause};
 ghost use Rattle.net_graph.specs.Named.{IsInputOf};
@@ -183,6 +183,22 @@ fn put_end<K: Sink>(
     }
 }
 
+/// The signal at a position.
+fn signal_at(bits: &[Sig], pos: usize) -> Sig
+    requires { pos < length bits.now }
+    ensures { result ≡ get_or bits.now pos sig.Absent }
+{
+    bits[pos]
+}
+
+/// Whether a position is the left one.
+fn is_leftmost(bits: &[Sig], pos: usize) -> bool
+    requires { pos < length bits.now }
+    ensures { result ≡ (suc pos == length bits.now) }
+{
+    pos + 1 == bits.len()
+}
+
 /// Writes one position of what drives an input.
 fn put_driver<K: Sink>(net: &Net, bits: &[Sig], pos: usize, k: &mut K) -> Result<(), StoreFault>
     requires well_formed { IsNet net.now }
@@ -192,10 +208,12 @@ fn put_driver<K: Sink>(net: &Net, bits: &[Sig], pos: usize, k: &mut K) -> Result
     ensures part { OnErr result (AddsPart (K.taken k.old) (K.taken k.new) (drivers.driver net.now bits.now pos)) }
     ensures cause { HasCause (K.faults k.old) (K.faults k.new) result StoreFault.Failed }
 {
+    let signal = signal_at(bits, pos);
+    let first = is_leftmost(bits, pos);
     let more = goes_on(bits, pos);
     let followed = is_followed(bits, pos);
-    put_start(net, more, pos + 1 == bits.len(), bits[pos], k)?;
-    put_end(net, followed, more, bits[pos], k)?;
+    put_start(net, more, first, signal, k)?;
+    put_end(net, followed, more, signal, k)?;
     Ok(())
 }
 

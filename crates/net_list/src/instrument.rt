@@ -76,7 +76,7 @@ fn put_output<K: Sink>(
     k.write(before)?;
     put_either(format, b"out ", b"{\"port\":\"", k)?;
     put_name(&port.name, k)?;
-    put_count(format, b" ", b"\",\"bits\":", u64::from(port.width), k)?;
+    put_count(format, b" ", b"\",\"bits\":", port.width as u64, k)?;
     put_either(format, b"", b"}", k)?;
     Ok(())
 }
@@ -180,7 +180,7 @@ fn put_instrument<K: Sink>(
 }
 
 /// How many instruments there are.
-fn inst_count(net: &Net) -> u32
+pub(crate) fn inst_count(net: &Net) -> u32
     requires { IsNet net.now }
     ensures { result ≡ length net.now.insts.items }
 {

@@ -85,6 +85,19 @@ fn put_selects<K: Sink>(
     put_select_bits(format, net, bits, k)
 }
 
+/// Writes the path of a mux and an equals sign.
+fn put_mux_equals<K: Sink>(net: &Net, mux: u32, k: &mut K) -> Result<(), StoreFault>
+    requires well_formed { IsNet net.now }
+    requires there { mux < length net.now.muxes.items }
+    ensures whole { OnOk result (Adds (K.taken k.old) (K.taken k.new) (mux_path net.now mux ++ codes "=")) }
+    ensures part { OnErr result (AddsPart (K.taken k.old) (K.taken k.new) (mux_path net.now mux ++ codes "=")) }
+    ensures cause { HasCause (K.faults k.old) (K.faults k.new) result StoreFault.Failed }
+{
+    put_mux_path(net, mux, k)?;
+    k.write(b"=")?;
+    Ok(())
+}
+
 /// Writes the mux of a row, in text.
 fn put_row_name<K: Sink>(
     format: ListFormat,
@@ -99,11 +112,7 @@ fn put_row_name<K: Sink>(
     ensures cause { HasCause (K.faults k.old) (K.faults k.new) result StoreFault.Failed }
 {
     match format {
-        ListFormat::Text => {
-            put_mux_path(net, mux, k)?;
-            k.write(b"=")?;
-            Ok(())
-        }
+        ListFormat::Text => put_mux_equals(net, mux, k),
         ListFormat::Json => k.write(b""),
     }
 }
@@ -123,10 +132,11 @@ fn put_row<K: Sink>(
     ensures part { OnErr result (AddsPart (K.taken k.old) (K.taken k.new) (before.now ++ lines.row_text format net.now mux row.now)) }
     ensures cause { HasCause (K.faults k.old) (K.faults k.new) result StoreFault.Failed }
 {
+    let values = row.values.as_slice();
     k.write(before)?;
     put_either(format, b"row ", b"\"", k)?;
     put_row_name(format, net, mux, k)?;
-    put_values(row.values.as_slice(), k)?;
+    put_values(values, k)?;
     put_either(format, b"\n", b"\"", k)?;
     Ok(())
 }
@@ -227,7 +237,7 @@ fn put_mux<K: Sink>(
 }
 
 /// How many muxes there are.
-fn mux_count(net: &Net) -> u32
+pub(crate) fn mux_count(net: &Net) -> u32
     requires { IsNet net.now }
     ensures { result ≡ length net.now.muxes.items }
 {

@@ -123,7 +123,7 @@ fn put_width<K: Sink>(format: ListFormat, net: &Net, reg: u32, k: &mut K) -> Res
     ensures cause { HasCause (K.faults k.old) (K.faults k.new) result StoreFault.Failed }
 {
     let width = net.regs.get(reg as usize).width;
-    put_count(format, b" bits ", b"\",\"bits\":", u64::from(width), k)
+    put_count(format, b" bits ", b"\",\"bits\":", width as u64, k)
 }
 
 /// Writes the reset value of a register.

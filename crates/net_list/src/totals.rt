@@ -7,9 +7,11 @@ ghost use Rattle.net_graph.specs.Nets.{IsNet};
 ghost use Rattle.net_list.specs.Listing as listing;
 
 use crate::format::{ListFormat, put_count, put_either};
+use crate::instrument::inst_count;
+use crate::mux::mux_count;
 use ij_bits::{List, OutOfMemory};
 use ij_io::{Sink, StoreFault};
-use net_graph::{Holds, Net, find_path};
+use net_graph::{Holds, Net, find_path, register_count};
 use std::alloc::Global;
 
 /// How many bits the registers of a network have.
@@ -50,38 +52,37 @@ fn start_path_bits(alloc: Global, net: &Net) -> Result<u32, OutOfMemory>
     Ok(path_bits(&start, path.as_slice()))
 }
 
-/// Writes the line of totals, with so many bits in all and so many on the path.
+/// Writes the line of totals, of these numbers.
 fn put_line<K: Sink>(
     format: ListFormat,
-    net: &Net,
+    regs: u32,
     bits: u32,
+    muxes: u32,
+    insts: u32,
     path: u32,
     k: &mut K,
 ) -> Result<(), StoreFault>
-    ensures whole { OnOk result (Adds (K.taken k.old) (K.taken k.new) (listing.totals_line format net.now bits path)) }
-    ensures part { OnErr result (AddsPart (K.taken k.old) (K.taken k.new) (listing.totals_line format net.now bits path)) }
+    ensures whole { OnOk result (Adds (K.taken k.old) (K.taken k.new) (listing.totals_text format regs bits muxes insts path)) }
+    ensures part { OnErr result (AddsPart (K.taken k.old) (K.taken k.new) (listing.totals_text format regs bits muxes insts path)) }
     ensures cause { HasCause (K.faults k.old) (K.faults k.new) result StoreFault.Failed }
 {
-    let regs = net.regs.len() as u64;
-    let muxes = net.muxes.len() as u64;
-    let insts = net.insts.len() as u64;
     put_count(
         format,
         b"network registers ",
         b"{\"network\":{\"registers\":",
-        regs,
+        regs as u64,
         k,
     )?;
-    put_count(format, b" bits ", b",\"bits\":", u64::from(bits), k)?;
-    put_count(format, b" muxes ", b",\"muxes\":", muxes, k)?;
-    put_count(format, b" instruments ", b",\"instruments\":", insts, k)?;
+    put_count(format, b" bits ", b",\"bits\":", bits as u64, k)?;
+    put_count(format, b" muxes ", b",\"muxes\":", muxes as u64, k)?;
     put_count(
         format,
-        b" path at reset ",
-        b",\"path\":",
-        u64::from(path),
+        b" instruments ",
+        b",\"instruments\":",
+        insts as u64,
         k,
     )?;
+    put_count(format, b" path at reset ", b",\"path\":", path as u64, k)?;
     put_either(format, b"\n", b"}}\n", k)?;
     Ok(())
 }
@@ -94,10 +95,14 @@ pub(crate) fn put_totals<K: Sink>(
     k: &mut K,
 ) -> Result<(), StoreFault>
     requires { IsNet net.now }
-    ensures whole { OnOk result (Adds (K.taken k.old) (K.taken k.new) (listing.totals_line format net.now (listing.bit_count net.now) (listing.start_path_bits net.now))) }
-    ensures part { OnErr result (AddsPart (K.taken k.old) (K.taken k.new) (listing.totals_line format net.now (listing.bit_count net.now) (listing.start_path_bits net.now))) }
+    ensures whole { OnOk result (Adds (K.taken k.old) (K.taken k.new) (listing.totals_line format net.now)) }
+    ensures part { OnErr result (AddsPart (K.taken k.old) (K.taken k.new) (listing.totals_line format net.now)) }
     ensures cause { HasCause (K.faults k.old) (K.faults k.new) result StoreFault.Failed }
 {
     let path = start_path_bits(alloc, net)?;
-    put_line(format, net, bit_count(net), path, k)
+    let regs = register_count(net);
+    let bits = bit_count(net);
+    let muxes = mux_count(net);
+    let insts = inst_count(net);
+    put_line(format, regs, bits, muxes, insts, path, k)
 }

@@ -40,8 +40,9 @@ fn put_value<K: Sink>(before: &[u8], value: &Tern, k: &mut K) -> Result<(), Stor
     ensures part { OnErr result (AddsPart (K.taken k.old) (K.taken k.new) (before.now ++ forms.tern_text value.now)) }
     ensures cause { HasCause (K.faults k.old) (K.faults k.new) result StoreFault.Failed }
 {
+    let width = value.len();
     k.write(before)?;
-    put_digits(value, value.len(), k)?;
+    put_digits(value, width, k)?;
     Ok(())
 }
 

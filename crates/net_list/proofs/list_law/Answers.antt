@@ -2,4 +2,4 @@ use Rattle.net_list.proofs.Reaching.{scans_are_fewest}
 use Rattle.net_list.proofs.list_law.Goals as goal
 
 pub returns : goal.returns
-returns c = scans_are_fewest
+returns c = record { fewest = scans_are_fewest }

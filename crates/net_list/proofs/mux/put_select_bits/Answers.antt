@@ -1,4 +1,4 @@
-use Rattle.std.proofs.Common.{◌≡◌, ◌-◌, ◌+◌, ℕ, suc, length, arith}
+use Rattle.std.proofs.Common.{◌≡◌, ◌-◌, ◌+◌, suc, length, arith}
 use Rattle.ij_io.proofs.Adding.{at_refusal}
 use Rattle.net_list.proofs.Pieces.{bit_next, bit_part}
 use Rattle.net_list.proofs.mux.put_select_bits.Goals as goal

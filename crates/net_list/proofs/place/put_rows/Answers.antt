@@ -1,4 +1,3 @@
-use Rattle.std.specs.Prelude.{ℕ, List, [], codes}
 use Rattle.std.proofs.Common.{◌≡◌, ◌+◌, suc, arith}
 use Rattle.std.proofs.lemmas.List.{get_or_default}
 use Rattle.ij_io.proofs.Adding.{at_refusal}

@@ -1,4 +1,4 @@
-use Rattle.std.specs.Prelude.{ℕ, List, [], codes}
+use Rattle.std.specs.Prelude.{ℕ}
 use Rattle.std.proofs.Common.{◌≡◌, ◌+◌, suc, arith}
 use Rattle.std.proofs.lemmas.List.{get_or_default}
 use Rattle.ij_io.proofs.Adding.{at_refusal}

@@ -1,5 +1,4 @@
 use Rattle.std.proofs.Common.{◌≡◌, ◌-◌, ◌+◌, ℕ, suc, List, ◌++◌, arith, subst, ap}
-use Rattle.ij_io.specs.Bytes.{Adds, AddsPart}
 use Rattle.ij_io.proofs.Adding.{adds_as, adds_part_as, at_refusal}
 use Rattle.ij_io.proofs.Fronts.{AddsFront, front_next, front_part}
 use Rattle.net_list.specs.Lines.{register_line}

@@ -1,4 +1,4 @@
-use Rattle.std.specs.Prelude.{ℕ, List, [], codes}
+use Rattle.std.specs.Prelude.{[], codes}
 use Rattle.std.proofs.Common.{◌≤◌, drop}
 use Rattle.ij_io.proofs.Fronts.{AddsFront}
 use Rattle.net_list.specs.Forms.{items}
