@@ -26,7 +26,9 @@ impl<'w> Command for CommandWords<'w> {
 
     ghost usage_line = { usage_line };
 
-    fn usage() -> &'static [u8] {
+    fn usage() -> &'static [u8]
+        ensures { result.now ≡ usage_line }
+    {
         b"usage: ijtag compile|play|run|direct|make|migrate|audit|muxtest\n"
     }
 

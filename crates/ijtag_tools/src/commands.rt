@@ -22,7 +22,9 @@ impl<'w> Command for ToolWords<'w> {
 
     ghost usage_line = { usage_line };
 
-    fn usage() -> &'static [u8] {
+    fn usage() -> &'static [u8]
+        ensures { result.now ≡ usage_line }
+    {
         b"usage: ijtag-tools list|tighten\n"
     }
 
