@@ -11,7 +11,7 @@ mod commands;
 mod compile;
 mod direct;
 mod effect;
-mod host_words;
+mod host;
 mod in_memory;
 mod made_design;
 mod made_files;
@@ -29,7 +29,7 @@ mod top;
 
 pub use audit::a_yes_does_as_meant;
 pub use effect::{Effect, accept_and_act};
-pub use host_words::host_words;
+pub use host::host_words;
 pub use ij_text::{SOURCE_LIMIT, SVF_LIMIT};
 pub use ijtag_work::{Status, own_texts_pass, works_are_decided};
 pub use in_memory::ijtag_in_memory;
