@@ -1,5 +1,5 @@
 // Calls of files and of streams that find no memory: each call of each command once, until a run meets none.
-ghost use Rattle.std.specs.Prelude.{List, ℕ, None};
+ghost use Rattle.std.specs.Prelude.{None};
 
 use crate::commands::{
     COMMANDS, COMPILE, Command, PLAY, REFUSED_FILES, run as run_with_faults, words,
