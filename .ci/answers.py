@@ -8,6 +8,7 @@ Each file of .ci/answers/ has cases of one topic, in these lines:
     case TITLE             begins a case, in an empty folder of its own
       file NAME = TEXT     a file of that folder
       run WORDS            a call of the program, and then what is wanted of it:
+      tools WORDS          the same of the second program, ijtag-tools, which is beside PROGRAM
       status N             0, where no such line stands
       out = TEXT           what it prints, and err = TEXT on the error stream: nothing, where no such line stands
       holds NAME = TEXT    a file that it wrote; without TEXT, whatever it holds. All other files stay as they were
@@ -33,8 +34,8 @@ texts = {}
 class Run:
     """A call of the program, and what is wanted of it; the output may be a function that tells whether it is right."""
 
-    def __init__(self, words, status=0, out='', err='', holds=None):
-        self.words, self.status, self.out, self.err, self.holds = words, status, out, err, holds or {}
+    def __init__(self, words, status=0, out='', err='', holds=None, tools=False):
+        self.words, self.status, self.out, self.err, self.holds, self.tools = words, status, out, err, holds or {}, tools
 
 
 class Case:
@@ -66,8 +67,8 @@ def read_topic(path):
             cases[-1].rows.append(rest.split(' => '))
         elif kind == 'case':
             cases.append(Case(f'{path.stem}: {rest}'))
-        elif kind == 'run':
-            cases[-1].steps.append(Run(rest.split()))
+        elif kind in ('run', 'tools'):
+            cases[-1].steps.append(Run(rest.split(), tools=kind == 'tools'))
         elif kind == 'status':
             cases[-1].steps[-1].status = int(rest)
         elif kind and not kind.startswith('#'):
@@ -112,7 +113,7 @@ def of_row(case, row):
     for step in case.steps:
         if isinstance(step, Run):
             holds = {name: text if text is ANY else full(text, row) for name, text in step.holds.items()}
-            made.steps.append(Run([full(word, row) for word in step.words], step.status, full(step.out, row), full(step.err, row), holds))
+            made.steps.append(Run([full(word, row) for word in step.words], step.status, full(step.out, row), full(step.err, row), holds, step.tools))
         else:
             made.steps.append((full(step[0], row), full(step[1], row)))
     return made
@@ -267,7 +268,8 @@ def wrong(program, case):
                 files[step[0]] = step[1].encode('latin-1')
                 (folder / step[0]).write_bytes(files[step[0]])
                 continue
-            done = subprocess.run([program, *step.words], cwd=folder, capture_output=True)
+            called = os.path.join(os.path.dirname(program), 'ijtag-tools') if step.tools else program
+            done = subprocess.run([called, *step.words], cwd=folder, capture_output=True)
             out = done.stdout.decode('latin-1')
             compare('status', done.returncode, step.status)
             compare('output', out, (out if step.out(out) else 'another one') if callable(step.out) else step.out)

@@ -1,8 +1,9 @@
 #!/usr/bin/env python3
-"""Builds the program that ./ijtag runs: build.py proved|unproved. Ends with 0, with 7 where there is no program, with 130 where it is interrupted.
+"""Builds the program that ./ijtag or ./ijtag-tools runs: build.py proved|unproved ijtag|ijtag-tools. Ends with 0, with 7 where there is no
+program, with 130 where it is interrupted.
 
 One build of a kind runs at a time: a second call waits, and then takes what the first one built. The program, the number of its sources
-(.ci/stamp), the kit that built it and the log stand in out/, those of the unproved program in out/unproved/.
+(.ci/stamp), the kit that built it and the log are in out/, those of the unproved program in out/unproved/.
 
 The proved program is what `rt run` builds once it has proved every crate below it. What is proved before an interrupt is kept by rt.
 Each IJTAG_REPORT_SECONDS, 180 where it isn't set, a line says what is being proved.
@@ -21,15 +22,16 @@ import tempfile
 import time
 
 TOP = pathlib.Path(__file__).resolve().parent.parent
-CLI = TOP / 'crates' / 'ijtag_cli'
+PROGRAMS = {'ijtag': 'ijtag_cli', 'ijtag-tools': 'ijtag_tools'}
 EVERY = int(os.environ.get('IJTAG_REPORT_SECONDS', '180'))
-kind = sys.argv[1]
+kind, name = sys.argv[1:]
+CLI = TOP / 'crates' / PROGRAMS[name]
 built = TOP / 'out' if kind == 'proved' else TOP / 'out' / 'unproved'
-program, log = built / 'ijtag', built / 'build.log'
+program, log = built / name, built / 'build.log'
 
 
 def say(text):
-    print(f'ijtag: {text}', file=sys.stderr, flush=True)
+    print(f'{name}: {text}', file=sys.stderr, flush=True)
 
 
 def fail(text):
@@ -42,7 +44,7 @@ def stamp():
 
 
 def is_current():
-    mark = built / 'stamp'
+    mark = built / f'{name}.stamp'
     return os.access(program, os.X_OK) and mark.is_file() and mark.read_text() == stamp()
 
 
@@ -102,7 +104,7 @@ def follow(run, each):
 
 def build_proved(rt, how):
     begin = last = time.monotonic()
-    crates = crates_below('ijtag_cli')
+    crates = crates_below(PROGRAMS[name])
     # a run without words builds the program, and ends with its usage text
     run = subprocess.Popen([rt, 'run', '--'], cwd=CLI, **how)
 
@@ -116,7 +118,7 @@ def build_proved(rt, how):
             say(f'{round((last - begin) / 60)} min: {where}')
 
     follow(run, report)
-    made = CLI / 'out' / 'ijtag_cli'
+    made = CLI / 'out' / PROGRAMS[name]
     return made if re.search('^rt: running', log.read_text(errors='replace'), re.M) and made.is_file() else None
 
 
@@ -179,12 +181,13 @@ def main():
         if program.exists():
             say(f'the program of earlier sources is still {program}')
         fail(f'the program could not be built; see {log}')
-    shutil.copy2(made, built / 'ijtag.new')
-    os.chmod(built / 'ijtag.new', 0o755)
-    os.replace(built / 'ijtag.new', program)
+    new = built / f'{name}.new'
+    shutil.copy2(made, new)
+    os.chmod(new, 0o755)
+    os.replace(new, program)
     (built / 'program').unlink(missing_ok=True)
     (built / 'kit').write_text(kit + '\n')
-    (built / 'stamp').write_text(sources)
+    (built / f'{name}.stamp').write_text(sources)
 
 
 try:

@@ -95,6 +95,20 @@ with tempfile.TemporaryDirectory() as folder:
     opened = [int(line.split('TDI (')[1].split(')')[0], 16) >> 1 for line in scans[1::2]]
     check('the rows that they open', opened, order[1:])
 
+    # the mux test of one multiplexer with as many rows as 12 bits select, all from scan-in: each row but the first takes two scans, none
+    # changes the path, and rows are judged so often that a search for each of them would take minutes
+    rows = 4096
+    icl.write_text('Module Rows {\n  ScanInPort SI;\n  ScanOutPort SO { Source S[0]; }\n  ScanInterface client { Port SI; Port SO; }\n'
+                   '  ScanMux M SelectedBy S {\n' + ''.join(f'    12\'d{i} : SI;\n' for i in range(rows)) + '  }\n'
+                   '  ScanRegister S[11:0] { ScanInSource M; CaptureSource S; ResetValue 12\'b0; }\n}\n'
+                   'Module chip {\n  Instance net Of Rows;\n  AccessLink tap Of STD_1149_1_2001 {\n'
+                   '    BSDLEntity chip; IJTAG { ScanInterface { net.client; } }\n  }\n}\n')
+    before = resource.getrusage(resource.RUSAGE_CHILDREN).ru_utime
+    status, out, err = run(['muxtest', icl, FLAT / 'chip.dev', 'chip', folder / 'rows.svf'])
+    check(f'the mux test of {rows} rows', (status, out.count(b'\n'), out.split(b'\n')[-2], err),
+          (0, rows + 1, f'muxtest scans {2 * rows - 1} rows {rows} unseen {rows}'.encode(), b''))
+    check('its processor seconds are few', resource.getrusage(resource.RUSAGE_CHILDREN).ru_utime - before < 20, True)
+
     # a device that takes nothing, and one that was closed
     check('SVF on a full device', compile_to('/dev/full'), (5, b'', b'write fault /dev/full\n'))
     # of each command that prints: its output is flushed before the status is decided

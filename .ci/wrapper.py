@@ -25,8 +25,8 @@ if [ "$1" = try ]; then
   sleep 1
 else
   mkdir -p out
-  cp /bin/echo out/ijtag_cli
-  echo "rt: running ijtag_cli"
+  cp /bin/echo "out/${PWD##*/}"
+  echo "rt: running ${PWD##*/}"
 fi
 '''
 PROVED, UNPROVED = {}, {'IJTAG_UNPROVED': '1'}
@@ -40,10 +40,10 @@ def check(what, found, wanted):
         failed.append(f'{what}: {found!r}, wanted {wanted!r}')
 
 
-def begin(top, more=PROVED, path=None, user=None):
+def begin(top, more=PROVED, path=None, user=None, program='ijtag'):
     env = dict(os.environ, PATH=path or f'{room}/bin:{os.environ["PATH"]}', BUILDS=str(room / 'builds'), **more)
     env.pop('IJTAG_UNPROVED', None) if not more else None
-    return subprocess.Popen([top / 'ijtag', 'some', 'words'], env=env, text=True, stdout=subprocess.PIPE, stderr=subprocess.PIPE,
+    return subprocess.Popen([top / program, 'some', 'words'], env=env, text=True, stdout=subprocess.PIPE, stderr=subprocess.PIPE,
                             start_new_session=True, user=user)
 
 
@@ -72,7 +72,7 @@ with tempfile.TemporaryDirectory() as made:
     (room / 'bin' / 'rt').write_text(RT)
     (room / 'bin' / 'rt').chmod(0o755)
     leave = shutil.ignore_patterns('out', 'must-fail', 'wrong-bodies')
-    for name in ('ijtag', 'crates.txt'):
+    for name in ('ijtag', 'ijtag-tools', 'crates.txt'):
         top.mkdir(exist_ok=True)
         shutil.copy2(name, top)
     for name in ('.ci', 'crates'):
@@ -87,7 +87,9 @@ with tempfile.TemporaryDirectory() as made:
     check('two calls at once: one builds', builds(), 1)
     check('two calls at once: the other says that it waits', sum('waiting for it' in it[2] for it in answers), 1)
     check('the next call says nothing', call(top), ran)
-    check('the kit stands beside the program', (top / 'out' / 'kit').read_text(), 'stand-in\n')
+    check('the kit is beside the program', (top / 'out' / 'kit').read_text(), 'stand-in\n')
+    check('the second program is built by its first call', (call(top, program='ijtag-tools')[:2], builds()), (ran[:2], 1))
+    check('and not once more', (call(top, program='ijtag-tools'), call(top), builds()), (ran, ran, 0))
 
     # what the program is handed: a write past `ulimit -f` fails, and no signal ends it
     program = top / 'out' / 'ijtag'

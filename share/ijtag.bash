@@ -1,6 +1,24 @@
-# Completion of ijtag for bash, made from docs/MANUAL.md by .ci/words.py. Use it by:  . share/ijtag.bash
+# Completion of both programs for bash, made from docs/MANUAL.md and docs/TOOLS.md by .ci/words.py. Use it by:  . share/ijtag.bash
+
+# completes a word of a command that has words of these kinds
+_ijtag_word() {
+  local current=${COMP_WORDS[COMP_CWORD]} kinds=("$@") kind at icl= pdl=
+  kind=${kinds[COMP_CWORD - 2]:-}
+  for at in "${!kinds[@]}"; do
+    [ "${kinds[at]}" = ICL ] && icl=${COMP_WORDS[at + 2]:-}
+    [ "${kinds[at]}" = PDL ] && pdl=${COMP_WORDS[at + 2]:-}
+  done
+  case $kind in
+    FORMAT) mapfile -t COMPREPLY < <(compgen -W 'text json' -- "$current") ;;
+    HOW) mapfile -t COMPREPLY < <(compgen -W 'full lean late' -- "$current") ;;
+    ICL | PDL | DEVICE | TABLES | SVF | NEW | STEM) mapfile -t COMPREPLY < <(compgen -f -- "$current") ;;
+    TOP) mapfile -t COMPREPLY < <(compgen -W "$(sed -n 's/^[[:blank:]]*Module[[:blank:]]*\([[:alnum:]_]*\).*/\1/p' "$icl" 2> /dev/null)" -- "$current") ;;
+    PROC) mapfile -t COMPREPLY < <(compgen -W "$(sed -n 's/^[[:blank:]]*iProc[[:blank:]][[:blank:]]*\([[:alnum:]_]*\).*/\1/p' "$pdl" 2> /dev/null)" -- "$current") ;;
+  esac
+}
+
 _ijtag() {
-  local current=${COMP_WORDS[COMP_CWORD]} kinds=() kind at icl= pdl=
+  local current=${COMP_WORDS[COMP_CWORD]} kinds=()
   COMPREPLY=()
   if [ "$COMP_CWORD" = 1 ]; then
     mapfile -t COMPREPLY < <(compgen -W 'compile play run direct audit make muxtest migrate' -- "$current")
@@ -16,15 +34,21 @@ _ijtag() {
     muxtest) kinds=(ICL DEVICE TOP SVF) ;;
     migrate) kinds=(TABLES NEW) ;;
   esac
-  kind=${kinds[COMP_CWORD - 2]:-}
-  for at in "${!kinds[@]}"; do
-    [ "${kinds[at]}" = ICL ] && icl=${COMP_WORDS[at + 2]:-}
-    [ "${kinds[at]}" = PDL ] && pdl=${COMP_WORDS[at + 2]:-}
-  done
-  case $kind in
-    ICL | PDL | DEVICE | TABLES | SVF | NEW | STEM) mapfile -t COMPREPLY < <(compgen -f -- "$current") ;;
-    TOP) mapfile -t COMPREPLY < <(compgen -W "$(sed -n 's/^[[:blank:]]*Module[[:blank:]]*\([[:alnum:]_]*\).*/\1/p' "$icl" 2> /dev/null)" -- "$current") ;;
-    PROC) mapfile -t COMPREPLY < <(compgen -W "$(sed -n 's/^[[:blank:]]*iProc[[:blank:]][[:blank:]]*\([[:alnum:]_]*\).*/\1/p' "$pdl" 2> /dev/null)" -- "$current") ;;
-  esac
+  _ijtag_word "${kinds[@]}"
 }
 complete -o filenames -F _ijtag ijtag ./ijtag
+
+_ijtag_tools() {
+  local current=${COMP_WORDS[COMP_CWORD]} kinds=()
+  COMPREPLY=()
+  if [ "$COMP_CWORD" = 1 ]; then
+    mapfile -t COMPREPLY < <(compgen -W 'list tighten' -- "$current")
+    return
+  fi
+  case ${COMP_WORDS[1]} in
+    list) kinds=(FORMAT ICL DEVICE TOP) ;;
+    tighten) kinds=(HOW ICL PDL DEVICE TOP PROC NEW) ;;
+  esac
+  _ijtag_word "${kinds[@]}"
+}
+complete -o filenames -F _ijtag_tools ijtag-tools ./ijtag-tools

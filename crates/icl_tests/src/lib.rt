@@ -16,6 +16,8 @@ mod icl_tokens;
 mod mux_tests;
 #[cfg(test)]
 mod nested_forms;
+#[cfg(test)]
+mod network_lists;
 mod network_texts;
 #[cfg(test)]
 mod texts;

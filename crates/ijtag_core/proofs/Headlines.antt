@@ -90,24 +90,24 @@ module _ (files : Option Files) (printed : Option (List ℕ)) (new : Seen) (diff
     leaves_right (Some (Audits a)) done = tt
     leaves_right (Some (MuxTests m)) done = tt
 
-pub audit_right : (files : Option Files) (words : Option Command) → IfSome words (λ command. IsPromised command files false) → IfSome words (λ command. IfAudits command (IsAudited files))
-audit_right files None promised = tt
-audit_right files (Some (Audits a)) promised = promised refl
-audit_right files (Some (Compiles c)) promised = tt
-audit_right files (Some (Plays p)) promised = tt
-audit_right files (Some (Directs d)) promised = tt
-audit_right files (Some (Runs r)) promised = tt
-audit_right files (Some (Makes m)) promised = tt
-audit_right files (Some (Migrates m)) promised = tt
-audit_right files (Some (MuxTests m)) promised = tt
+pub audit_right : (files : Option Files) (file : List ℕ → Option (Option (List ℕ))) (words : Option Command) → IfSome words (λ command. IsPromised command files file false) → IfSome words (λ command. IfAudits command (IsAudited files))
+audit_right files file None promised = tt
+audit_right files file (Some (Audits a)) promised = promised refl
+audit_right files file (Some (Compiles c)) promised = tt
+audit_right files file (Some (Plays p)) promised = tt
+audit_right files file (Some (Directs d)) promised = tt
+audit_right files file (Some (Runs r)) promised = tt
+audit_right files file (Some (Makes m)) promised = tt
+audit_right files file (Some (Migrates m)) promised = tt
+audit_right files file (Some (MuxTests m)) promised = tt
 
-pub test_right : (files : Option Files) (words : Option Command) → IfSome words (λ command. IsPromised command files false) → IfSome words (λ command. IfTests command (IsTested files))
-test_right files None promised = tt
-test_right files (Some (MuxTests m)) promised = promised
-test_right files (Some (Audits a)) promised = tt
-test_right files (Some (Compiles c)) promised = tt
-test_right files (Some (Plays p)) promised = tt
-test_right files (Some (Directs d)) promised = tt
-test_right files (Some (Runs r)) promised = tt
-test_right files (Some (Makes m)) promised = tt
-test_right files (Some (Migrates m)) promised = tt
+pub test_right : (files : Option Files) (file : List ℕ → Option (Option (List ℕ))) (words : Option Command) → IfSome words (λ command. IsPromised command files file false) → IfSome words (λ command. IfTests command (λ m. IsTested files (file m.svf) m))
+test_right files file None promised = tt
+test_right files file (Some (MuxTests m)) promised = promised
+test_right files file (Some (Audits a)) promised = tt
+test_right files file (Some (Compiles c)) promised = tt
+test_right files file (Some (Plays p)) promised = tt
+test_right files file (Some (Directs d)) promised = tt
+test_right files file (Some (Runs r)) promised = tt
+test_right files file (Some (Makes m)) promised = tt
+test_right files file (Some (Migrates m)) promised = tt

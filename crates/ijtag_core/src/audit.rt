@@ -2,8 +2,9 @@
 ghost use Rattle.std.specs.Prelude.{◌≡◌, ◌≤◌, false, true, All, OnOk, OnErr, IfOk};
 ghost use Rattle.ij_io.specs.Bytes.{Adds, AddsPart};
 ghost use Rattle.ij_io.specs.Causes.{HasCause};
+ghost use Rattle.svf_audit.specs.Audit.{audit as audit_commands};
 ghost use Rattle.svf_audit.specs.Report.{says_no};
-ghost use Rattle.ijtag_work.specs.Audited.{PlayAsMeant};
+ghost use Rattle.ijtag_work.specs.Audited.{DoAsMeant, PlayAsMeant};
 ghost use Rattle.ijtag_work.specs.Order.{audit, line_of, verdict_of};
 ghost use Rattle.ijtag_work.specs.Seen.{differing};
 ghost use Rattle.ijtag_work.specs.Using.{IsUsable, seen_accepted, there};
@@ -15,6 +16,7 @@ use ijtag_work::{Accepted, AuditWords, Stop, Texts, Verdict, steps_again};
 use merge_order::{bit_steps_are_few, bit_steps_are_of_the_network};
 use std::alloc::Global;
 use svf_audit::{audits_law, put_audit};
+use svf_writer::Commands;
 
 /// Audits commands and writes the line. A refusal leaves a first part of it.
 #[tactic(auto, unfolding(ijtag_work::specs::Order::line_of))]
@@ -48,15 +50,27 @@ fn put_line<O: Sink>(alloc: Global, it: &Accepted, out: &mut O) -> Result<Verdic
     }
 }
 
-/// What an audit says yes of does, played, all that the steps mean.
+/// What an audit says yes of does, played, all that the steps mean. It runs nothing.
+pub fn a_yes_does_as_meant(it: &Accepted, commands: &Commands)
+    requires usable { IsUsable it.now }
+    requires procedure { there it.now.procedure ≡ true }
+    ensures { says_no (audit_commands it.now.network.net it.now.device (seen_accepted it.now).steps commands.now) ≡ false
+        → DoAsMeant (seen_accepted it.now) commands.now }
+{
+    audits_law();
+    bit_steps_are_of_the_network();
+    // Its contract says that the commands can be played.
+    let _count = commands.len();
+}
+
+/// So it is of the commands that are audited.
 fn yes_plays_as_meant(it: &Accepted)
     requires usable { IsUsable it.now }
     requires commands { there it.now.commands ≡ true }
     requires procedure { there it.now.procedure ≡ true }
     ensures { says_no (verdict_of (seen_accepted it.now)) ≡ false → PlayAsMeant (seen_accepted it.now) }
 {
-    audits_law();
-    bit_steps_are_of_the_network();
+    a_yes_does_as_meant(it, it.commands());
 }
 
 /// Audits the SVF text for the procedure and prints what the audit says. No file changes.
@@ -65,7 +79,7 @@ impl<'w> Effect for AuditWords<'w> {
 
     ghost needs = { λ _. record { tables = false; svf = true; pdl = true } };
 
-    ghost promise = { λ _ it differs. differs ≡ false → PlayAsMeant it };
+    ghost promise = { λ _ _ _ it differs. differs ≡ false → PlayAsMeant it };
 
     fn texts<'t>(&'t self, loaded: &'t [Vec<u8>]) -> Texts<'t> {
         let [svf, icl, pdl, device] = loaded else {

@@ -2,7 +2,9 @@
 ghost use Rattle.ijtag_work.specs.Audited.{IsPromised};
 ghost use Rattle.ijtag_work.specs.Command.{Command as NamedCommand};
 ghost use Rattle.ijtag_work.specs.Order.{task as task_named};
-ghost use Rattle.ijtag_work.specs.Runs.{AreDecided};
+ghost use Rattle.std.specs.Prelude.{◌≡◌};
+ghost use Rattle.ijtag_work.specs.Runs.{AreSettled};
+ghost use Rattle.ijtag_work.specs.Stops.{usage_line};
 ghost use Rattle.ijtag_work.specs.Words.{seen_command};
 
 use crate::effect::accept_and_act;
@@ -22,8 +24,14 @@ impl<'w> Command for CommandWords<'w> {
 
     ghost promise = { IsPromised };
 
-    fn works_are_decided()
-        ensures { AreDecided task_named }
+    ghost usage_line = { usage_line };
+
+    fn usage() -> &'static [u8] {
+        b"usage: ijtag compile|play|run|direct|make|migrate|audit|muxtest\n"
+    }
+
+    fn works_settle()
+        ensures { AreSettled task_named }
     {
         works_are_decided();
     }

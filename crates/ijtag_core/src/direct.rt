@@ -41,7 +41,7 @@ impl<'w> Effect for DirectWords<'w> {
 
     ghost needs = { λ _. record { tables = true; svf = false; pdl = true } };
 
-    ghost promise = { λ _ _ _. Unit {0} };
+    ghost promise = { λ _ _ _ _ _. Unit {0} };
 
     fn texts<'t>(&'t self, loaded: &'t [Vec<u8>]) -> Texts<'t> {
         let [icl, pdl, device, tables] = loaded else {

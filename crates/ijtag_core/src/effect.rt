@@ -1,8 +1,8 @@
 // A command that accepts texts: what it does with them, and its run.
-ghost use Rattle.std.specs.Prelude.{◌≡◌, ◌≤◌, Some, Bool, map, length, IfOk, IfErr, OnOk, OnErr};
+ghost use Rattle.std.specs.Prelude.{◌≡◌, ◌≤◌, ℕ, List, Option, Some, Bool, map, length, IfOk, IfErr, OnOk, OnErr};
 ghost use Rattle.std.specs.Bool.{OnTrue, OnFalse};
 ghost use Rattle.ij_io.specs.Causes.{SameCounts};
-ghost use Rattle.ij_io.specs.Files.{Files};
+ghost use Rattle.ij_io.specs.Files.{Files, file_at};
 ghost use Rattle.ijtag_work.specs.Accepted.{SeenAccepted};
 ghost use Rattle.ijtag_work.specs.Follows.{AreTexts, seen_texts};
 ghost use Rattle.ijtag_work.specs.Late.{IsLateStop, IsPartOf};
@@ -26,8 +26,9 @@ pub trait Effect {
     /// Which texts it has.
     ghost needs: { Self → Needs };
 
-    /// What is promised of what was accepted, where a run ends with this verdict.
-    ghost promise: { Self → SeenAccepted → Bool → Type 0 };
+    /// What is promised of what was accepted, by the files before the work and the contents of any file after it, where a run ends
+    /// with this verdict.
+    ghost promise: { Self → Option Files → (List ℕ → Option (Option (List ℕ))) → SeenAccepted → Bool → Type 0 };
 
     /// The texts by what they are, of those that were loaded in the order of the row.
     fn texts<'t>(&'t self, loaded: &'t [Vec<u8>]) -> Texts<'t>
@@ -51,7 +52,7 @@ pub trait Effect {
         requires { CanUse (needs self.now) it.now }
         ensures done { IfOk result (λ verdict. IsDone ((table_row self.now).leaves (seen_accepted it.now))
             (seen S.files O.taken shelf.old out.old) (seen S.files O.taken shelf.new out.new) (differing verdict)) }
-        ensures promise { IfOk result (λ verdict. promise self.now (seen_accepted it.now) (differing verdict)) }
+        ensures promise { IfOk result (λ verdict. promise self.now (S.files shelf.old) (file_at (S.files shelf.new)) (seen_accepted it.now) (differing verdict)) }
         ensures stop { IfErr result (λ stop. IsLateStop ((table_row self.now).leaves (seen_accepted it.now)) (task_of (table_row self.now))
             (counts S.load_faults S.store_faults O.faults shelf.old shelf.new out.old out.new) (seen_stop stop)) }
         ensures early { IfErr result (λ stop. IsEarly (seen_stop stop) → (S.files shelf.new ≡ S.files shelf.old) × (out.new ≡ out.old)) }
@@ -75,7 +76,7 @@ fn act_and_flush<'a, E: Effect, S: Shelf, O: Sink>(
     requires { CanUse (E.needs effect.now) it.now }
     ensures done { IfOk result (λ verdict. IsDone ((E.table_row effect.now).leaves (seen_accepted it.now))
         (seen S.files O.taken shelf.old out.old) (seen S.files O.taken shelf.new out.new) (differing verdict)) }
-    ensures promise { IfOk result (λ verdict. E.promise effect.now (seen_accepted it.now) (differing verdict)) }
+    ensures promise { IfOk result (λ verdict. E.promise effect.now (S.files shelf.old) (file_at (S.files shelf.new)) (seen_accepted it.now) (differing verdict)) }
     ensures handed { OnOk result (OnTrue (E.table_row effect.now).prints (O.handed out.new ≡ O.taken out.new)) }
     ensures stop { IfErr result (λ stop. IsLateStop ((E.table_row effect.now).leaves (seen_accepted it.now)) (task_of (E.table_row effect.now))
         (counts S.load_faults S.store_faults O.faults shelf.old shelf.new out.old out.new) (seen_stop stop)) }
@@ -109,7 +110,7 @@ pub fn accept_and_act<'a, E: Effect, S: Shelf, O: Sink>(
     requires { map seen_load loads.now ≡ (E.table_row effect.now).loads }
     ensures done { IfOk result (λ verdict. IsDone (work (S.files shelf.old) (task_of (E.table_row effect.now)))
         (seen S.files O.taken shelf.old out.old) (seen S.files O.taken shelf.new out.new) (differing verdict)) }
-    ensures promise { IfOk result (λ verdict. AcceptedWith (E.table_row effect.now) (S.files shelf.old) (λ it. E.promise effect.now it (differing verdict))) }
+    ensures promise { IfOk result (λ verdict. AcceptedWith (E.table_row effect.now) (S.files shelf.old) (λ it. E.promise effect.now (S.files shelf.old) (file_at (S.files shelf.new)) it (differing verdict))) }
     ensures handed { OnOk result (OnTrue (E.table_row effect.now).prints (O.handed out.new ≡ O.taken out.new)) }
     ensures stop { IfErr result (λ stop. IsStop (S.files shelf.old) (task_of (E.table_row effect.now))
         (counts S.load_faults S.store_faults O.faults shelf.old shelf.new out.old out.new) (seen_stop stop)) }

@@ -8,7 +8,7 @@ ghost use Rattle.ij_io.specs.Pieces.{HoldsPart};
 ghost use Rattle.mux_test.specs.Given.{SeenTest};
 ghost use Rattle.ijtag_stages.specs.Follows.{Follows};
 ghost use Rattle.ijtag_work.specs.Order.{mux_test, test_report_of, test_text_of, within_limit};
-ghost use Rattle.ijtag_work.specs.Tested.{TestsRight};
+ghost use Rattle.ijtag_work.specs.Tested.{HasRightTest, TestsRight};
 ghost use Rattle.ijtag_work.specs.Using.{IsUsable, seen_accepted};
 ghost use Rattle.ijtag_work.specs.Words.{seen_mux_test};
 ghost use Rattle.ijtag_core.specs.Testing.{IsReportOf, IsTestOf};
@@ -87,7 +87,7 @@ impl<'w> Effect for MuxTestWords<'w> {
 
     ghost needs = { λ _. record { tables = false; svf = false; pdl = false } };
 
-    ghost promise = { λ _ it differs. TestsRight it };
+    ghost promise = { λ words files file it _. HasRightTest files (file (seen_mux_test words).svf) it };
 
     fn texts<'t>(&'t self, loaded: &'t [Vec<u8>]) -> Texts<'t> {
         let [icl, device] = loaded else {

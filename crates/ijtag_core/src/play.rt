@@ -37,7 +37,7 @@ impl<'w> Effect for PlayWords<'w> {
 
     ghost needs = { λ _. record { tables = true; svf = true; pdl = false } };
 
-    ghost promise = { λ _ _ _. Unit {0} };
+    ghost promise = { λ _ _ _ _ _. Unit {0} };
 
     fn texts<'t>(&'t self, loaded: &'t [Vec<u8>]) -> Texts<'t> {
         let [svf, icl, device, tables] = loaded else {

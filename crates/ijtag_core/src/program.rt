@@ -3,11 +3,11 @@ ghost use Rattle.std.specs.Prelude.{◌≡◌, Bool, List, ℕ, Option, Some, Is
 ghost use Rattle.std.specs.Bool.{OnTrue, OnFalse};
 ghost use Rattle.std.specs.Option.{option_map};
 ghost use Rattle.ij_io.specs.Bytes.{AddsPart};
-ghost use Rattle.ij_io.specs.Files.{Files};
+ghost use Rattle.ij_io.specs.Files.{Files, file_at};
 ghost use Rattle.ijtag_stages.specs.Refusals.{Refusal};
 ghost use Rattle.ijtag_work.specs.Leaves.{Leaves};
 ghost use Rattle.ijtag_work.specs.Loads.{names_of};
-ghost use Rattle.ijtag_work.specs.Runs.{AreDecided, AreFirstWritten, AreKept, FirstRose, IfTold, IsDone, IsEarlyStatus, IsOrMemory, IsPartDone, IsPartStatus, IsReadFault, IsRunStop, IsStop, IsWriteStop, LoadRose, OnlyTheseChange, OnlyTheseRise, Tells, WriteRose, counts, loads_in, prints_in, seen, status_if, writes_in};
+ghost use Rattle.ijtag_work.specs.Runs.{AreSettled, AreFirstWritten, AreKept, FirstRose, IfTold, IsDone, IsEarlyStatus, IsOrMemory, IsPartDone, IsPartStatus, IsReadFault, IsRunStop, IsStop, IsWriteStop, LoadRose, OnlyTheseChange, OnlyTheseRise, Tells, WriteRose, counts, loads_in, prints_in, seen, status_if, writes_in};
 ghost use Rattle.ijtag_work.specs.Seen.{seen_stop, differing};
 ghost use Rattle.ijtag_work.specs.Stops.{IsEarly, ReadFault, Refuses, Stop as SeenStop, Usage, stop_text};
 ghost use Rattle.ijtag_work.specs.Task.{Task, work};
@@ -26,12 +26,19 @@ pub trait Command {
     /// What is loaded, written and printed, and the work on the texts that were loaded.
     ghost task: { Named → Task };
 
-    /// What is promised besides, by the files before a run, where the run ends with this verdict.
-    ghost promise: { Named → Option Files → Bool → Type 0 };
+    /// What is promised besides, by the files before a run and the contents of any file after it, where the run ends with this verdict.
+    ghost promise: { Named → Option Files → (List ℕ → Option (Option (List ℕ))) → Bool → Type 0 };
 
-    /// The work of each command comes to one end at most.
-    fn works_are_decided()
-        ensures { AreDecided task };
+    /// The line that is printed where the words are no command, and its line feed.
+    ghost usage_line: { List ℕ };
+
+    /// This line.
+    fn usage() -> &'static [u8]
+        ensures { result.now ≡ usage_line };
+
+    /// Two things that the work of a command may leave differ alike, and where it may leave one it meets no refusal.
+    fn works_settle()
+        ensures { AreSettled task };
 
     /// Runs the command. After a stop nothing of its work is there, or a first part.
     fn run<'a, S: Shelf, O: Sink>(
@@ -42,7 +49,7 @@ pub trait Command {
     ) -> Result<Verdict, Stop<'a>>
         ensures done { IfOk result (λ verdict. IsDone (work (S.files shelf.old) (task (named self.now)))
             (seen S.files O.taken shelf.old out.old) (seen S.files O.taken shelf.new out.new) (differing verdict)) }
-        ensures promise { IfOk result (λ verdict. promise (named self.now) (S.files shelf.old) (differing verdict)) }
+        ensures promise { IfOk result (λ verdict. promise (named self.now) (S.files shelf.old) (file_at (S.files shelf.new)) (differing verdict)) }
         ensures handed { OnOk result (OnTrue (task (named self.now)).prints (O.handed out.new ≡ O.taken out.new)) }
         ensures stop { IfErr result (λ stop. IsStop (S.files shelf.old) (task (named self.now))
             (counts S.load_faults S.store_faults O.faults shelf.old shelf.new out.old out.new) (seen_stop stop)) }
@@ -67,7 +74,7 @@ fn run_if_any<'a, C: Command, S: Shelf, O: Sink>(
     ensures done { IfOk result (λ verdict. IfSome (option_map C.named command.now) (λ command. IsDone (work (S.files shelf.old) (C.task command))
         (seen S.files O.taken shelf.old out.old) (seen S.files O.taken shelf.new out.new) (differing verdict))) }
     ensures some { OnOk result (IsSome (option_map C.named command.now)) }
-    ensures promise { IfOk result (λ verdict. IfSome (option_map C.named command.now) (λ command. C.promise command (S.files shelf.old) (differing verdict))) }
+    ensures promise { IfOk result (λ verdict. IfSome (option_map C.named command.now) (λ command. C.promise command (S.files shelf.old) (file_at (S.files shelf.new)) (differing verdict))) }
     ensures handed { OnOk result (OnTrue (prints_in C.task (option_map C.named command.now)) (O.handed out.new ≡ O.taken out.new)) }
     ensures stop { IfErr result (λ stop. IsRunStop C.task (option_map C.named command.now) (S.files shelf.old)
         (counts S.load_faults S.store_faults O.faults shelf.old shelf.new out.old out.new) (seen_stop stop)) }
@@ -98,7 +105,7 @@ pub fn run_program<C: Command, S: Shelf, O: Sink, E: Sink>(
     err: &mut E,
 ) -> Status
     ensures promise { (differs : Bool) → result ≡ status_if differs
-        → IfSome (option_map C.named command.now) (λ command. C.promise command (S.files shelf.old) differs) }
+        → IfSome (option_map C.named command.now) (λ command. C.promise command (S.files shelf.old) (file_at (S.files shelf.new)) differs) }
     ensures done { (differs : Bool) → result ≡ status_if differs
         → IfSome (option_map C.named command.now) (λ command. IsDone (work (S.files shelf.old) (C.task command))
         (seen S.files O.taken shelf.old out.old)
@@ -113,10 +120,10 @@ pub fn run_program<C: Command, S: Shelf, O: Sink, E: Sink>(
     ensures usage { result ≡ Status.Usage → IsNone (option_map C.named command.now) }
     ensures no_command { IsNone (option_map C.named command.now) → IsOrMemory result Status.Usage }
     ensures says_usage { result ≡ Status.Usage
-        → Tells E.taken E.faults err.old err.new (stop_text Usage) }
+        → Tells E.taken E.faults err.old err.new (stop_text C.usage_line Usage) }
     ensures refused { result ≡ Status.Refused → IfSome (option_map C.named command.now) (λ command.
         (refusal : Refusal) × (work (S.files shelf.old) (C.task command)).refuses refusal
-        × Tells E.taken E.faults err.old err.new (stop_text (Refuses refusal))) }
+        × Tells E.taken E.faults err.old err.new (stop_text C.usage_line (Refuses refusal))) }
     ensures refuses { IfTold (option_map C.named command.now) (S.files shelf.old) (λ command files.
         let c = counts S.load_faults S.store_faults O.faults shelf.old shelf.new out.old out.new in
         (refusal : Refusal) → (work (Some files) (C.task command)).refuses refusal
@@ -124,11 +131,11 @@ pub fn run_program<C: Command, S: Shelf, O: Sink, E: Sink>(
     ensures read_fault { result ≡ Status.ReadFault → IfSome (option_map C.named command.now) (λ command.
         (name : List ℕ) × IsReadFault (S.files shelf.old) (C.task command).loads
         (S.load_faults shelf.old) (S.load_faults shelf.new) name
-        × Tells E.taken E.faults err.old err.new (stop_text (ReadFault name))) }
+        × Tells E.taken E.faults err.old err.new (stop_text C.usage_line (ReadFault name))) }
     ensures write_fault { result ≡ Status.WriteFault → IfSome (option_map C.named command.now) (λ command.
         let c = counts S.load_faults S.store_faults O.faults shelf.old shelf.new out.old out.new in
         (stop : SeenStop) × IsStop (S.files shelf.old) (C.task command) c stop × IsWriteStop (C.task command) c stop
-        × Tells E.taken E.faults err.old err.new (stop_text stop)) }
+        × Tells E.taken E.faults err.old err.new (stop_text C.usage_line stop)) }
     ensures kept { IsEarlyStatus result
         → AreKept C.task (option_map C.named command.now) (S.files shelf.old) (S.files shelf.new)
         × (out.new ≡ out.old) }
@@ -138,7 +145,7 @@ pub fn run_program<C: Command, S: Shelf, O: Sink, E: Sink>(
     ensures says_part { result ≡ Status.OutOfMemory → (stop : SeenStop)
         × IsRunStop C.task (option_map C.named command.now) (S.files shelf.old)
         (counts S.load_faults S.store_faults O.faults shelf.old shelf.new out.old out.new) stop
-        × AddsPart (E.taken err.old) (E.taken err.new) (stop_text stop) }
+        × AddsPart (E.taken err.old) (E.taken err.new) (stop_text C.usage_line stop) }
     ensures only_its_files_change { OnlyTheseChange (writes_in C.task (option_map C.named command.now))
         (S.files shelf.old) (S.files shelf.new) }
     ensures only_reports_print { OnFalse (prints_in C.task (option_map C.named command.now))
@@ -148,9 +155,9 @@ pub fn run_program<C: Command, S: Shelf, O: Sink, E: Sink>(
     ensures only_its_stores_fail { OnlyTheseRise (writes_in C.task (option_map C.named command.now))
         (S.store_faults shelf.old) (S.store_faults shelf.new) }
 {
-    C::works_are_decided();
+    C::works_settle();
     match run_if_any(alloc, command, shelf, out) {
         Ok(verdict) => verdict.status(),
-        Err(stop) => report(&stop, err),
+        Err(stop) => report(C::usage(), &stop, err),
     }
 }

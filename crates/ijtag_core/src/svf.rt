@@ -22,7 +22,7 @@ use svf_writer::Commands;
 
 /// The SVF text of an accepted procedure, whole.
 #[tactic(auto, unfolding(ijtag_work::specs::Order::written_text))]
-pub(crate) fn make_svf(alloc: Global, it: &Accepted) -> Result<SureSink, OutOfMemory>
+pub fn make_svf(alloc: Global, it: &Accepted) -> Result<SureSink, OutOfMemory>
     requires usable { IsUsable it.now }
     requires procedure { there it.now.procedure ≡ true }
     ensures text { IfOk result (λ svf. (written_text (seen_accepted it.now)).gives svf) }
@@ -86,7 +86,7 @@ pub(crate) fn write_svf<S: Shelf>(
 
 /// The commands of a written SVF text, in which a reader finds some: only want of memory is an error.
 #[tactic(auto, unfolding(ijtag_work::specs::Order::commands_of))]
-pub(crate) fn read_commands(alloc: Global, bytes: &[u8]) -> Result<Commands, OutOfMemory>
+pub fn read_commands(alloc: Global, bytes: &[u8]) -> Result<Commands, OutOfMemory>
     requires short { length bytes.now ≤ 134217728 }
     requires written { (found : List SeenCommand) × (commands_of bytes.now).gives found }
     ensures given { IfOk result (λ commands. (commands_of bytes.now).gives commands) }

@@ -10,7 +10,7 @@ ghost use Rattle.ijtag_work.specs.Headline.{LeavesRightSvf};
 ghost use Rattle.ijtag_work.specs.Leaves.{Leaves};
 ghost use Rattle.ijtag_work.specs.Order.{task};
 ghost use Rattle.ijtag_work.specs.Runs.{AreKept, IsDone, IsPartDone, IsReadFault, IsRunStop, IsStop, IfTold, LoadRose, FirstRose, WriteRose, OnlyTheseChange, OnlyTheseRise, Tells, IsOrMemory, IsEarlyStatus, IsPartStatus, IsWriteStop, status_if, counts, seen, loads_in, writes_in, prints_in};
-ghost use Rattle.ijtag_work.specs.Stops.{Stop, Usage, Refuses, ReadFault, stop_text};
+ghost use Rattle.ijtag_work.specs.Stops.{Stop, Usage, Refuses, ReadFault, stop_text, usage_line};
 ghost use Rattle.ijtag_work.specs.Task.{work};
 ghost use Rattle.ijtag_work.specs.Tested.{IfTests, IsTested};
 
@@ -67,10 +67,10 @@ pub fn ijtag<S: Shelf, O: Sink, E: Sink>(
         IfAudits command (λ audit. IsOwnText files audit → ¬ LoadRose (task command) c
         → ¬ WriteRose (task command) c → IsOrMemory result Status.Good)) }
 
-    // What the text of a mux test does: played, nothing differs and no instrument has an event; and with a multiplexer stuck in a row
-    // that it sees, a compare differs.
+    // What the SVF file of a mux test does: it holds the text of the accepted network's test. Played, nothing differs and no instrument
+    // has an event; and with a multiplexer stuck in a row that it sees, a compare differs.
     ensures tested { result ≡ Status.Good → IfSome (command_in words.now.items) (λ command.
-        IfTests command (IsTested (S.files shelf.old))) }
+        IfTests command (λ m. IsTested (S.files shelf.old) (file_at (S.files shelf.new) m.svf) m)) }
 
     // Where all of the command's work is done, and all that was printed is handed on; and what is accepted is done where no fault is
     // counted.
@@ -90,13 +90,13 @@ pub fn ijtag<S: Shelf, O: Sink, E: Sink>(
     ensures usage { result ≡ Status.Usage → IsNone (command_in words.now.items) }
     ensures no_command { IsNone (command_in words.now.items) → IsOrMemory result Status.Usage }
     ensures says_usage { result ≡ Status.Usage
-        → Tells E.taken E.faults err.old err.new (stop_text Usage) }
+        → Tells E.taken E.faults err.old err.new (stop_text usage_line Usage) }
 
     // Refused exactly at the first refusal of the command's work, which is printed, unless a load failed, or a write of the files that
     // come before the texts.
     ensures refused { result ≡ Status.Refused → IfSome (command_in words.now.items) (λ command.
         (refusal : Refusal) × (work (S.files shelf.old) (task command)).refuses refusal
-        × Tells E.taken E.faults err.old err.new (stop_text (Refuses refusal))) }
+        × Tells E.taken E.faults err.old err.new (stop_text usage_line (Refuses refusal))) }
     ensures refuses { IfTold (command_in words.now.items) (S.files shelf.old) (λ command files.
         let c = counts S.load_faults S.store_faults O.faults shelf.old shelf.new out.old out.new in
         (refusal : Refusal) → (work (Some files) (task command)).refuses refusal
@@ -107,12 +107,12 @@ pub fn ijtag<S: Shelf, O: Sink, E: Sink>(
     ensures read_fault { result ≡ Status.ReadFault → IfSome (command_in words.now.items) (λ command.
         (name : List ℕ) × IsReadFault (S.files shelf.old) (task command).loads
         (S.load_faults shelf.old) (S.load_faults shelf.new) name
-        × Tells E.taken E.faults err.old err.new (stop_text (ReadFault name))) }
+        × Tells E.taken E.faults err.old err.new (stop_text usage_line (ReadFault name))) }
     ensures write_fault { result ≡ Status.WriteFault
         → IfSome (command_in words.now.items) (λ command.
         let c = counts S.load_faults S.store_faults O.faults shelf.old shelf.new out.old out.new in
         (stop : Stop) × IsStop (S.files shelf.old) (task command) c stop × IsWriteStop (task command) c stop
-        × Tells E.taken E.faults err.old err.new (stop_text stop)) }
+        × Tells E.taken E.faults err.old err.new (stop_text usage_line stop)) }
 
     // Nothing changes before all is accepted but the files that are written before, then a first part of what the command leaves,
     // and never anything else.
@@ -125,7 +125,7 @@ pub fn ijtag<S: Shelf, O: Sink, E: Sink>(
     ensures says_part { result ≡ Status.OutOfMemory → (stop : Stop)
         × IsRunStop task (command_in words.now.items) (S.files shelf.old)
         (counts S.load_faults S.store_faults O.faults shelf.old shelf.new out.old out.new) stop
-        × AddsPart (E.taken err.old) (E.taken err.new) (stop_text stop) }
+        × AddsPart (E.taken err.old) (E.taken err.new) (stop_text usage_line stop) }
     ensures only_its_files_change { OnlyTheseChange (writes_in task (command_in words.now.items))
         (S.files shelf.old) (S.files shelf.new) }
     ensures only_reports_print { OnFalse (prints_in task (command_in words.now.items))

@@ -1,5 +1,5 @@
 -- What an audit that says yes means, and what it says of the text that a compile of the same files writes.
-use Rattle.std.specs.Prelude.{All, IfSome, ◌<◌, Ok}
+use Rattle.std.specs.Prelude.{All, IfSome, ◌<◌, Ok, Result}
 use Rattle.std.specs.Option.{option_map}
 use Rattle.std.proofs.Common.{◌≡◌, ℕ, true, false, Option, Some, None, List, [], ◌∷◌, length, refl, sym, ap, ◌∙◌, subst, arith}
 use Rattle.ij_io.specs.Files.{Files, bytes_of}
@@ -7,7 +7,7 @@ use Rattle.net_graph.specs.Devices.{IsDevice}
 use Rattle.net_graph.specs.SeenSteps.{SeenStep}
 use Rattle.net_graph.specs.Resets.{start_holds}
 use Rattle.net_graph.specs.Steps.{IsStep}
-use Rattle.svf_reader.specs.Meaning.{svf}
+use Rattle.svf_reader.specs.Meaning.{Refusal as SvfRefusal, svf}
 use Rattle.svf_writer.specs.Fits.{AreFit}
 use Rattle.svf_writer.specs.SeenCommands.{SeenCommand}
 use Rattle.headline.specs.Script.{ScannedStep, script_commands}
@@ -23,7 +23,7 @@ use Rattle.ijtag_stages.specs.Nested.{IsNested}
 use Rattle.ijtag_stages.specs.SvfText.{svf_text}
 use Rattle.ijtag_stages.specs.declared.network.Network.{Network}
 use Rattle.ijtag_work.specs.Accepted.{SeenAccepted, accepted, accepted_of, if_given, listed}
-use Rattle.ijtag_work.specs.Audited.{IfAudits, IsOwnText, OwnTextsPass, PlayAsMeant}
+use Rattle.ijtag_work.specs.Audited.{DoAsMeant, IfAudits, IsOwnText, OwnTextsPass, WrittenTextsPass}
 use Rattle.ijtag_work.specs.Command.{Command, Compiles, Plays, Directs, Runs, Makes, Migrates, Audit, Audits, MuxTests, own_compile}
 use Rattle.ijtag_work.specs.Leaves.{Leaves, Written}
 use Rattle.ijtag_work.specs.Loads.{loaded, loaded_one}
@@ -42,41 +42,36 @@ readings_of : (v : Verdict) → says_no v ≡ false → (readings : List Reading
 readings_of (Yes readings) agrees = (readings, refl)
 readings_of (No scan cause) agrees = absurd (cc)
 
--- commands that can be played, for a procedure of a network that can be compiled for
+-- a procedure of a network that can be compiled for
 record IsSound (it : SeenAccepted) : Type 0 where
   network : IsRetargetable it.network.net it.network.form
   device : IsDevice it.device
   steps : All (IsStep it.network.net) it.steps
-  fit : AreFit it.commands
-
-fit_of : (commands : Option (List SeenCommand)) → there commands ≡ true → IfSome commands ArePlayable → AreFit (listed commands)
-fit_of None some is = absurd (cc)
-fit_of (Some cs) some is = is.fit
 
 steps_fit : BitStepsAreOfTheNetwork → (network : Network) → IsNested network.net network.form → (p : Option Procedure) → there p ≡ true → All (IsStep network.net) (listed (option_map (steps_of network) p))
 steps_fit valid network nested None some = absurd (cc)
 steps_fit valid network nested (Some p) some = valid (seen_procs p.procs) network.net network.form p.name.items nested.well_formed
 
 -- so is what an audit accepts
-audit_sound : BitStepsAreOfTheNetwork → (it : Accepted) → IsUsable it → there it.commands ≡ true → there it.procedure ≡ true → IsSound (seen_accepted it)
-audit_sound valid it can commands procedure = record {
+audit_sound : BitStepsAreOfTheNetwork → (it : Accepted) → IsUsable it → there it.procedure ≡ true → IsSound (seen_accepted it)
+audit_sound valid it can procedure = record {
   network = record { well_formed = can.nested.well_formed; describes = can.nested.describes; lawful = can.nested.lawful };
   device = can.device;
   steps = steps_fit valid it.network can.nested it.procedure procedure;
-  fit = fit_of it.commands commands can.commands;
 }
 
-pub plays_as_meant : AuditedPlaysDoAll → BitStepsAreOfTheNetwork → (it : Accepted) → IsUsable it → there it.commands ≡ true → there it.procedure ≡ true → says_no (verdict_of (seen_accepted it)) ≡ false
-    → PlayAsMeant (seen_accepted it)
-plays_as_meant law valid it can commands procedure agrees =
+pub plays_as_meant : AuditedPlaysDoAll → BitStepsAreOfTheNetwork → (it : Accepted) → IsUsable it → there it.procedure ≡ true → (commands : List SeenCommand) → AreFit commands
+    → says_no (audit_commands it.network.net it.device (seen_accepted it).steps commands) ≡ false → DoAsMeant (seen_accepted it) commands
+plays_as_meant law valid it can procedure commands fit agrees =
     let of : SeenAccepted = seen_accepted it in
-    let sound : IsSound of = audit_sound valid it can commands procedure in
-    let yes : (readings : List Reading) × (verdict_of of ≡ Yes readings) = readings_of (verdict_of of) agrees in
+    let sound : IsSound of = audit_sound valid it can procedure in
     let net = of.network.net in
+    let said : Verdict = audit_commands net of.device of.steps commands in
+    let yes : (readings : List Reading) × (said ≡ Yes readings) = readings_of said agrees in
     record {
       readings = yes.0;
       yes = yes.1;
-      does = λ machines. law net of.device machines of.steps of.commands yes.0 sound.network.well_formed (selects_drive_nothing net of.network.form sound.network) sound.device sound.steps sound.fit yes.1;
+      does = λ machines. law net of.device machines of.steps commands yes.0 sound.network.well_formed (selects_drive_nothing net of.network.form sound.network) sound.device sound.steps fit yes.1;
     }
 
 -- ---- the text that is compiled
@@ -84,6 +79,9 @@ plays_as_meant law valid it can commands procedure agrees =
 abbrev first_bytes : List Written → List ℕ
 first_bytes [] = []
 first_bytes (w ∷ ws) = w.bytes
+
+ok_same : (a b : List SeenCommand) → ◌≡◌ {A = Result (List SeenCommand) SvfRefusal} (Ok a) (Ok b) → a ≡ b
+ok_same a b e = cc
 
 -- what a compile leaves, by the bytes of its file
 bytes_same : (name : List ℕ) (a b : List ℕ) → filed name a ≡ filed name b → a ≡ b
@@ -170,6 +168,12 @@ module _ (scripts : PlansAreScripts) (pass : PlannedScriptsPass) (listed : Plans
       let right = own.2.2.1 in
       let same : bytes_of files a.svf ≡ bytes = bytes_same a.svf (bytes_of files a.svf) bytes own.2.2.2 in
       own_passes files a texts it read is (subst (λ (b : List ℕ). DoSteps it.network.net it.network.form it.device it.steps b) (sym same) right)
+
+  -- whichever commands a reader finds in such a text
+  pub written_yes : WrittenTextsPass
+  unfolding written_text
+  written_yes it bytes commands right read =
+      own_yes it bytes commands right (ok_same commands _ (sym read ∙ right.read))
 
 -- ---- so the status of such an audit
 

@@ -1,5 +1,5 @@
 -- The work of a command comes to one end at most: what is given is one value, and then nothing is refused; and a refusal is one.
-use Rattle.std.proofs.Common.{refl, ◌≡◌, ◌⊎◌, inl, inr, ◌<◌, ◌≤◌, ◌∙◌, sym, ap, ℕ, Option, Some, None, Result, Ok, List, [], ◌∷◌, length, codes, arith}
+use Rattle.std.proofs.Common.{refl, subst, ◌≡◌, ◌⊎◌, inl, inr, ◌<◌, ◌≤◌, ◌∙◌, sym, ap, ℕ, Option, Some, None, Result, Ok, List, [], ◌∷◌, length, codes, arith}
 use Rattle.ij_io.specs.Files.{Files, bytes_of}
 use Rattle.headline.specs.Retargeting.{TextsAreOne}
 use Rattle.bench_report.specs.Report.{named_report}
@@ -18,16 +18,31 @@ use Rattle.ijtag_stages.specs.PdlText.{pdl_text}
 use Rattle.ijtag_stages.specs.SvfText.{svf_text}
 use Rattle.ijtag_stages.specs.TablesText.{tables_text}
 use Rattle.ijtag_stages.specs.Refusals.{Part}
-use Rattle.ijtag_stages.specs.Work.{IsDecided}
+use Rattle.ijtag_stages.specs.Work.{◌>>=◌, IsDecided}
 use Rattle.ijtag_stages.proofs.Turns.{give_decided, never_decided, in_turn_decided}
 use Rattle.ijtag_work.specs.Accepted.{SeenAccepted, Texts, accepted, accepted_of, followed, if_given}
 use Rattle.ijtag_work.specs.Command.{Command, Compiles, Plays, Directs, Runs, Make, Makes, made_svf, Migrates, Audits, MuxTests}
-use Rattle.ijtag_work.specs.Leaves.{Written}
+use Rattle.ijtag_work.specs.Leaves.{Leaves, Written}
 use Rattle.ijtag_work.specs.Loads.{Load, loaded, loaded_one}
 use Rattle.ijtag_work.specs.Order.{accepted_made, audit, commands_of, compile, compiled, direct, direct_texts, made_files, made_of, make_work, mux_test, mux_tested, play, read_tables_of, run, run_of, run_report, taken, taken_one, task, within_limit, written_text}
 use Rattle.mux_test.specs.Test.{scanned}
-use Rattle.ijtag_work.specs.Runs.{AreDecided}
-use Rattle.ijtag_work.specs.Task.{Row, row_work}
+use Rattle.ijtag_work.specs.Runs.{AreDecided, AreSettled, IsSettled, RowsSettle}
+use Rattle.ijtag_work.specs.Task.{Row, Task, row_work, task_of, work}
+
+-- ---- work that is decided is settled, and so is what follows it
+
+pub settled_of : (part : Part Leaves) → IsDecided part → IsSettled part
+settled_of part d = record { alike = λ a b p q. ap (λ (l : Leaves). l.differs) (d.one a b p q); apart = d.apart }
+
+pub all_settled : {C : Type 0} (task : C → Task) → AreDecided task → AreSettled task
+all_settled task d = λ files command. settled_of (work (Some files) (task command)) (d files command)
+
+pub in_turn_settled : {A : Type 0} (first : Part A) (next : A → Part Leaves) → IsDecided first → ((a : A) → IsSettled (next a)) → IsSettled (first >>= next)
+in_turn_settled {A} first next f n =
+    record {
+      alike = λ x y p q. (n q.0).alike x y (subst (λ a. (next a).gives x) (f.one p.0 q.0 p.1 q.1) p.2) q.2;
+      apart = λ x r p q. elim q [ inl own ↦ f.apart p.0 r p.1 own | inr later ↦ (n later.0).apart x r (subst (λ a. (next a).gives x) (f.one p.0 later.0 p.1 later.1) p.2) later.2 ];
+    }
 
 -- ---- loads
 
@@ -182,3 +197,9 @@ module _ (stages : StagesAreDecided) (texts_one : TextsAreOne) (places_one : Pla
 
   pub work_decided : AreDecided task
   work_decided files command = in_turn_decided (loaded (Some files) (task command).loads) _ (loads_decided files (task command).loads) (work_on_decided command)
+
+  -- a command of any table
+  pub row_settled : RowsSettle
+  row_settled row leaves files =
+      in_turn_settled (loaded (Some files) row.loads) (row_work row) (loads_decided files row.loads)
+      (λ texts. in_turn_settled (accepted_of (row.texts texts)) row.leaves (accepted_of_decided (row.texts texts)) leaves)

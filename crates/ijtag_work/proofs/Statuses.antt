@@ -7,8 +7,7 @@ use Rattle.ijtag_work.specs.Loads.{Load, names_of, IsOneOf}
 use Rattle.ijtag_work.specs.Leaves.{Leaves}
 use Rattle.ijtag_work.specs.Task.{Task, work}
 use Rattle.ijtag_stages.specs.Refusals.{Refusal}
-use Rattle.ijtag_stages.specs.Work.{IsDecided}
-use Rattle.ijtag_work.specs.Runs.{Counts, Seen, IsReached, SomeRose, LoadRose, FirstRose, WriteRose, IsWriteStop, IsRunStop, IsStop, IsDone, IsOrMemory, IfTold, AreDecided, status_if}
+use Rattle.ijtag_work.specs.Runs.{Counts, Seen, IsReached, SomeRose, LoadRose, FirstRose, WriteRose, IsWriteStop, IsRunStop, IsStop, IsDone, IsOrMemory, IfTold, AreSettled, IsSettled, status_if}
 use Rattle.ijtag_work.specs.Stops.{Stop, Usage, Refuses, ReadFault, WriteFault, OutputFault, NoMemory, status_of}
 use Rattle.ijtag_work.specs.declared.status.Status.{Status}
 use Rattle.ijtag_work.specs.declared.status.Status.TheVariants.{Refused, OutOfMemory}
@@ -36,55 +35,55 @@ or_memory : (result status : Status) → (result ≡ OutOfMemory) ⊎ (result �
 or_memory result status ends = elim ends [ inl own ↦ inr own | inr memory ↦ inr memory ]
 
 -- a stop of what is accepted
-accepted_stops : (files : Files) (t : Task) → IsDecided (work (Some files) t) → (c : Counts) (stop : Stop) (result : Status) (leaves : Leaves) → (work (Some files) t).gives leaves → (LoadRose t c → ⊥) → (WriteRose t c → ⊥)
+accepted_stops : (files : Files) (t : Task) → IsSettled (work (Some files) t) → (c : Counts) (stop : Stop) (result : Status) (leaves : Leaves) → (work (Some files) t).gives leaves → (LoadRose t c → ⊥) → (WriteRose t c → ⊥)
     → IsStop (Some files) t c stop → IsOrMemory result (status_of stop) → IsOrMemory result (status_if leaves.differs)
-accepted_stops files t decided c Usage result leaves given no_load no_write is ends = absurd is
-accepted_stops files t decided c (Refuses refusal) result leaves given no_load no_write is ends = absurd (decided.apart leaves refusal given is)
-accepted_stops files t decided c (ReadFault name) result leaves given no_load no_write is ends =
+accepted_stops files t settled c Usage result leaves given no_load no_write is ends = absurd is
+accepted_stops files t settled c (Refuses refusal) result leaves given no_load no_write is ends = absurd (settled.apart leaves refusal given is)
+accepted_stops files t settled c (ReadFault name) result leaves given no_load no_write is ends =
     absurd (no_load (some_rose (names_of t.loads) c.load c.load_now name (is_loaded (Some files) t.loads name is.0) is.1))
-accepted_stops files t decided c (WriteFault name) result leaves given no_load no_write is ends = absurd (no_write (write_rose t c (WriteFault name) is.1))
-accepted_stops files t decided c OutputFault result leaves given no_load no_write is ends = absurd (no_write (write_rose t c OutputFault is.1))
-accepted_stops files t decided c NoMemory result leaves given no_load no_write is ends = or_memory result (status_if leaves.differs) ends
+accepted_stops files t settled c (WriteFault name) result leaves given no_load no_write is ends = absurd (no_write (write_rose t c (WriteFault name) is.1))
+accepted_stops files t settled c OutputFault result leaves given no_load no_write is ends = absurd (no_write (write_rose t c OutputFault is.1))
+accepted_stops files t settled c NoMemory result leaves given no_load no_write is ends = or_memory result (status_if leaves.differs) ends
 
-pub complete_stop : {C : Type 0} (task : C → Task) → AreDecided task → (words : Option C) (files : Option Files) (c : Counts) (stop : Stop) (result : Status) → IsRunStop task words files c stop → IsOrMemory result (status_of stop)
+pub complete_stop : {C : Type 0} (task : C → Task) → AreSettled task → (words : Option C) (files : Option Files) (c : Counts) (stop : Stop) (result : Status) → IsRunStop task words files c stop → IsOrMemory result (status_of stop)
     → IfSome words (λ command. IfSome files (λ f. (leaves : Leaves) → (work (Some f) (task command)).gives leaves → (LoadRose (task command) c → ⊥) → (WriteRose (task command) c → ⊥) → IsOrMemory result (status_if leaves.differs)))
-complete_stop task decided None files c stop result is ends = tt
-complete_stop task decided (Some command) None c stop result is ends = tt
-complete_stop task decided (Some command) (Some f) c stop result is ends = λ leaves given no_load no_write. accepted_stops f (task command) (decided f command) c stop result leaves given no_load no_write is ends
+complete_stop task settled None files c stop result is ends = tt
+complete_stop task settled (Some command) None c stop result is ends = tt
+complete_stop task settled (Some command) (Some f) c stop result is ends = λ leaves given no_load no_write. accepted_stops f (task command) (settled f command) c stop result leaves given no_load no_write is ends
 
 -- what was done is what is accepted
-pub complete_done : {C : Type 0} (task : C → Task) → AreDecided task → (words : Option C) (files : Option Files) (c : Counts) (old new : Seen) (differs : Bool) (result : Status) → IfSome words (λ command. IsDone (work files (task command)) old new differs)
+pub complete_done : {C : Type 0} (task : C → Task) → AreSettled task → (words : Option C) (files : Option Files) (c : Counts) (old new : Seen) (differs : Bool) (result : Status) → IfSome words (λ command. IsDone (work files (task command)) old new differs)
     → result ≡ status_if differs → IfSome words (λ command. IfSome files (λ f. (leaves : Leaves) → (work (Some f) (task command)).gives leaves → (LoadRose (task command) c → ⊥) → (WriteRose (task command) c → ⊥) → IsOrMemory result (status_if leaves.differs)))
-complete_done task decided None files c old new differs result done ends = tt
-complete_done task decided (Some command) None c old new differs result done ends = tt
-complete_done task decided (Some command) (Some f) c old new differs result done ends =
-    λ leaves given no_load no_write. inl (ends ∙ ap status_if (done.verdict ∙ ap (λ (l : Leaves). l.differs) ((decided f command).one done.leaves leaves done.given given)))
+complete_done task settled None files c old new differs result done ends = tt
+complete_done task settled (Some command) None c old new differs result done ends = tt
+complete_done task settled (Some command) (Some f) c old new differs result done ends =
+    λ leaves given no_load no_write. inl (ends ∙ ap status_if (done.verdict ∙ (settled f command).alike done.leaves leaves done.given given))
 
 -- a stop of what meets a refusal
-refused_stops : (files : Files) (t : Task) → IsDecided (work (Some files) t) → (c : Counts) (stop : Stop) (result : Status) (refusal : Refusal) → (work (Some files) t).refuses refusal → (LoadRose t c → ⊥) → (FirstRose t c → ⊥)
+refused_stops : (files : Files) (t : Task) → IsSettled (work (Some files) t) → (c : Counts) (stop : Stop) (result : Status) (refusal : Refusal) → (work (Some files) t).refuses refusal → (LoadRose t c → ⊥) → (FirstRose t c → ⊥)
     → IsStop (Some files) t c stop → IsOrMemory result (status_of stop) → IsOrMemory result Refused
-refused_stops files t decided c Usage result refusal first no_load no_first is ends = absurd is
-refused_stops files t decided c (Refuses other) result refusal first no_load no_first is ends = ends
-refused_stops files t decided c (ReadFault name) result refusal first no_load no_first is ends =
+refused_stops files t settled c Usage result refusal first no_load no_first is ends = absurd is
+refused_stops files t settled c (Refuses other) result refusal first no_load no_first is ends = ends
+refused_stops files t settled c (ReadFault name) result refusal first no_load no_first is ends =
     absurd (no_load (some_rose (names_of t.loads) c.load c.load_now name (is_loaded (Some files) t.loads name is.0) is.1))
-refused_stops files t decided c (WriteFault name) result refusal first no_load no_first is ends = elim is.0 [
-  | inl all ↦ absurd (decided.apart all.0 refusal all.1 first)
+refused_stops files t settled c (WriteFault name) result refusal first no_load no_first is ends = elim is.0 [
+  | inl all ↦ absurd (settled.apart all.0 refusal all.1 first)
   | inr before ↦ absurd (no_first (some_rose t.first_writes c.store c.store_now name before.1 is.1.1))
 ]
-refused_stops files t decided c OutputFault result refusal first no_load no_first is ends = absurd (decided.apart is.0.0 refusal is.0.1 first)
-refused_stops files t decided c NoMemory result refusal first no_load no_first is ends = or_memory result Refused ends
+refused_stops files t settled c OutputFault result refusal first no_load no_first is ends = absurd (settled.apart is.0.0 refusal is.0.1 first)
+refused_stops files t settled c NoMemory result refusal first no_load no_first is ends = or_memory result Refused ends
 
-pub refuses_stop : {C : Type 0} (task : C → Task) → AreDecided task → (words : Option C) (files : Option Files) (c : Counts) (stop : Stop) (result : Status) → IsRunStop task words files c stop → IsOrMemory result (status_of stop)
+pub refuses_stop : {C : Type 0} (task : C → Task) → AreSettled task → (words : Option C) (files : Option Files) (c : Counts) (stop : Stop) (result : Status) → IsRunStop task words files c stop → IsOrMemory result (status_of stop)
     → IfSome words (λ command. IfSome files (λ f. (refusal : Refusal) → (work (Some f) (task command)).refuses refusal → (LoadRose (task command) c → ⊥) → (FirstRose (task command) c → ⊥) → IsOrMemory result Refused))
-refuses_stop task decided None files c stop result is ends = tt
-refuses_stop task decided (Some command) None c stop result is ends = tt
-refuses_stop task decided (Some command) (Some f) c stop result is ends = λ refusal first no_load no_first. refused_stops f (task command) (decided f command) c stop result refusal first no_load no_first is ends
+refuses_stop task settled None files c stop result is ends = tt
+refuses_stop task settled (Some command) None c stop result is ends = tt
+refuses_stop task settled (Some command) (Some f) c stop result is ends = λ refusal first no_load no_first. refused_stops f (task command) (settled f command) c stop result refusal first no_load no_first is ends
 
-pub refuses_done : {C : Type 0} (task : C → Task) → AreDecided task → (words : Option C) (files : Option Files) (c : Counts) (old new : Seen) (differs : Bool) (result : Status) → IfSome words (λ command. IsDone (work files (task command)) old new differs)
+pub refuses_done : {C : Type 0} (task : C → Task) → AreSettled task → (words : Option C) (files : Option Files) (c : Counts) (old new : Seen) (differs : Bool) (result : Status) → IfSome words (λ command. IsDone (work files (task command)) old new differs)
     → IfSome words (λ command. IfSome files (λ f. (refusal : Refusal) → (work (Some f) (task command)).refuses refusal → (LoadRose (task command) c → ⊥) → (FirstRose (task command) c → ⊥) → IsOrMemory result Refused))
-refuses_done task decided None files c old new differs result done = tt
-refuses_done task decided (Some command) None c old new differs result done = tt
-refuses_done task decided (Some command) (Some f) c old new differs result done = λ refusal first no_load no_first. absurd ((decided f command).apart done.leaves refusal done.given first)
+refuses_done task settled None files c old new differs result done = tt
+refuses_done task settled (Some command) None c old new differs result done = tt
+refuses_done task settled (Some command) (Some f) c old new differs result done = λ refusal first no_load no_first. absurd ((settled f command).apart done.leaves refusal done.given first)
 
 -- one status for each verdict
 verdict_is : (a b : Bool) → status_if a ≡ status_if b → a ≡ b

@@ -1,23 +1,30 @@
 -- What it means that an audit says yes; and what it says of the text that is compiled of the same files.
-use Rattle.std.specs.Prelude.{◌≡◌, ℕ, Bool, false, List, Option, Some}
+use Rattle.std.specs.Prelude.{◌≡◌, ℕ, Bool, false, List, Ok, Option, Some}
 use Rattle.ij_io.specs.Files.{Files, bytes_of}
 use Rattle.instruments.specs.Machine.{Machine, whole_log}
 use Rattle.net_bench.specs.Bench.{fault_free}
 use Rattle.svf_audit.specs.Law.{DoesAll}
-use Rattle.svf_audit.specs.Audit.{Reading, Yes}
+use Rattle.svf_audit.specs.Audit.{Reading, Yes, audit as audit_commands}
+use Rattle.svf_audit.specs.Report.{says_no}
+use Rattle.svf_reader.specs.Meaning.{svf}
+use Rattle.svf_writer.specs.SeenCommands.{SeenCommand}
 use Rattle.ijtag_work.specs.Accepted.{SeenAccepted}
 use Rattle.ijtag_work.specs.Command.{Command, Compiles, Plays, Directs, Runs, Makes, Migrates, Audit, Audits, MuxTests, own_compile}
 use Rattle.ijtag_work.specs.Tested.{IsTested}
-use Rattle.ijtag_work.specs.Order.{audit, filed, task, told, verdict_of}
+use Rattle.ijtag_work.specs.Order.{audit, filed, task, told, written_text}
 use Rattle.ijtag_work.specs.Promises.{AcceptedWith}
 use Rattle.ijtag_work.specs.Task.{work}
 
--- the audit says yes, and the commands of SVF, played clock by clock from power-up, do what the procedure means, and compare exactly
--- what it reads, whatever the instruments are
-pub record PlayAsMeant (it : SeenAccepted) : Type 0 where
+-- the audit says yes of commands of SVF, and these, played clock by clock from power-up, do what the procedure means, and compare
+-- exactly what it reads, whatever the instruments are
+pub record DoAsMeant (it : SeenAccepted) (commands : List SeenCommand) : Type 0 where
   pub readings : List Reading
-  pub yes : verdict_of it ≡ Yes readings
-  pub does : (machines : List Machine) → DoesAll (fault_free whole_log it.network.net it.device machines) it.steps it.commands readings
+  pub yes : audit_commands it.network.net it.device it.steps commands ≡ Yes readings
+  pub does : (machines : List Machine) → DoesAll (fault_free whole_log it.network.net it.device machines) it.steps commands readings
+
+-- so it is of the commands that are audited
+abbrev pub PlayAsMeant : SeenAccepted → Type 0
+PlayAsMeant it = DoAsMeant it it.commands
 
 -- the texts are accepted as such commands and a procedure
 abbrev pub IsAudited : Option Files → Audit → Type 0
@@ -42,13 +49,20 @@ IsOwnText files a = (work (Some files) (task (Compiles (own_compile a)))).gives 
 abbrev pub OwnTextsPass : Type 0
 OwnTextsPass = (files : Files) (a : Audit) → IsOwnText files a → (text : List ℕ) × (work (Some files) (task (Audits a))).gives (told text false)
 
--- what is promised of a command that ends with this verdict: of an audit without a difference, that what it audits is so
-abbrev pub IsPromised : Command → Option Files → Bool → Type 0
-IsPromised (Audits a) files differs = differs ≡ false → IsAudited files a
-IsPromised (Compiles c) files differs = Unit {0}
-IsPromised (Plays p) files differs = Unit {0}
-IsPromised (Directs d) files differs = Unit {0}
-IsPromised (Runs r) files differs = Unit {0}
-IsPromised (Makes m) files differs = Unit {0}
-IsPromised (Migrates m) files differs = Unit {0}
-IsPromised (MuxTests m) files differs = IsTested files m
+-- and so it says of the commands of any text that is written for bit steps
+abbrev pub WrittenTextsPass : Type 0
+WrittenTextsPass =
+    (it : SeenAccepted) (bytes : List ℕ) (commands : List SeenCommand) → (written_text it).gives bytes → svf bytes ≡ Ok commands
+    → says_no (audit_commands it.network.net it.device it.steps commands) ≡ false
+
+-- what is promised of a command that ends with this verdict, by the files before it and the contents of any file after it: of an audit
+-- without a difference, that what it audits is so, and of a mux test, that its SVF file is the test of what was accepted
+abbrev pub IsPromised : Command → Option Files → (List ℕ → Option (Option (List ℕ))) → Bool → Type 0
+IsPromised (Audits a) files file differs = differs ≡ false → IsAudited files a
+IsPromised (Compiles c) files file differs = Unit {0}
+IsPromised (Plays p) files file differs = Unit {0}
+IsPromised (Directs d) files file differs = Unit {0}
+IsPromised (Runs r) files file differs = Unit {0}
+IsPromised (Makes m) files file differs = Unit {0}
+IsPromised (Migrates m) files file differs = Unit {0}
+IsPromised (MuxTests m) files file differs = IsTested files (file m.svf) m

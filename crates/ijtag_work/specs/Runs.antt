@@ -8,8 +8,9 @@ use Rattle.retargeter.specs.Files.{HoldsPart}
 use Rattle.ijtag_work.specs.Loads.{Load, loaded_one, names_of, IsOneOf, IsNoneOf}
 use Rattle.ijtag_work.specs.Leaves.{Leaves, Written}
 use Rattle.ijtag_stages.specs.Work.{IsDecided}
-use Rattle.ijtag_work.specs.Task.{Task, work}
-use Rattle.ijtag_stages.specs.Refusals.{Part}
+use Rattle.ijtag_work.specs.Task.{Row, Task, task_of, work}
+use Rattle.ijtag_stages.specs.Refusals.{Part, Refusal}
+use Rattle.ijtag_work.specs.Accepted.{SeenAccepted}
 use Rattle.ijtag_work.specs.Stops.{Stop, Usage, Refuses, ReadFault, WriteFault, OutputFault, NoMemory, IsUsage}
 use Rattle.ijtag_work.specs.declared.status.Status.{Status}
 use Rattle.ijtag_work.specs.declared.status.Status.TheVariants.{Good, Differs, Usage as UsageStatus, Refused, ReadFault as ReadStatus, WriteFault as WriteStatus, OutOfMemory}
@@ -218,3 +219,17 @@ IsPartStatus OutOfMemory = Unit {0}
 
 abbrev pub AreDecided : {C : Type 0} → (C → Task) → Type 0
 AreDecided {C} task = (files : Files) (command : C) → IsDecided (work (Some files) (task command))
+
+-- ---- and where it may leave one thing or another, all differ alike, and nothing is refused
+
+pub record IsSettled (part : Part Leaves) : Type 0 where
+  pub alike : (a b : Leaves) → part.gives a → part.gives b → a.differs ≡ b.differs
+  pub apart : (a : Leaves) (r : Refusal) → part.gives a → part.refuses r → ⊥
+
+abbrev pub AreSettled : {C : Type 0} → (C → Task) → Type 0
+AreSettled {C} task = (files : Files) (command : C) → IsSettled (work (Some files) (task command))
+
+-- so it is of a command that accepts texts, where it is of what it leaves of what they are accepted as
+abbrev pub RowsSettle : Type 0
+RowsSettle =
+    (row : Row) → ((it : SeenAccepted) → IsSettled (row.leaves it)) → (files : Files) → IsSettled (work (Some files) (task_of row))

@@ -1,5 +1,6 @@
 -- What the SVF file of a mux test does, played on the chip, and on one with a multiplexer that is stuck.
-use Rattle.std.specs.Prelude.{◌≡◌, ◌≤◌, true, List, Ok, Option, length}
+use Rattle.std.specs.Prelude.{◌≡◌, ◌≤◌, ℕ, true, List, Ok, Option, Some, length}
+use Rattle.std.specs.Option.{option_map}
 use Rattle.ij_io.specs.Files.{Files}
 use Rattle.instruments.specs.Machine.{Machine, whole_log}
 use Rattle.net_bench.specs.Playing.{differing}
@@ -11,7 +12,7 @@ use Rattle.mux_test.specs.Seen.{is_seen_in_test}
 use Rattle.mux_test.specs.Test.{test_commands, test_text, tested}
 use Rattle.ijtag_work.specs.Accepted.{SeenAccepted}
 use Rattle.ijtag_work.specs.Command.{Command, Compiles, Plays, Directs, Runs, Makes, Migrates, Audits, MuxTest, MuxTests}
-use Rattle.ijtag_work.specs.Order.{mux_test}
+use Rattle.ijtag_work.specs.Order.{mux_test, test_text_of}
 use Rattle.ijtag_work.specs.Promises.{AcceptedWith}
 
 -- In the text of the test a reader of SVF finds its commands. Played clock by clock from power-up, whatever the instruments are, no
@@ -24,9 +25,13 @@ pub record TestsRight (it : SeenAccepted) : Type 0 where
       → 1 ≤ length (differing (compared (stuck whole_log it.network.net it.device machines b) it.network.form))
   pub reached : AreReached it.network.net it.network.form (start_holds it.network.net) (tested it.network.net it.network.form)
 
--- the texts of a mux test are accepted as a network of which this holds
-abbrev pub IsTested : Option Files → MuxTest → Type 0
-IsTested files m = AcceptedWith (mux_test m) files TestsRight
+-- where the texts are accepted as a network and a device: the SVF file holds the text of this network's test, of which this holds
+pub record HasRightTest (files : Option Files) (svf : Option (Option (List ℕ))) (it : SeenAccepted) : Type 0 where
+  pub written : svf ≡ option_map (λ _. Some (test_text_of it)) files
+  pub right : TestsRight it
+
+abbrev pub IsTested : Option Files → Option (Option (List ℕ)) → MuxTest → Type 0
+IsTested files svf m = AcceptedWith (mux_test m) files (HasRightTest files svf)
 
 -- what holds where a command is a mux test
 abbrev pub IfTests : Command → (MuxTest → Type 0) → Type 0

@@ -19,7 +19,7 @@ mod write;
 
 pub use accepted::{Accepted, Procedure, Texts, accept};
 pub use audited::own_texts_pass;
-pub use decided::works_are_decided;
+pub use decided::{rows_settle, works_are_decided};
 pub use follow::steps_again;
 use headline::{planned_scripts_law, planned_steps_law};
 pub use load::{Load, load_all};

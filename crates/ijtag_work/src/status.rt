@@ -9,7 +9,8 @@ ghost use Rattle.ijtag_work.specs.Seen.{differing};
 pub enum Status {
     /// All was written, and nothing differs.
     Good,
-    /// All was written, and a compare or a read differs. `compile` and `migrate`, which compare nothing, never end so.
+    /// All was written, and a compare or a read differs. `compile`, `migrate` and `muxtest`, which compare nothing,
+    /// never end so.
     Differs,
     /// The words are no command.
     Usage,

@@ -134,17 +134,15 @@ fn put_write_made<K: Sink>(name: &MadeName<'_>, k: &mut K) -> Result<(), StoreFa
     )
 }
 
-/// Prints the line of a stop.
+/// Prints the line of a stop, of a program with this usage line.
 #[tactic(auto, unfolding(crate::specs::Stops::stop_text))]
-fn put_stop<K: Sink>(stop: &Stop<'_>, k: &mut K) -> Result<(), StoreFault>
-    ensures whole { OnOk result (Adds (K.taken k.old) (K.taken k.new) (stop_text (seen_stop stop.now))) }
-    ensures part { OnErr result (AddsPart (K.taken k.old) (K.taken k.new) (stop_text (seen_stop stop.now))) }
+fn put_stop<K: Sink>(usage: &[u8], stop: &Stop<'_>, k: &mut K) -> Result<(), StoreFault>
+    ensures whole { OnOk result (Adds (K.taken k.old) (K.taken k.new) (stop_text usage.now (seen_stop stop.now))) }
+    ensures part { OnErr result (AddsPart (K.taken k.old) (K.taken k.new) (stop_text usage.now (seen_stop stop.now))) }
     ensures cause { HasCause (K.faults k.old) (K.faults k.new) result StoreFault.Failed }
 {
     match stop {
-        Stop::Usage => k.write(
-            b"usage: ijtag compile|play|run|direct|make|migrate|audit|muxtest\n",
-        ),
+        Stop::Usage => k.write(usage),
         Stop::Refused(refusal) => put_refusal(refusal, k),
         Stop::ReadFault(name) => put_named(b"read fault ", name, k),
         Stop::WriteFault(name) => put_named(b"write fault ", name, k),
@@ -154,14 +152,14 @@ fn put_stop<K: Sink>(stop: &Stop<'_>, k: &mut K) -> Result<(), StoreFault>
     }
 }
 
-/// Prints the line of a stop on the error stream and gives its status. A fault of the stream changes no status, and want of
-/// memory there is want of memory of the run.
-pub fn report<E: Sink>(stop: &Stop<'_>, err: &mut E) -> Status
+/// Prints the line of a stop on the error stream, of a program with this usage line, and gives its status. A fault of the
+/// stream changes no status, and want of memory there is want of memory of the run.
+pub fn report<E: Sink>(usage: &[u8], stop: &Stop<'_>, err: &mut E) -> Status
     ensures status { IsOrMemory result (status_of (seen_stop stop.now)) }
-    ensures told { (result ≡ Status.OutOfMemory → ⊥) → Tells E.taken E.faults err.old err.new (stop_text (seen_stop stop.now)) }
-    ensures part { AddsPart (E.taken err.old) (E.taken err.new) (stop_text (seen_stop stop.now)) }
+    ensures told { (result ≡ Status.OutOfMemory → ⊥) → Tells E.taken E.faults err.old err.new (stop_text usage.now (seen_stop stop.now)) }
+    ensures part { AddsPart (E.taken err.old) (E.taken err.new) (stop_text usage.now (seen_stop stop.now)) }
 {
-    match put_stop(stop, err) {
+    match put_stop(usage, stop, err) {
         Err(StoreFault::OutOfMemory) => Status::OutOfMemory,
         _ => stop.status(),
     }

@@ -1,6 +1,6 @@
 use Rattle.std.specs.Prelude.{IfSome}
-use Rattle.std.proofs.Common.{subst, false, Option, Some}
-use Rattle.ij_io.specs.Files.{Files}
+use Rattle.std.proofs.Common.{ℕ, List, subst, false, Option, Some}
+use Rattle.ij_io.specs.Files.{Files, file_at}
 use Rattle.ijtag_work.specs.Audited.{IsPromised}
 use Rattle.ijtag_work.specs.Command.{Command, command_in}
 use Rattle.ijtag_work.specs.Leaves.{Leaves}
@@ -24,20 +24,22 @@ pub returns-clause-tested : goal.returns-clause-tested
 returns-clause-tested g c =
     let words : Option Command = command_in c.args.words.now.items in
     let files : Option Files = g.S.Shelf.files c.args.shelf.now in
+    let file : List ℕ → Option (Option (List ℕ)) = file_at (g.S.Shelf.files c.run_program.new.shelf) in
     λ good.
-    test_right files words (subst (λ (ws : Option Command). IfSome ws (λ command. IsPromised command files false)) c.read_words.ensures (c.run_program.ensures.promise false good))
+    test_right files file words (subst (λ (ws : Option Command). IfSome ws (λ command. IsPromised command files file false)) c.read_words.ensures (c.run_program.ensures.promise false good))
 
 pub returns-clause-audited : goal.returns-clause-audited
 returns-clause-audited g c =
     let words : Option Command = command_in c.args.words.now.items in
     let files : Option Files = g.S.Shelf.files c.args.shelf.now in
+    let file : List ℕ → Option (Option (List ℕ)) = file_at (g.S.Shelf.files c.run_program.new.shelf) in
     λ good.
-    audit_right files words (subst (λ (ws : Option Command). IfSome ws (λ command. IsPromised command files false)) c.read_words.ensures (c.run_program.ensures.promise false good))
+    audit_right files file words (subst (λ (ws : Option Command). IfSome ws (λ command. IsPromised command files file false)) c.read_words.ensures (c.run_program.ensures.promise false good))
 
 pub returns-clause-own_text : goal.returns-clause-own_text
 returns-clause-own_text g c =
     let words : Option Command = command_in c.args.words.now.items in
     let files : Option Files = g.S.Shelf.files c.args.shelf.now in
     let k : Counts = counts g.S.Shelf.load_faults g.S.Shelf.store_faults g.O.Sink.faults c.args.shelf.now c.run_program.new.shelf c.args.out.now c.run_program.new.out in
-    own_good c.own_texts_pass.ensures words files k c.run_program.result
+    own_good c.own_texts_pass.ensures.files words files k c.run_program.result
     (subst (λ (ws : Option Command). IfTold ws files (λ command f. (leaves : Leaves) → (work (Some f) (task command)).gives leaves → (LoadRose (task command) k → ⊥) → (WriteRose (task command) k → ⊥) → IsOrMemory c.run_program.result (status_if leaves.differs))) c.read_words.ensures c.run_program.ensures.complete)

@@ -1,0 +1,6 @@
+use Rattle.ijtag_tools.proofs.Settling.{all_settle}
+use Rattle.ijtag_tools.proofs.commands.ToolWordsCommand.works_settle.Goals as goal
+
+pub returns : goal.returns
+returns c =
+    all_settle c.rows_settle.ensures

@@ -1,0 +1,74 @@
+-- The words that the second program is called with.
+use Rattle.std.specs.Prelude.{ℕ, Bool, true, false, List, [], ◌∷◌, Option, Some, None, map, codes}
+use Rattle.std.specs.Str.{bytes_eq}
+use Rattle.std.specs.String.{string_bytes}
+use Rattle.std.specs.declared.string.String.{String}
+use Rattle.std.specs.declared.alloc.Global.{Global}
+use Rattle.net_list.specs.declared.format.ListFormat.{ListFormat}
+use Rattle.net_list.specs.declared.format.ListFormat.TheVariants.{Text, Json}
+use Rattle.tight_planner.specs.declared.how.How.{How}
+use Rattle.tight_planner.specs.declared.how.How.TheVariants.{Full, Lean, Late}
+
+-- `list FORMAT ICL DEVICE TOP`: how it is printed, two file names and the top module
+pub record Listing : Type 0 where
+  pub format : ListFormat
+  pub icl : List ℕ
+  pub device : List ℕ
+  pub top : List ℕ
+
+-- `tighten HOW ICL PDL DEVICE TOP PROC NEW`: how it is planned, three file names, the top module and the procedure, and the file
+-- that is written
+pub record Tighten : Type 0 where
+  pub how : How
+  pub icl : List ℕ
+  pub pdl : List ℕ
+  pub device : List ℕ
+  pub top : List ℕ
+  pub procedure : List ℕ
+  pub svf : List ℕ
+
+pub data Command : Type 0 where
+  Lists : (words : Listing) → Command
+  Tightens : (words : Tighten) → Command
+
+-- the word for a format, and for a way of planning
+abbrev pub format_named : List ℕ → Option ListFormat
+format_named word = elim (bytes_eq word (codes "text")) [
+  | true ↦ Some Text
+  | false ↦ elim (bytes_eq word (codes "json")) [ true ↦ Some Json | false ↦ None ]
+]
+
+abbrev pub how_named : List ℕ → Option How
+how_named word = elim (bytes_eq word (codes "full")) [
+  | true ↦ Some Full
+  | false ↦ elim (bytes_eq word (codes "lean")) [
+    | true ↦ Some Lean
+    | false ↦ elim (bytes_eq word (codes "late")) [ true ↦ Some Late | false ↦ None ]
+  ]
+]
+
+abbrev pub list_of : Option ListFormat → List ℕ → List ℕ → List ℕ → Option Command
+list_of None icl device top = None
+list_of (Some format) icl device top = Some (Lists (record { format = format; icl = icl; device = device; top = top }))
+
+abbrev pub tighten_of : Option How → List ℕ → List ℕ → List ℕ → List ℕ → List ℕ → List ℕ → Option Command
+tighten_of None icl pdl device top procedure svf = None
+tighten_of (Some how) icl pdl device top procedure svf =
+    Some (Tightens (record { how = how; icl = icl; pdl = pdl; device = device; top = top; procedure = procedure; svf = svf }))
+
+-- exactly five words, of which the first is `list` and the second a format; or eight, of which the first is `tighten` and the second a
+-- way of planning
+abbrev pub command_of : List (List ℕ) → Option Command
+command_of (word ∷ format ∷ icl ∷ device ∷ top ∷ []) =
+    elim (bytes_eq word (codes "list")) [ true ↦ list_of (format_named format) icl device top | false ↦ None ]
+command_of (word ∷ how ∷ icl ∷ pdl ∷ device ∷ top ∷ procedure ∷ svf ∷ []) =
+    elim (bytes_eq word (codes "tighten")) [ true ↦ tighten_of (how_named how) icl pdl device top procedure svf | false ↦ None ]
+command_of _ = None
+
+-- the command that the words of the command line are, where they are one
+abbrev pub command_in : List (String Global) → Option Command
+command_in words = command_of (map string_bytes words)
+
+-- the usage line
+abbrev pub usage_line : List ℕ
+usage_line = codes "usage: ijtag-tools list|tighten\n"

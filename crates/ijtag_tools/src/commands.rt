@@ -1,0 +1,46 @@
+// The table of commands.
+ghost use Rattle.std.specs.Prelude.{◌≡◌};
+ghost use Rattle.ijtag_work.specs.Runs.{AreSettled};
+ghost use Rattle.ijtag_tools.specs.Command.{Command as NamedCommand, usage_line};
+ghost use Rattle.ijtag_tools.specs.Order.{task as task_named};
+ghost use Rattle.ijtag_tools.specs.Words.{seen_command};
+
+use crate::words::ToolWords;
+use ij_io::{Shelf, Sink};
+use ijtag_core::{Command, accept_and_act};
+use ijtag_work::{Stop, Verdict, rows_settle};
+use std::alloc::Global;
+
+impl<'w> Command for ToolWords<'w> {
+    ghost Named = { NamedCommand };
+
+    ghost named = { seen_command };
+
+    ghost task = { task_named };
+
+    ghost promise = { λ _ _ _ _. Unit {0} };
+
+    ghost usage_line = { usage_line };
+
+    fn usage() -> &'static [u8] {
+        b"usage: ijtag-tools list|tighten\n"
+    }
+
+    fn works_settle()
+        ensures { AreSettled task_named }
+    {
+        rows_settle();
+    }
+
+    fn run<'a, S: Shelf, O: Sink>(
+        &'a self,
+        alloc: Global,
+        shelf: &mut S,
+        out: &mut O,
+    ) -> Result<Verdict, Stop<'a>> {
+        match self {
+            ToolWords::List(it) => accept_and_act(alloc, &it.loads(), it, shelf, out),
+            ToolWords::Tighten(it) => accept_and_act(alloc, &it.loads(), it, shelf, out),
+        }
+    }
+}

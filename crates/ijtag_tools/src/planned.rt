@@ -1,0 +1,157 @@
+// The SVF texts of a procedure: the one that a compile writes, and one that is planned as a whole.
+ghost use Rattle.std.specs.Prelude.{◌≡◌, ◌≤◌, false, not, true, length, IfOk, IfSome, OnOk};
+ghost use Rattle.svf_audit.specs.Audit.{audit as audit_commands};
+ghost use Rattle.svf_audit.specs.Report.{says_no};
+ghost use Rattle.tap_machine.specs.Play.{scans_in};
+ghost use Rattle.ijtag_work.specs.Using.{IsUsable, seen_accepted, there};
+ghost use Rattle.ijtag_tools.specs.Planned.{IsCompiled, IsSound, IsTightened};
+
+use crate::cost::{Cost, cost_of};
+use ij_bits::OutOfMemory;
+use ij_io::SureSink;
+use ijtag_core::{SVF_LIMIT, a_yes_does_as_meant, make_svf, read_commands};
+use ijtag_stages::{StageFault, read_svf};
+use ijtag_work::{Accepted, own_texts_pass, steps_again};
+use merge_order::{bit_steps_are_few, bit_steps_are_of_the_network};
+use std::alloc::Global;
+use svf_audit::put_audit;
+use svf_writer::Commands;
+use tight_planner::{How, tight_text};
+
+/// An SVF text, and what its commands take.
+#[derive(Drop)]
+pub struct Planned {
+    /// The text.
+    pub svf: SureSink,
+    /// What its commands take.
+    pub cost: Cost,
+}
+
+/// The text that is written, what its commands take, and what those of a compile take.
+#[derive(Drop)]
+pub struct Tightened {
+    /// The text.
+    pub svf: SureSink,
+    /// What its commands take.
+    pub cost: Cost,
+    /// What those of the text that a compile writes take.
+    pub before: Cost,
+}
+
+/// Whether the audit says yes of commands for the accepted procedure.
+fn is_yes(alloc: Global, it: &Accepted, commands: &Commands) -> Result<bool, OutOfMemory>
+    requires usable { IsUsable it.now }
+    requires procedure { there it.now.procedure ≡ true }
+    requires few { scans_in commands.now ≤ 1000000000 }
+    ensures { IfOk result (λ yes. says_no (audit_commands it.now.network.net it.now.device (seen_accepted it.now).steps commands.now) ≡ not yes) }
+{
+    bit_steps_are_of_the_network();
+    bit_steps_are_few();
+    let mut line = SureSink::new(alloc);
+    let mut steps = steps_again(alloc, &it.network, it.procedure())?;
+    let told = put_audit(
+        alloc,
+        &it.network.net,
+        &it.device,
+        &mut steps,
+        commands,
+        &mut line,
+    );
+    drop(steps);
+    match told {
+        Ok(yes) => Ok(yes),
+        Err(_) => Err(OutOfMemory),
+    }
+}
+
+/// The text that a compile writes.
+fn compiled(alloc: Global, it: &Accepted) -> Result<Planned, OutOfMemory>
+    requires usable { IsUsable it.now }
+    requires procedure { there it.now.procedure ≡ true }
+    ensures { IfOk result (IsCompiled (seen_accepted it.now)) }
+{
+    own_texts_pass();
+    let svf = make_svf(alloc, it)?;
+    let commands = read_commands(alloc, svf.bytes())?;
+    a_yes_does_as_meant(it, &commands);
+    let cost = cost_of(&commands);
+    Ok(Planned { svf, cost })
+}
+
+/// The commands that a reader finds in a text, where it finds some.
+fn read(alloc: Global, text: &[u8]) -> Result<Option<Commands>, OutOfMemory>
+{
+    if text.len() > SVF_LIMIT as usize {
+        return Ok(None);
+    }
+    match read_svf(alloc, text) {
+        Ok(commands) => Ok(Some(commands)),
+        Err(StageFault::Refused(_)) => Ok(None),
+        Err(StageFault::OutOfMemory) => Err(OutOfMemory),
+    }
+}
+
+/// A text of any make, where its commands do what the procedure means.
+fn audited(alloc: Global, it: &Accepted, svf: SureSink) -> Result<Option<Planned>, OutOfMemory>
+    requires usable { IsUsable it.now }
+    requires procedure { there it.now.procedure ≡ true }
+    ensures { IfOk result (λ found. IfSome found (IsSound (seen_accepted it.now))) }
+{
+    let Some(commands) = read(alloc, svf.bytes())? else {
+        return Ok(None);
+    };
+    if !is_yes(alloc, it, &commands)? {
+        return Ok(None);
+    }
+    a_yes_does_as_meant(it, &commands);
+    let cost = cost_of(&commands);
+    Ok(Some(Planned { svf, cost }))
+}
+
+/// The text that is planned as a whole, where there is one whose commands do what the procedure means.
+fn planned(alloc: Global, it: &Accepted, how: How) -> Result<Option<Planned>, OutOfMemory>
+    requires usable { IsUsable it.now }
+    requires procedure { there it.now.procedure ≡ true }
+    ensures { IfOk result (λ found. IfSome found (IsSound (seen_accepted it.now))) }
+{
+    let network = &it.network;
+    let mut steps = steps_again(alloc, network, it.procedure())?;
+    let told = tight_text(
+        alloc,
+        &network.net,
+        &network.form,
+        &it.device,
+        &mut steps,
+        how,
+    );
+    drop(steps);
+    match told? {
+        Some(svf) => audited(alloc, it, svf),
+        None => Ok(None),
+    }
+}
+
+/// The text that is written: the one that is planned as a whole, where it takes no more than the one that a compile writes.
+pub fn tightest(alloc: Global, it: &Accepted, how: How) -> Result<Tightened, OutOfMemory>
+    requires usable { IsUsable it.now }
+    requires procedure { there it.now.procedure ≡ true }
+    ensures { IfOk result (IsTightened (seen_accepted it.now)) }
+{
+    let compiled = compiled(alloc, it)?;
+    let before = compiled.cost;
+    if let Some(planned) = planned(alloc, it, how)? {
+        let cost = planned.cost;
+        if cost.scans <= before.scans && cost.clocks <= before.clocks {
+            return Ok(Tightened {
+                svf: planned.svf,
+                cost,
+                before,
+            });
+        }
+    }
+    Ok(Tightened {
+        svf: compiled.svf,
+        cost: before,
+        before,
+    })
+}

@@ -1,0 +1,5 @@
+pub mod Fewest
+pub mod Forms
+pub mod Drivers
+pub mod Lines
+pub mod Listing

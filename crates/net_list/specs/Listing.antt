@@ -1,0 +1,30 @@
+-- What a network has, one thing a line: each register, multiplexer and instrument once, in the network's order, and totals.
+use Rattle.std.specs.Prelude.{ℕ, zero, suc, List, [], ◌++◌, codes, length, map, sum, unwrap_or}
+use Rattle.net_graph.specs.Chain.{chain}
+use Rattle.net_graph.specs.declared.net.Net.{Net}
+use Rattle.net_graph.specs.Path.{path}
+use Rattle.net_graph.specs.Resets.{start_holds}
+use Rattle.net_tree.specs.Form.{Items}
+use Rattle.net_list.specs.declared.format.ListFormat.{ListFormat}
+use Rattle.net_list.specs.Forms.{either, counted}
+use Rattle.net_list.specs.Lines.{register_line, mux_line, instrument_line}
+
+-- the lines of n things from number i on
+abbrev pub lines_from : (ℕ → List ℕ) → ℕ → ℕ → List ℕ
+lines_from line i zero = []
+lines_from line i (suc n) = line i ++ lines_from line (suc i) n
+
+-- the bits of all registers, and of those on the active path at power-up
+abbrev pub bit_count : Net → ℕ
+bit_count net = sum (map (λ reg. reg.width) net.regs.items)
+
+abbrev pub start_path_bits : Net → ℕ
+start_path_bits net = length (chain (unwrap_or (path net (start_holds net)) []) (start_holds net))
+
+abbrev pub totals_line : ListFormat → Net → ℕ → ℕ → List ℕ
+totals_line f net bits path =
+    counted f (codes "network registers ") (codes "{\"network\":{\"registers\":") (length net.regs.items) ++ (counted f (codes " bits ") (codes ",\"bits\":") bits ++ (counted f (codes " muxes ") (codes ",\"muxes\":") (length net.muxes.items) ++ (counted f (codes " instruments ") (codes ",\"instruments\":") (length net.insts.items) ++ (counted f (codes " path at reset ") (codes ",\"path\":") path ++ either f (codes "\n") (codes "}}\n")))))
+
+abbrev pub list_text : ListFormat → Net → Items → List ℕ
+list_text f net form =
+    lines_from (register_line f net form) 0 (length net.regs.items) ++ (lines_from (mux_line f net form) 0 (length net.muxes.items) ++ (lines_from (instrument_line f net) 0 (length net.insts.items) ++ totals_line f net (bit_count net) (start_path_bits net)))

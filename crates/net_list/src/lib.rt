@@ -1,0 +1,33 @@
+//! The listing of a scan network: its registers, multiplexers and instruments, in text or JSON.
+#![tactic(auto)]
+
+ghost use Rattle.net_list.specs.Fewest.{ScansAreFewest};
+
+mod drivers;
+mod fewest;
+mod format;
+mod instrument;
+mod mux;
+mod names;
+mod place;
+mod register;
+mod totals;
+mod values;
+mod whole;
+
+pub use format::ListFormat;
+pub use whole::put_list;
+
+/// What is proved of the numbers of scans in a listing: it carries no code, its clause says what holds of the definitions.
+///
+/// No sequence of scans from power-up on brings a register onto the active path sooner than the listing says, and one
+/// brings it there as soon (IEEE 1687-2014: active scan path).
+pub fn list_law()
+    ensures fewest { ScansAreFewest }
+{}
+
+#[cfg(test)]
+mod tests {
+    #[test]
+    fn compiles() {}
+}
