@@ -317,8 +317,8 @@ fn each_call_of_a_make_finds_no_memory_once(rt: HostRuntime) -> Result<(), Fail>
         }
         let mut first = 1u32;
         for file in &FILES {
-            let all = whole.shelf.file(file.0).unwrap_or(b"".as_slice());
-            let held = ended.files.file(file.0).unwrap_or(b"".as_slice());
+            let all = whole.shelf.file(file.0);
+            let held = ended.files.file(file.0);
             check_file(&rt, call, first, file.1, all, held);
             first = first.wrapping_add(3);
         }
