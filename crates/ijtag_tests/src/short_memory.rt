@@ -1,5 +1,5 @@
 // Calls of files and of streams that find no memory: each call of each command once, until a run meets none.
-ghost use Rattle.std.specs.Prelude.{List, ℕ, None};
+ghost use Rattle.std.specs.Prelude.{None};
 
 use crate::commands::{
     COMMANDS, COMPILE, Command, PLAY, REFUSED_FILES, run as run_with_faults, words,
@@ -317,8 +317,8 @@ fn each_call_of_a_make_finds_no_memory_once(rt: HostRuntime) -> Result<(), Fail>
         }
         let mut first = 1u32;
         for file in &FILES {
-            let all = whole.shelf.file(file.0).unwrap_or(b"".as_slice());
-            let held = ended.files.file(file.0).unwrap_or(b"".as_slice());
+            let all = whole.shelf.file(file.0);
+            let held = ended.files.file(file.0);
             check_file(&rt, call, first, file.1, all, held);
             first = first.wrapping_add(3);
         }
