@@ -1,6 +1,6 @@
 use Rattle.std.specs.Option.{option_map}
 use Rattle.std.specs.Prelude.{IfSome}
-use Rattle.std.proofs.Common.{Bool}
+use Rattle.std.proofs.Common.{Bool, List, ℕ, subst}
 use Rattle.ij_io.specs.Files.{file_at}
 use Rattle.ijtag_work.specs.Task.{work}
 use Rattle.ijtag_work.specs.Runs.{IsDone, Tells, counts, seen}
@@ -47,4 +47,5 @@ pub returns-in-Err-clause-write_fault : goal.returns-in-Err-clause-write_fault
 returns-in-Err-clause-write_fault g c =
     λ fault. write_told g.C.Command.task (λ stop. Tells g.E.Sink.taken g.E.Sink.faults c.args.err.now c.report.new.err (stop_text g.C.Command.usage_line stop)) (g.S.Shelf.files c.args.shelf.now)
     (counts g.S.Shelf.load_faults g.S.Shelf.store_faults g.O.Sink.faults c.args.shelf.now c.run_if_any.new.shelf c.args.out.now c.run_if_any.new.out) c.report.result fault
-    (option_map g.C.Command.named c.args.command.now) (seen_stop c.in-Err.stop) c.in-Err.ensures.stop c.report.ensures.status c.report.ensures.told
+    (option_map g.C.Command.named c.args.command.now) (seen_stop c.in-Err.stop) c.in-Err.ensures.stop c.report.ensures.status
+    (λ ok. subst (λ (usage : List ℕ). Tells g.E.Sink.taken g.E.Sink.faults c.args.err.now c.report.new.err (stop_text usage (seen_stop c.in-Err.stop))) c.usage.ensures (c.report.ensures.told ok))
