@@ -1,2 +1,4 @@
+mod Choosing
 mod Leaving
 mod Settling
+mod Stopping

@@ -115,7 +115,7 @@ fn audited(alloc: Global, it: &Accepted, svf: SureSink) -> Result<Option<Planned
 }
 
 /// The text that is planned as a whole, where there is one whose commands do what the procedure means.
-fn planned(alloc: Global, it: &Accepted, how: How) -> Result<Option<Planned>, OutOfMemory>
+fn plan_whole(alloc: Global, it: &Accepted, how: How) -> Result<Option<Planned>, OutOfMemory>
     requires usable { IsUsable it.now }
     requires procedure { there it.now.procedure ≡ true }
     ensures { IfOk result (λ found. IfSome found (IsSound (seen_accepted it.now))) }
@@ -145,7 +145,7 @@ pub fn tightest(alloc: Global, it: &Accepted, how: How) -> Result<Tightened, Out
 {
     let compiled = compiled(alloc, it)?;
     let before = compiled.cost;
-    if let Some(planned) = planned(alloc, it, how)? {
+    if let Some(planned) = plan_whole(alloc, it, how)? {
         let cost = planned.cost;
         if cost.scans <= before.scans && cost.clocks <= before.clocks {
             return Ok(Tightened {
