@@ -2,7 +2,7 @@
 """Runs the commands and the examples that the pages show, and compares what they print: examples.py PROGRAM, at the top of a checkout.
 
 In README.md, docs/*.md and examples/*/README.md a line of four blanks, `$` and a command is run in a copy of examples/, with PROGRAM as
-./ijtag. The indented lines after it, up to the next command or the end of the block, are what it must print on its two streams.
+./ijtag, and the second program, which is beside it, as ./ijtag-tools. The indented lines after it, up to the next command or the end of the block, are what it must print on its two streams.
 The commands of a page may write into out/, and nowhere else.
 
 In a table `TEXT` gives `STAGE CAUSE ..` is an example of a refusal: TEXT is a whole file of the stage icl, pdl, svf, device or tables, and
@@ -76,13 +76,14 @@ for page in pages:
         shutil.copytree('examples', f'{folder}/examples')
         os.mkdir(f'{folder}/out')
         os.symlink(program, f'{folder}/ijtag')
+        os.symlink(os.path.join(os.path.dirname(program), 'ijtag-tools'), f'{folder}/ijtag-tools')
         before = sorted(os.walk(f'{folder}/examples'))
         for command, wanted in commands(page.read_text()):
             done = subprocess.run(['bash', '-c', command], cwd=folder, stdout=subprocess.PIPE, stderr=subprocess.STDOUT, text=True)
             compare(page, command, done.stdout, wanted)
         for stage, text, wanted in refusals(page.read_text()):
             compare(page, text, refused(stage, text, folder), f'refused {stage} {wanted}\n')
-        compare(page, 'files outside of out/', (sorted(os.listdir(folder)), sorted(os.walk(f'{folder}/examples'))), (['examples', 'ijtag', 'out'], before))
+        compare(page, 'files outside of out/', (sorted(os.listdir(folder)), sorted(os.walk(f'{folder}/examples'))), (['examples', 'ijtag', 'ijtag-tools', 'out'], before))
 
 for line in failed:
     print(line)
