@@ -2,8 +2,8 @@
 """Runs the commands and the examples that the pages show, and compares what they print: examples.py PROGRAM, at the top of a checkout.
 
 In README.md, docs/*.md and examples/*/README.md a line of four blanks, `$` and a command is run in a copy of examples/, with PROGRAM as
-./ijtag, and the second program, which is beside it, as ./ijtag-tools. The indented lines after it, up to the next command or the end of the block, are what it must print on its two streams.
-The commands of a page may write into out/, and nowhere else.
+./ijtag, and the second program, which is beside it, as ./ijtag-tools. The indented lines after it, up to the next command or the end of the
+block, are what it must print on its two streams. The commands of a page may write into out/, and nowhere else.
 
 In a table `TEXT` gives `STAGE CAUSE ..` is an example of a refusal: TEXT is a whole file of the stage icl, pdl, svf, device or tables, and
 `refused STAGE CAUSE ..` is the line that the program must print. For the stages elab, connect and nest TEXT is the second line of the
