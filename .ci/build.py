@@ -170,7 +170,7 @@ def main():
         say(f'building the program with {kit}: all of it is proved first: some 155 minutes of a processor, measured, so 40 on four')
         say(f'it may be interrupted, and what is proved by then is kept (log: {log})')
     else:
-        say(f'building an unproved program with {kit}: some two minutes (log: {log})')
+        say(f'building an unproved program with {kit}: some three minutes (log: {log})')
     with open(log, 'w') as out:
         # a build that outlives this process keeps the lock
         how = dict(stdin=subprocess.DEVNULL, stdout=out, stderr=subprocess.STDOUT, start_new_session=True, pass_fds=[lock.fileno()])
