@@ -35,7 +35,11 @@ pub(crate) fn make_design(alloc: Global, words: &MakeWords<'_>) -> Result<Made, 
 
 /// What the texts of a design are accepted as, each of them no longer than a file may be that is loaded.
 #[tactic(auto, unfolding(ijtag_work::specs::Order::accepted_made))]
-pub(crate) fn accept_design(alloc: Global, stem: &str, made: &Made) -> Result<Accepted, StageFault>
+pub(crate) fn accept_design<'t>(
+    alloc: Global,
+    stem: &str,
+    made: &'t Made,
+) -> Result<Accepted<'t>, StageFault>
     ensures follows { Follows (accepted_made (written_as (made_names stem.now) (texts_of made.now))) seen_accepted result }
     ensures can { IfOk result (CanUse (record { tables = true; svf = false; pdl = true })) }
 {

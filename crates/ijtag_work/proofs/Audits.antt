@@ -109,7 +109,7 @@ module _ (scripts : PlansAreScripts) (pass : PlannedScriptsPass) (listed : Plans
 
     -- what is audited: the commands, for the procedure that is compiled
     abbrev with_commands : SeenAccepted → List SeenCommand → SeenAccepted
-    with_commands it commands = record { network = it.network; device = it.device; models = it.models; commands = commands; steps = it.steps }
+    with_commands it commands = record { network = it.network; device = it.device; models = it.models; svf = bytes; commands = commands; steps = it.steps }
 
     own_accepted : (texts : List (List ℕ)) (it : SeenAccepted) (commands : List SeenCommand) → (accepted_of ((compile (own_compile a)).texts texts)).gives it → svf bytes ≡ Ok commands
         → (accepted_of ((audit a).texts (bytes ∷ texts))).gives (with_commands it commands)

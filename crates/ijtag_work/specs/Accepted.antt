@@ -26,11 +26,12 @@ pub record Texts : Type 0 where
   pub pdl : Option (List ℕ)
   pub procedure : List ℕ
 
--- what they are accepted as: without tables no models, without SVF no commands, without PDL no steps
+-- what they are accepted as: without tables no models, without SVF no text of it and no commands, without PDL no steps
 pub record SeenAccepted : Type 0 where
   pub network : NestedNet
   pub device : Device
   pub models : List SeenModel
+  pub svf : List ℕ
   pub commands : List SeenCommand
   pub steps : List SeenStep
 
@@ -60,7 +61,7 @@ accepted texts = do
   network ← network_below modules texts.top device
   models ← if_given tables (models_of network.net)
   steps ← if_given texts.pdl (followed network texts.procedure)
-  give (record { network = network; device = device; models = listed models; commands = listed commands; steps = listed steps })
+  give (record { network = network; device = device; models = listed models; svf = listed texts.svf; commands = listed commands; steps = listed steps })
 
 abbrev pub accepted_of : Option Texts → Part SeenAccepted
 accepted_of None = never

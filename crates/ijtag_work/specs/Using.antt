@@ -1,5 +1,5 @@
 -- Texts and what they are accepted as, as contracts see them: with plain lists; and what is known of what is accepted.
-use Rattle.std.specs.Prelude.{◌≡◌, ◌<◌, ◌≤◌, ◌^◌, ℕ, Bool, true, false, List, length, map, Option, Some, None, IfSome}
+use Rattle.std.specs.Prelude.{◌≡◌, ◌<◌, ◌≤◌, ◌^◌, ℕ, Bool, true, false, List, length, map, Option, Some, None, IfSome, Ok}
 use Rattle.std.specs.Option.{option_map}
 use Rattle.merge_order.specs.BitSteps.{bit_steps}
 use Rattle.ij_text.specs.Numbering.{AreDistinct}
@@ -11,6 +11,7 @@ use Rattle.pdl_parser.specs.Grammar.{full_names}
 use Rattle.pdl_parser.specs.Views.{seen_procs}
 use Rattle.tap_machine.specs.declared.Stable.TheVariants.{Reset as InReset}
 use Rattle.tap_machine.specs.Play.{pins, scans_in}
+use Rattle.svf_reader.specs.Meaning.{svf}
 use Rattle.svf_writer.specs.Fits.{AreFit}
 use Rattle.svf_writer.specs.SeenCommands.{SeenCommand}
 use Rattle.ijtag_stages.specs.Nested.{IsNested}
@@ -57,6 +58,7 @@ seen_accepted it = record {
   network = seen_network it.network;
   device = it.device;
   models = listed (option_map (λ ms. map seen_model ms) it.models);
+  svf = listed (option_map (λ text. text.now) it.svf);
   commands = listed it.commands;
   steps = listed (option_map (steps_of it.network) it.procedure);
 }
@@ -88,6 +90,8 @@ pub record IsUsable (it : Accepted) : Type 0 where
   pub nested : IsNested it.network.net it.network.form
   pub device : IsDevice it.device
   pub models : IfSome it.models (AreModels it.network.net)
+  pub short : IfSome it.svf (λ text. IsShort text.now)
+  pub read : IfSome it.svf (λ text. svf text.now ≡ Ok (listed it.commands))
   pub commands : IfSome it.commands ArePlayable
   pub procedure : IfSome it.procedure (ComesToItsEnd it.network)
 
@@ -95,5 +99,6 @@ pub record IsUsable (it : Accepted) : Type 0 where
 pub record CanUse (needs : Needs) (it : Accepted) : Type 0 where
   pub usable : IsUsable it
   pub models : there it.models ≡ needs.tables
+  pub svf : there it.svf ≡ needs.svf
   pub commands : there it.commands ≡ needs.svf
   pub procedure : there it.procedure ≡ needs.pdl

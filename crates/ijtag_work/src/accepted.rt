@@ -1,18 +1,19 @@
 // What the texts of a command are accepted as.
-ghost use Rattle.std.specs.Prelude.{◌≡◌, ◌≤◌, true, length, map, All, IfOk, IfSome};
+ghost use Rattle.std.specs.Prelude.{◌≡◌, ◌≤◌, true, length, map, All, IfOk, IfSome, Ok};
 ghost use Rattle.std.specs.Option.{option_map};
 ghost use Rattle.instruments.specs.Models.{IsModel};
 ghost use Rattle.instruments.specs.Runners.{AreModels};
 ghost use Rattle.instruments.specs.Seen.{seen_model};
 ghost use Rattle.net_graph.specs.Nets.{IsNet};
+ghost use Rattle.svf_reader.specs.Meaning.{svf};
 ghost use Rattle.table_file.specs.Answers.{seen_tables};
 ghost use Rattle.ijtag_stages.specs.Fitted.{models_of};
 ghost use Rattle.ijtag_stages.specs.Follows.{Follows};
 ghost use Rattle.ijtag_stages.specs.SvfText.{svf_text};
 ghost use Rattle.ijtag_stages.specs.Seen.{seen_network};
 ghost use Rattle.ijtag_stages.specs.TablesText.{tables_text};
-ghost use Rattle.ijtag_work.specs.Accepted.{accepted, followed, if_given};
-ghost use Rattle.ijtag_work.specs.Using.{ArePlayable, AreShortTexts, CanUse, ComesToItsEnd, IsUsable, seen_accepted, seen_named, needs_of, steps_of, there};
+ghost use Rattle.ijtag_work.specs.Accepted.{accepted, followed, if_given, listed};
+ghost use Rattle.ijtag_work.specs.Using.{ArePlayable, AreShortTexts, CanUse, ComesToItsEnd, IsShort, IsUsable, seen_accepted, seen_named, needs_of, steps_of, there};
 
 use bench_file::{Fitted, Table};
 use ij_bits::List;
@@ -55,21 +56,36 @@ pub struct Procedure {
 }
 
 /// What the texts of a command are accepted as.
-#[derive(Drop)]
-pub struct Accepted {
+pub struct Accepted<'t> {
     /// The network with its nested form.
     pub network: Network,
     /// The chip's device.
     pub device: Device,
     /// The models of the network's instruments, in its order, where there are tables.
     pub models: Option<Fitted>,
-    /// The commands of the SVF text, where there is one.
+    /// The SVF text as it stands, where there is one.
+    pub svf: Option<&'t [u8]>,
+    /// Its commands.
     pub commands: Option<Commands>,
     /// The procedure, where there is one.
     pub procedure: Option<Procedure>,
 }
 
-impl Accepted {
+/// Written out, so that a crate that drops it calls this, and doesn't prove the drop of each part of it again.
+impl<'t> Drop for Accepted<'t> {
+    fn drop(self) {
+        let Accepted {
+            network: _,
+            device: _,
+            models: _,
+            svf: _,
+            commands: _,
+            procedure: _,
+        } = self;
+    }
+}
+
+impl<'t> Accepted<'t> {
     /// The models of the instruments.
     pub fn models(&self) -> &Fitted
         requires usable { IsUsable self.now }
@@ -81,6 +97,18 @@ impl Accepted {
             unreachable!()
         };
         models
+    }
+
+    /// The SVF text as it stands.
+    pub fn svf_text(&self) -> &'t [u8]
+        requires usable { IsUsable self.now }
+        requires some { there self.now.svf ≡ true }
+        ensures is { (seen_accepted self.now).svf ≡ result.now }
+        ensures short { IsShort result.now }
+        ensures read { svf result.now ≡ Ok (seen_accepted self.now).commands }
+    {
+        let Some(text) = self.svf else { unreachable!() };
+        text
     }
 
     /// The commands of the SVF text.
@@ -128,12 +156,13 @@ fn read_given_tables(alloc: Global, text: Option<&[u8]>) -> Result<Option<List<T
 }
 
 /// The commands of an SVF text, where there is one.
-#[tactic(auto, unfolding(crate::specs::Accepted::if_given))]
+#[tactic(auto, unfolding(crate::specs::Accepted::if_given, ijtag_stages::specs::SvfText::svf_text))]
 fn read_given_svf(alloc: Global, text: Option<&[u8]>) -> Result<Option<Commands>, StageFault>
     requires short { IfSome text (λ t. length t.now ≤ 134217728) }
     ensures follows { Follows (if_given (option_map (λ t. t.now) text.entry) svf_text) (λ commands. commands) result }
     ensures given { IfOk result (λ commands. there commands ≡ there text.entry) }
     ensures playable { IfOk result (λ commands. IfSome commands ArePlayable) }
+    ensures read { IfOk result (λ commands. IfSome text.entry (λ t. svf t.now ≡ Ok (listed commands))) }
 {
     match text {
         None => Ok(None),
@@ -207,7 +236,7 @@ fn follow_given(
 /// accepted decides: the ICL text, the device, the tables, the SVF text, then the network below the top module, whether the tables fit
 /// it, and the PDL text with its procedure, which is followed to its end.
 #[tactic(auto, unfolding(crate::specs::Accepted::accepted))]
-pub fn accept(alloc: Global, texts: &Texts<'_>) -> Result<Accepted, StageFault>
+pub fn accept<'t>(alloc: Global, texts: &Texts<'t>) -> Result<Accepted<'t>, StageFault>
     requires { AreShortTexts (seen_named texts.now) }
     ensures follows { Follows (accepted (seen_named texts.now)) seen_accepted result }
     ensures can { IfOk result (CanUse (needs_of (seen_named texts.now))) }
@@ -223,6 +252,7 @@ pub fn accept(alloc: Global, texts: &Texts<'_>) -> Result<Accepted, StageFault>
         network,
         device,
         models,
+        svf: texts.svf,
         commands,
         procedure,
     })
