@@ -1,4 +1,4 @@
-mod Acting
+pub mod Acting
 mod Exits
 mod Faults
 mod Headlines

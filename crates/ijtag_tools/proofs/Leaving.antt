@@ -11,7 +11,7 @@ use Rattle.ijtag_work.specs.Leaves.{Leaves}
 use Rattle.ijtag_work.specs.Runs.{AllHold, IsDone, Seen}
 use Rattle.ijtag_work.specs.Task.{work}
 use Rattle.ijtag_work.proofs.Whole.{whole_is_part}
-use Rattle.ijtag_tools.specs.Command.{Command, Lists, Tighten, Tightens}
+use Rattle.ijtag_tools.specs.Command.{Command, Explains, Lists, LooksUp, Pictures, Tighten, Tightens}
 use Rattle.ijtag_tools.specs.Order.{cost_line, left_of, task, tightened}
 use Rattle.ijtag_tools.specs.Planned.{IsTightened as Found, seen_cost}
 use Rattle.ijtag_tools.specs.Promises.{IfTightens, IsTightened}
@@ -71,3 +71,6 @@ module _ (files : Option Files) (printed : Option (List ℕ)) (new : Seen) where
   tight_done None differs d = tt
   tight_done (Some (Tightens t)) differs d = tight_file t differs d
   tight_done (Some (Lists l)) differs d = tt
+  tight_done (Some (Explains e)) differs d = tt
+  tight_done (Some (LooksUp l)) differs d = tt
+  tight_done (Some (Pictures p)) differs d = tt

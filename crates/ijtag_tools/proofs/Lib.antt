@@ -1,4 +1,3 @@
 mod Choosing
 mod Leaving
 mod Settling
-mod Stopping

@@ -6,8 +6,11 @@ use Rattle.std.specs.declared.string.String.{String}
 use Rattle.std.specs.declared.alloc.Global.{Global}
 use Rattle.net_list.specs.declared.format.ListFormat.{ListFormat}
 use Rattle.net_list.specs.declared.format.ListFormat.TheVariants.{Text, Json}
+use Rattle.ijtag_work.specs.Command.{number_of}
 use Rattle.tight_planner.specs.declared.how.How.{How}
 use Rattle.tight_planner.specs.declared.how.How.TheVariants.{Full, Lean, Late}
+use Rattle.ijtag_tools.specs.declared.words.PictureFormat.{PictureFormat}
+use Rattle.ijtag_tools.specs.declared.words.PictureFormat.TheVariants.{Svg, Dot}
 
 -- `list FORMAT ICL DEVICE TOP`: how it is printed, two file names and the top module
 pub record Listing : Type 0 where
@@ -27,15 +30,51 @@ pub record Tighten : Type 0 where
   pub procedure : List ℕ
   pub svf : List ℕ
 
+-- `explain SVF ICL DEVICE TABLES TOP NEW`: four file names, the top module, and the file that is written
+pub record Explain : Type 0 where
+  pub svf : List ℕ
+  pub icl : List ℕ
+  pub device : List ℕ
+  pub tables : List ℕ
+  pub top : List ℕ
+  pub new : List ℕ
+
+-- `where SVF ICL DEVICE TABLES TOP SCAN BIT`: four file names, the top module, a scan, counted from 1, and a position of it
+pub record Lookup : Type 0 where
+  pub svf : List ℕ
+  pub icl : List ℕ
+  pub device : List ℕ
+  pub tables : List ℕ
+  pub top : List ℕ
+  pub scan : ℕ
+  pub bit : ℕ
+
+-- `picture FORMAT ICL DEVICE TOP NEW`: how it is drawn, two file names, the top module, and the file that is written
+pub record Picture : Type 0 where
+  pub format : PictureFormat
+  pub icl : List ℕ
+  pub device : List ℕ
+  pub top : List ℕ
+  pub new : List ℕ
+
 pub data Command : Type 0 where
   Lists : (words : Listing) → Command
+  Explains : (words : Explain) → Command
+  LooksUp : (words : Lookup) → Command
+  Pictures : (words : Picture) → Command
   Tightens : (words : Tighten) → Command
 
--- the word for a format, and for a way of planning
+-- the word for a format, for one of a picture, and for a way of planning
 abbrev pub format_named : List ℕ → Option ListFormat
 format_named word = elim (bytes_eq word (codes "text")) [
   | true ↦ Some Text
   | false ↦ elim (bytes_eq word (codes "json")) [ true ↦ Some Json | false ↦ None ]
+]
+
+abbrev pub picture_format_named : List ℕ → Option PictureFormat
+picture_format_named word = elim (bytes_eq word (codes "svg")) [
+  | true ↦ Some Svg
+  | false ↦ elim (bytes_eq word (codes "dot")) [ true ↦ Some Dot | false ↦ None ]
 ]
 
 abbrev pub how_named : List ℕ → Option How
@@ -51,18 +90,39 @@ abbrev pub list_of : Option ListFormat → List ℕ → List ℕ → List ℕ �
 list_of None icl device top = None
 list_of (Some format) icl device top = Some (Lists (record { format = format; icl = icl; device = device; top = top }))
 
+abbrev pub explain_of : List ℕ → List ℕ → List ℕ → List ℕ → List ℕ → List ℕ → Command
+explain_of svf icl device tables top new = Explains (record { svf = svf; icl = icl; device = device; tables = tables; top = top; new = new })
+
+abbrev pub where_of : Option ℕ → Option ℕ → List ℕ → List ℕ → List ℕ → List ℕ → List ℕ → Option Command
+where_of (Some scan) (Some bit) svf icl device tables top =
+    Some (LooksUp (record { svf = svf; icl = icl; device = device; tables = tables; top = top; scan = scan; bit = bit }))
+where_of (Some scan) None svf icl device tables top = None
+where_of None bit svf icl device tables top = None
+
+abbrev pub picture_of : Option PictureFormat → List ℕ → List ℕ → List ℕ → List ℕ → Option Command
+picture_of None icl device top new = None
+picture_of (Some format) icl device top new = Some (Pictures (record { format = format; icl = icl; device = device; top = top; new = new }))
+
 abbrev pub tighten_of : Option How → List ℕ → List ℕ → List ℕ → List ℕ → List ℕ → List ℕ → Option Command
 tighten_of None icl pdl device top procedure svf = None
 tighten_of (Some how) icl pdl device top procedure svf =
     Some (Tightens (record { how = how; icl = icl; pdl = pdl; device = device; top = top; procedure = procedure; svf = svf }))
 
--- exactly five words, of which the first is `list` and the second a format; or eight, of which the first is `tighten` and the second a
--- way of planning
+-- exactly five words, of which the first is `list` and the second a format; six, of which it is `picture` and the second a format of a
+-- picture; seven, of which it is `explain`; or eight, of which it is `tighten` and the second a way of planning, or `where` and the last
+-- two are numbers
 abbrev pub command_of : List (List ℕ) → Option Command
 command_of (word ∷ format ∷ icl ∷ device ∷ top ∷ []) =
     elim (bytes_eq word (codes "list")) [ true ↦ list_of (format_named format) icl device top | false ↦ None ]
-command_of (word ∷ how ∷ icl ∷ pdl ∷ device ∷ top ∷ procedure ∷ svf ∷ []) =
-    elim (bytes_eq word (codes "tighten")) [ true ↦ tighten_of (how_named how) icl pdl device top procedure svf | false ↦ None ]
+command_of (word ∷ format ∷ icl ∷ device ∷ top ∷ new ∷ []) =
+    elim (bytes_eq word (codes "picture")) [ true ↦ picture_of (picture_format_named format) icl device top new | false ↦ None ]
+command_of (word ∷ svf ∷ icl ∷ device ∷ tables ∷ top ∷ new ∷ []) =
+    elim (bytes_eq word (codes "explain")) [ true ↦ Some (explain_of svf icl device tables top new) | false ↦ None ]
+command_of (word ∷ a ∷ b ∷ c ∷ d ∷ e ∷ f ∷ g ∷ []) =
+    elim (bytes_eq word (codes "tighten")) [
+      | true ↦ tighten_of (how_named a) b c d e f g
+      | false ↦ elim (bytes_eq word (codes "where")) [ true ↦ where_of (number_of f) (number_of g) a b c d e | false ↦ None ]
+    ]
 command_of _ = None
 
 -- the command that the words of the command line are, where they are one
@@ -71,4 +131,4 @@ command_in words = command_of (map string_bytes words)
 
 -- the usage line
 abbrev pub usage_line : List ℕ
-usage_line = codes "usage: ijtag-tools list|tighten\n"
+usage_line = codes "usage: ijtag-tools list|explain|where|picture|tighten\n"

@@ -4,7 +4,7 @@ use Rattle.std.specs.Option.{option_map}
 use Rattle.ij_io.specs.Files.{Files}
 use Rattle.ijtag_work.specs.Accepted.{SeenAccepted}
 use Rattle.ijtag_work.specs.Promises.{AcceptedWith}
-use Rattle.ijtag_tools.specs.Command.{Command, Lists, Tighten, Tightens}
+use Rattle.ijtag_tools.specs.Command.{Command, Explains, Lists, LooksUp, Pictures, Tighten, Tightens}
 use Rattle.ijtag_tools.specs.Order.{tighten}
 use Rattle.ijtag_tools.specs.Tight.{IsTight}
 
@@ -22,3 +22,6 @@ IsTightened files t svf = AcceptedWith (tighten t) files (HoldsTight files svf)
 abbrev pub IfTightens : Command → (Tighten → Type 0) → Type 0
 IfTightens (Tightens t) P = P t
 IfTightens (Lists l) P = Unit {0}
+IfTightens (Explains e) P = Unit {0}
+IfTightens (LooksUp l) P = Unit {0}
+IfTightens (Pictures p) P = Unit {0}

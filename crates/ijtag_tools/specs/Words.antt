@@ -1,9 +1,12 @@
 -- The words of commands as contracts see them.
-use Rattle.ijtag_tools.specs.Command.{Command, Listing, Lists, Tighten, Tightens}
+use Rattle.ijtag_tools.specs.Command.{Command, Explain, Explains, Listing, Lists, Lookup, LooksUp, Picture, Pictures, Tighten, Tightens}
+use Rattle.ijtag_tools.specs.declared.words.ExplainWords.{ExplainWords}
+use Rattle.ijtag_tools.specs.declared.words.PictureWords.{PictureWords}
+use Rattle.ijtag_tools.specs.declared.words.WhereWords.{WhereWords}
 use Rattle.ijtag_tools.specs.declared.words.ListWords.{ListWords}
 use Rattle.ijtag_tools.specs.declared.words.TightenWords.{TightenWords}
 use Rattle.ijtag_tools.specs.declared.words.ToolWords.{ToolWords}
-use Rattle.ijtag_tools.specs.declared.words.ToolWords.TheVariants.{List as ListCommand, Tighten as TightenCommand}
+use Rattle.ijtag_tools.specs.declared.words.ToolWords.TheVariants.{List as ListCommand, Explain as ExplainCommand, Where as WhereCommand, Picture as PictureCommand, Tighten as TightenCommand}
 
 abbrev pub seen_list : ListWords → Listing
 seen_list words = record { format = words.format; icl = words.icl.now; device = words.device.now; top = words.top.now }
@@ -12,6 +15,20 @@ abbrev pub seen_tighten : TightenWords → Tighten
 seen_tighten words =
     record { how = words.how; icl = words.icl.now; pdl = words.pdl.now; device = words.device.now; top = words.top.now; procedure = words.procedure.now; svf = words.svf.now }
 
+abbrev pub seen_explain : ExplainWords → Explain
+seen_explain words =
+    record { svf = words.svf.now; icl = words.icl.now; device = words.device.now; tables = words.tables.now; top = words.top.now; new = words.new_svf.now }
+
+abbrev pub seen_where : WhereWords → Lookup
+seen_where words =
+    record { svf = words.svf.now; icl = words.icl.now; device = words.device.now; tables = words.tables.now; top = words.top.now; scan = words.scan; bit = words.bit }
+
+abbrev pub seen_picture : PictureWords → Picture
+seen_picture words = record { format = words.format; icl = words.icl.now; device = words.device.now; top = words.top.now; new = words.picture.now }
+
 abbrev pub seen_command : ToolWords → Command
 seen_command (ListCommand words) = Lists (seen_list words)
+seen_command (ExplainCommand words) = Explains (seen_explain words)
+seen_command (WhereCommand words) = LooksUp (seen_where words)
+seen_command (PictureCommand words) = Pictures (seen_picture words)
 seen_command (TightenCommand words) = Tightens (seen_tighten words)

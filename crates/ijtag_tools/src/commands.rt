@@ -25,7 +25,7 @@ impl<'w> Command for ToolWords<'w> {
     fn usage() -> &'static [u8]
         ensures { result.now ≡ usage_line }
     {
-        b"usage: ijtag-tools list|tighten\n"
+        b"usage: ijtag-tools list|explain|where|picture|tighten\n"
     }
 
     fn works_settle()
@@ -42,6 +42,9 @@ impl<'w> Command for ToolWords<'w> {
     ) -> Result<Verdict, Stop<'a>> {
         match self {
             ToolWords::List(it) => accept_and_act(alloc, &it.loads(), it, shelf, out),
+            ToolWords::Explain(it) => accept_and_act(alloc, &it.loads(), it, shelf, out),
+            ToolWords::Where(it) => accept_and_act(alloc, &it.loads(), it, shelf, out),
+            ToolWords::Picture(it) => accept_and_act(alloc, &it.loads(), it, shelf, out),
             ToolWords::Tighten(it) => accept_and_act(alloc, &it.loads(), it, shelf, out),
         }
     }

@@ -4,10 +4,13 @@
 
 mod commands;
 mod cost;
+mod explain;
 mod list;
+mod picture;
 mod planned;
 mod tighten;
 mod top;
+mod where_;
 mod words;
 
 use crate::top::ijtag_tools;

@@ -1,11 +1,12 @@
 // The words that the program is called with.
 ghost use Rattle.std.specs.Prelude.{◌≡◌, [], ◌∷◌, map, option_map};
-ghost use Rattle.ijtag_tools.specs.Command.{command_in, command_of, format_named, how_named, list_of, tighten_of};
-ghost use Rattle.ijtag_tools.specs.Order.{list, tighten};
-ghost use Rattle.ijtag_tools.specs.Words.{seen_command, seen_list, seen_tighten};
+ghost use Rattle.ijtag_tools.specs.Command.{command_in, command_of, format_named, how_named, list_of, picture_format_named, picture_of, tighten_of, where_of};
+ghost use Rattle.ijtag_tools.specs.Order.{explain, list, look_up, picture, tighten};
+ghost use Rattle.ijtag_tools.specs.Words.{seen_command, seen_explain, seen_list, seen_picture, seen_tighten, seen_where};
+ghost use Rattle.ijtag_work.specs.Command.{number_of};
 ghost use Rattle.ijtag_work.specs.Seen.{seen_load};
 
-use ijtag_work::Load;
+use ijtag_work::{Load, read_number};
 use net_list::ListFormat;
 use tight_planner::How;
 
@@ -26,6 +27,103 @@ impl<'a> ListWords<'a> {
     /// The files that are loaded, in this order.
     pub fn loads(&self) -> [Load<'a>; 2]
         ensures { map seen_load result ≡ (list (seen_list self.now)).loads }
+    {
+        [Load::Source(self.icl), Load::Source(self.device)]
+    }
+}
+
+/// The words of `explain SVF ICL DEVICE TABLES TOP NEW`.
+#[derive(Clone, Copy)]
+pub struct ExplainWords<'a> {
+    /// The file that is explained (Serial Vector Format, revision E).
+    pub svf: &'a str,
+    /// The file of the network (IEEE 1687-2014, ICL).
+    pub icl: &'a str,
+    /// The file of the device's TAP.
+    pub device: &'a str,
+    /// The file of the instruments' tables.
+    pub tables: &'a str,
+    /// The top module's name.
+    pub top: &'a str,
+    /// The file that is written: the same SVF text, with notes.
+    pub new_svf: &'a str,
+}
+
+impl<'a> ExplainWords<'a> {
+    /// The files that are loaded, in this order.
+    pub fn loads(&self) -> [Load<'a>; 4]
+        ensures { map seen_load result ≡ (explain (seen_explain self.now)).loads }
+    {
+        [
+            Load::Svf(self.svf),
+            Load::Source(self.icl),
+            Load::Source(self.device),
+            Load::Source(self.tables),
+        ]
+    }
+}
+
+/// The words of `where SVF ICL DEVICE TABLES TOP SCAN BIT`.
+#[derive(Clone, Copy)]
+pub struct WhereWords<'a> {
+    /// The file that is played (Serial Vector Format, revision E).
+    pub svf: &'a str,
+    /// The file of the network (IEEE 1687-2014, ICL).
+    pub icl: &'a str,
+    /// The file of the device's TAP.
+    pub device: &'a str,
+    /// The file of the instruments' tables.
+    pub tables: &'a str,
+    /// The top module's name.
+    pub top: &'a str,
+    /// The scan, SIR or SDR, counted from 1.
+    pub scan: u64,
+    /// The position in it; 0 is the first at TDO.
+    pub bit: u64,
+}
+
+impl<'a> WhereWords<'a> {
+    /// The files that are loaded, in this order.
+    pub fn loads(&self) -> [Load<'a>; 4]
+        ensures { map seen_load result ≡ (look_up (seen_where self.now)).loads }
+    {
+        [
+            Load::Svf(self.svf),
+            Load::Source(self.icl),
+            Load::Source(self.device),
+            Load::Source(self.tables),
+        ]
+    }
+}
+
+/// How a network is drawn.
+#[derive(Clone, Copy)]
+pub enum PictureFormat {
+    /// A drawing (Scalable Vector Graphics).
+    Svg,
+    /// A graph, in the language of Graphviz.
+    Dot,
+}
+
+/// The words of `picture FORMAT ICL DEVICE TOP NEW`.
+#[derive(Clone, Copy)]
+pub struct PictureWords<'a> {
+    /// How the network is drawn.
+    pub format: PictureFormat,
+    /// The file of the network (IEEE 1687-2014, ICL).
+    pub icl: &'a str,
+    /// The file of the device's TAP.
+    pub device: &'a str,
+    /// The top module's name.
+    pub top: &'a str,
+    /// The file that is written.
+    pub picture: &'a str,
+}
+
+impl<'a> PictureWords<'a> {
+    /// The files that are loaded, in this order.
+    pub fn loads(&self) -> [Load<'a>; 2]
+        ensures { map seen_load result ≡ (picture (seen_picture self.now)).loads }
     {
         [Load::Source(self.icl), Load::Source(self.device)]
     }
@@ -67,6 +165,9 @@ impl<'a> TightenWords<'a> {
 #[derive(Clone, Copy)]
 pub enum ToolWords<'a> {
     List(ListWords<'a>),
+    Explain(ExplainWords<'a>),
+    Where(WhereWords<'a>),
+    Picture(PictureWords<'a>),
     Tighten(TightenWords<'a>),
 }
 
@@ -78,6 +179,19 @@ fn format_of(word: &str) -> Option<ListFormat>
         Some(ListFormat::Text)
     } else if word == "json" {
         Some(ListFormat::Json)
+    } else {
+        None
+    }
+}
+
+/// The format of a picture of a word, where it names one.
+fn picture_format_of(word: &str) -> Option<PictureFormat>
+    ensures { result ≡ picture_format_named word.now }
+{
+    if word == "svg" {
+        Some(PictureFormat::Svg)
+    } else if word == "dot" {
+        Some(PictureFormat::Dot)
     } else {
         None
     }
@@ -113,6 +227,51 @@ fn list_words<'a>(
         icl,
         device,
         top,
+    }))
+}
+
+/// The command `picture` of its words, where the first is a format of a picture.
+fn picture_words<'a>(
+    format: &str,
+    icl: &'a str,
+    device: &'a str,
+    top: &'a str,
+    picture: &'a str,
+) -> Option<ToolWords<'a>>
+    ensures { option_map seen_command result ≡ picture_of (picture_format_named format.now) icl.now device.now top.now picture.now }
+{
+    let format = picture_format_of(format)?;
+    Some(ToolWords::Picture(PictureWords {
+        format,
+        icl,
+        device,
+        top,
+        picture,
+    }))
+}
+
+/// The command `where` of its words, where the last two are numbers.
+fn where_words<'a>(
+    svf: &'a str,
+    icl: &'a str,
+    device: &'a str,
+    tables: &'a str,
+    top: &'a str,
+    scan: &str,
+    bit: &str,
+) -> Option<ToolWords<'a>>
+    ensures { option_map seen_command result ≡ where_of (number_of scan.now) (number_of bit.now) svf.now icl.now device.now tables.now top.now }
+{
+    let scan = read_number(scan)?;
+    let bit = read_number(bit)?;
+    Some(ToolWords::Where(WhereWords {
+        svf,
+        icl,
+        device,
+        tables,
+        top,
+        scan,
+        bit,
     }))
 }
 
@@ -157,21 +316,67 @@ fn five_words<'a>(
     }
 }
 
+/// The command of six words.
+fn six_words<'a>(
+    command: &str,
+    format: &str,
+    icl: &'a str,
+    device: &'a str,
+    top: &'a str,
+    picture: &'a str,
+) -> Option<ToolWords<'a>>
+    ensures { option_map seen_command result ≡ command_of (command.now ∷ format.now ∷ icl.now ∷ device.now ∷ top.now ∷ picture.now ∷ []) }
+{
+    if command == "picture" {
+        picture_words(format, icl, device, top, picture)
+    } else {
+        None
+    }
+}
+
+/// The command of seven words.
+fn seven_words<'a>(
+    command: &str,
+    svf: &'a str,
+    icl: &'a str,
+    device: &'a str,
+    tables: &'a str,
+    top: &'a str,
+    new_svf: &'a str,
+) -> Option<ToolWords<'a>>
+    ensures { option_map seen_command result ≡ command_of (command.now ∷ svf.now ∷ icl.now ∷ device.now ∷ tables.now ∷ top.now ∷ new_svf.now ∷ []) }
+{
+    if command == "explain" {
+        Some(ToolWords::Explain(ExplainWords {
+            svf,
+            icl,
+            device,
+            tables,
+            top,
+            new_svf,
+        }))
+    } else {
+        None
+    }
+}
+
 /// The command of eight words.
 fn eight_words<'a>(
     command: &str,
-    how: &str,
-    icl: &'a str,
-    pdl: &'a str,
-    device: &'a str,
-    top: &'a str,
-    procedure: &'a str,
-    svf: &'a str,
+    a: &'a str,
+    b: &'a str,
+    c: &'a str,
+    d: &'a str,
+    e: &'a str,
+    f: &'a str,
+    g: &'a str,
 ) -> Option<ToolWords<'a>>
-    ensures { option_map seen_command result ≡ command_of (command.now ∷ how.now ∷ icl.now ∷ pdl.now ∷ device.now ∷ top.now ∷ procedure.now ∷ svf.now ∷ []) }
+    ensures { option_map seen_command result ≡ command_of (command.now ∷ a.now ∷ b.now ∷ c.now ∷ d.now ∷ e.now ∷ f.now ∷ g.now ∷ []) }
 {
     if command == "tighten" {
-        tighten_words(how, icl, pdl, device, top, procedure, svf)
+        tighten_words(a, b, c, d, e, f, g)
+    } else if command == "where" {
+        where_words(a, b, c, d, e, f, g)
     } else {
         None
     }
@@ -189,6 +394,23 @@ pub fn read_words(words: &Vec<String>) -> Option<ToolWords<'_>>
             c.as_str(),
             d.as_str(),
         ),
+        [command, a, b, c, d, e] => six_words(
+            command.as_str(),
+            a.as_str(),
+            b.as_str(),
+            c.as_str(),
+            d.as_str(),
+            e.as_str(),
+        ),
+        [command, a, b, c, d, e, f] => seven_words(
+            command.as_str(),
+            a.as_str(),
+            b.as_str(),
+            c.as_str(),
+            d.as_str(),
+            e.as_str(),
+            f.as_str(),
+        ),
         [command, a, b, c, d, e, f, g] => eight_words(
             command.as_str(),
             a.as_str(),
@@ -200,7 +422,6 @@ pub fn read_words(words: &Vec<String>) -> Option<ToolWords<'_>>
             g.as_str(),
         ),
         [] | [_] | [_, _] | [_, _, _] | [_, _, _, _] => None,
-        [_, _, _, _, _, _] | [_, _, _, _, _, _, _] => None,
         [_, _, _, _, _, _, _, _, _, ..] => None,
     }
 }

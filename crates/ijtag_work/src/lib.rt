@@ -25,6 +25,7 @@ use headline::{planned_scripts_law, planned_steps_law};
 pub use load::{Load, load_all};
 pub use names::MadeName;
 use net_bench::events_are_counted;
+pub use number::read_number;
 use run_report::places_are_one;
 pub use status::{Status, Verdict};
 pub use stop::{Stop, report};

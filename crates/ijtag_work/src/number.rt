@@ -21,7 +21,7 @@ fn is_number(text: &[u8]) -> bool
 }
 
 /// The number that a word is, `None` where it isn't one.
-pub(crate) fn read_number(word: &str) -> Option<u64>
+pub fn read_number(word: &str) -> Option<u64>
     ensures { result ≡ number_of word.now }
 {
     let text = word.as_bytes();

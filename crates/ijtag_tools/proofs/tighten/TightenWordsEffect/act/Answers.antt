@@ -8,7 +8,7 @@ use Rattle.ijtag_work.specs.Runs.{Counts, Seen, counts}
 use Rattle.ijtag_work.specs.Stops.{Stop}
 use Rattle.ijtag_work.specs.Task.{task_of}
 use Rattle.ijtag_work.specs.Using.{seen_accepted}
-use Rattle.ijtag_tools.proofs.Stopping.{file_stops, output_stops}
+use Rattle.ijtag_core.proofs.Acting.{file_stops, output_stops}
 use Rattle.ijtag_tools.specs.Order.{tighten, tightened}
 use Rattle.ijtag_tools.specs.Words.{seen_tighten}
 use Rattle.ijtag_tools.proofs.Leaving.{all_done, can, file_part, line_part}
