@@ -30,7 +30,10 @@ def check(what, found, wanted):
 
 
 def run(words, stdout=subprocess.PIPE):
-    done = subprocess.run([program, *map(str, words)], stdout=stdout, stderr=subprocess.PIPE)
+    """A run of the program, or of the second one, which is beside it."""
+    words = [*map(str, words)]
+    called = [os.path.join(os.path.dirname(program), 'ijtag-tools'), *words[1:]] if words[0] == 'tools' else [program, *words]
+    done = subprocess.run(called, stdout=stdout, stderr=subprocess.PIPE)
     return done.returncode, done.stdout, done.stderr
 
 
@@ -109,21 +112,38 @@ with tempfile.TemporaryDirectory() as folder:
           (0, rows + 1, f'muxtest scans {2 * rows - 1} rows {rows} unseen {rows}'.encode(), b''))
     check('its processor seconds are few', resource.getrusage(resource.RUSAGE_CHILDREN).ru_utime - before < 20, True)
 
+    # an explained text of exactly the limit can be read again, and one byte more is too long
+    scans, note = 1_800_000, '\n!: scan {} path 4\n!:   3..0 net.R[3:0] writes 0101'
+    notes = len('\n!: scan 1 instruction A0 network') + sum(len(note.format(n)) for n in range(2, scans + 2)) + (scans - 1) * len(' as before')
+    text = 'SIR 8 TDI (A0);\nSDR 4 TDI (5);\n' + 'SDR 4;\n' * (scans - 1)
+    text += '!' + 'x' * (SVF_LIMIT - len(text) - notes - 2) + '\n'
+    explained = folder / 'explained.svf'
+    words = ['tools', 'explain', svf, FLAT / 'chip.icl', FLAT / 'chip.dev', FLAT / 'chip.tab', 'chip', explained]
+    svf.write_text(text)
+    check('an explained text at the limit', run(words), (0, b'', b''))
+    check('its size', explained.stat().st_size, SVF_LIMIT)
+    check('its play', play(explained), play(svf))
+    explained.unlink()
+    svf.write_text(text + ' ')
+    check('an explained text above the limit', run(words), (3, b'', b'refused explain TooLong\n'))
+    check('no explained text is begun', explained.exists(), False)
+
     # a device that takes nothing, and one that was closed
     check('SVF on a full device', compile_to('/dev/full'), (5, b'', b'write fault /dev/full\n'))
     # of each command that prints: its output is flushed before the status is decided
     files = [FLAT / f'chip.{kind}' for kind in ('icl', 'pdl', 'dev', 'tab')]
     check('the SVF text that is audited', compile_to(svf)[0], 0)
-    printing = {'play': [svf, files[0], *files[2:], 'chip'], 'run': [*files, 'chip', 'p', folder / 'run.svf'], 'direct': [*files, 'chip', 'p'],
+    printing = {'tools list': ['text', files[0], files[2], 'chip'], 'tools where': [svf, files[0], *files[2:], 'chip', '2', '0'],
+                'tools tighten': ['full', *files[:3], 'chip', 'p', folder / 'tight.svf'], 'play': [svf, files[0], *files[2:], 'chip'], 'run': [*files, 'chip', 'p', folder / 'run.svf'], 'direct': [*files, 'chip', 'p'],
                 'audit': [svf, *files[:3], 'chip', 'p'], 'muxtest': [files[0], files[2], 'chip', folder / 'mux.svf'],
                 'make': ['0', '1', folder / 'made']}
     for name, words in printing.items():
-        check(f'{name}, whose output is taken', run([name, *words])[::2], (0, b''))
+        check(f'{name}, whose output is taken', run([*name.split(), *words])[::2], (0, b''))
         with open('/dev/full', 'wb') as full:
-            check(f'{name} on a full device', run([name, *words], full)[::2], (5, b'write fault output\n'))
+            check(f'{name} on a full device', run([*name.split(), *words], full)[::2], (5, b'write fault output\n'))
         reader, writer = os.pipe()
         os.close(reader)
-        check(f'{name} on a closed pipe', run([name, *words], writer)[::2], (5, b'write fault output\n'))
+        check(f'{name} on a closed pipe', run([*name.split(), *words], writer)[::2], (5, b'write fault output\n'))
         os.close(writer)
 
     # an SVF text of two pieces: into a pipe with a name, whose reader sees one writer throughout
