@@ -42,11 +42,14 @@ _ijtag_tools() {
   local current=${COMP_WORDS[COMP_CWORD]} kinds=()
   COMPREPLY=()
   if [ "$COMP_CWORD" = 1 ]; then
-    mapfile -t COMPREPLY < <(compgen -W 'list tighten' -- "$current")
+    mapfile -t COMPREPLY < <(compgen -W 'list explain where picture tighten' -- "$current")
     return
   fi
   case ${COMP_WORDS[1]} in
     list) kinds=(FORMAT ICL DEVICE TOP) ;;
+    explain) kinds=(SVF ICL DEVICE TABLES TOP NEW) ;;
+    where) kinds=(SVF ICL DEVICE TABLES TOP SCAN BIT) ;;
+    picture) kinds=(FORMAT ICL DEVICE TOP NEW) ;;
     tighten) kinds=(HOW ICL PDL DEVICE TOP PROC NEW) ;;
   esac
   _ijtag_word "${kinds[@]}"
