@@ -15,3 +15,8 @@ mod scan;
 pub use explained::{explained_len, put_explained};
 pub use laws::{commands_stay, explained_commands_stay};
 pub use place::{BitAnswer, put_bit};
+
+#[test]
+fn nothing(rt: std::rt::HostRuntime) {
+    assert!(rt; true);
+}

@@ -17,7 +17,7 @@ use tap_machine::TapState;
 
 /// What a scan goes through.
 #[derive(Clone, Copy)]
-pub(crate) enum Target {
+pub(crate) enum ScanTarget {
     /// The instruction register.
     Instruction,
     /// The data register that the instruction selects.
@@ -25,12 +25,12 @@ pub(crate) enum Target {
 }
 
 /// What the scan goes through whose last bit was just shifted.
-pub(crate) fn target(bench: &Bench) -> Target
+pub(crate) fn target(bench: &Bench) -> ScanTarget
     ensures { seen_target result ≡ notes.target bench.now.device bench.now.state }
 {
     match bench.tap() {
-        TapState::Exit1Ir => Target::Instruction,
-        _ => Target::Data(bench.selected()),
+        TapState::Exit1Ir => ScanTarget::Instruction,
+        _ => ScanTarget::Data(bench.selected()),
     }
 }
 
@@ -116,9 +116,9 @@ pub(crate) fn put_note(
 {
     put_number(number, note)?;
     match target(bench) {
-        Target::Instruction => put_instruction(alloc, device, bits, note)?,
-        Target::Data(DataRegister::Network) => put_path(net, bench, bits, note)?,
-        Target::Data(register) => note.write(register_name(register))?,
+        ScanTarget::Instruction => put_instruction(alloc, device, bits, note)?,
+        ScanTarget::Data(DataRegister::Network) => put_path(net, bench, bits, note)?,
+        ScanTarget::Data(register) => note.write(register_name(register))?,
     }
     Ok(())
 }

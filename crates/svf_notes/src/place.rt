@@ -17,7 +17,7 @@ ghost use Rattle.tap_machine.specs.Play.{scans_in};
 use crate::digits::{differs, digit, expected_digit};
 use crate::instruction::register_name;
 use crate::names::{put_bit_name, put_signal};
-use crate::note::{Target, path_len, target};
+use crate::note::{ScanTarget, path_len, target};
 use crate::playing::Playing;
 use crate::scan::Shifted;
 use ij_bits::{List, OutOfMemory};
@@ -157,9 +157,9 @@ fn put_target(
     ensures { OnOk result (Adds (Some line.old) (Some line.new) (places.target_place net.now bench.now.state.holds len at (notes.target bench.now.device bench.now.state))) }
 {
     match target(bench) {
-        Target::Instruction => line.write(b" instruction"),
-        Target::Data(DataRegister::Network) => put_on_path(net, bench, len, at, line),
-        Target::Data(register) => line.write(register_name(register)),
+        ScanTarget::Instruction => line.write(b" instruction"),
+        ScanTarget::Data(DataRegister::Network) => put_on_path(net, bench, len, at, line),
+        ScanTarget::Data(register) => line.write(register_name(register)),
     }
 }
 
