@@ -1,5 +1,5 @@
 -- An SVF text once more, with a note after each scan (Serial Vector Format, revision E: comments; SIR, SDR).
-use Rattle.std.specs.Prelude.{◌≡◌, ℕ, suc, ◌==◌, Bool, true, false, cond, List, [], ◌∷◌, ◌++◌, codes, drop, length, map, take, All, Ok}
+use Rattle.std.specs.Prelude.{◌≡◌, ℕ, suc, ◌==◌, Bool, true, false, cond, List, [], ◌∷◌, ◌++◌, codes, drop, length, map, take, Ok}
 use Rattle.net_graph.specs.declared.device.Device.{Device}
 use Rattle.net_graph.specs.declared.net.Net.{Net}
 use Rattle.net_graph.specs.Nets.{IsNet}
@@ -44,7 +44,7 @@ explained_text net device models commands src = explained (notes net device mode
 -- Whatever the notes are, as long as no line of them has a line feed, an SVF text has the same commands with them as without them.
 abbrev pub SameCommands : Type 0
 SameCommands =
-    (notes : List (List (List ℕ))) (src : List ℕ) (commands : List SeenCommand) → All (All IsOnLine) notes → svf src ≡ Ok commands → svf (explained (map note_text notes) src) ≡ Ok commands
+    (notes : List (List (List ℕ))) (src : List ℕ) (commands : List SeenCommand) → AllByRecursion (AllByRecursion IsOnLine) notes → svf src ≡ Ok commands → svf (explained (map note_text notes) src) ≡ Ok commands
 
 -- So a text that is explained has the commands that it had.
 abbrev pub ExplainedIsSame : Type 0

@@ -12,9 +12,9 @@ mod playing;
 mod row;
 mod scan;
 
-pub use explained::{explained_len, put_explained};
+pub use explained::{explained_len, put_explained_file};
 pub use laws::{commands_stay, explained_commands_stay};
-pub use place::{BitAnswer, put_bit};
+pub use place::{BitAnswer, FoundBit, find_bit};
 
 #[test]
 fn nothing(rt: std::rt::HostRuntime) {

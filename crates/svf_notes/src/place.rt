@@ -1,7 +1,6 @@
 // One position of one scan.
-ghost use Rattle.std.specs.Prelude.{◌≡◌, ◌==◌, ◌<◌, ◌≤◌, ◌++◌, ◌∷◌, Some, length, map, IfOk, IfSome, OnOk, OnErr, slice_get};
-ghost use Rattle.ij_io.specs.Bytes.{Adds, AddsPart};
-ghost use Rattle.ij_io.specs.Causes.{HasCause};
+ghost use Rattle.std.specs.Prelude.{◌≡◌, ◌==◌, ◌<◌, ◌≤◌, ◌++◌, ◌∷◌, Some, length, map, IfOk, IfSome, OnOk};
+ghost use Rattle.ij_io.specs.Bytes.{Adds};
 ghost use Rattle.instruments.specs.Runners.{AreModels};
 ghost use Rattle.instruments.specs.Seen.{seen_model};
 ghost use Rattle.net_graph.specs.Chain.{IsRoute};
@@ -41,8 +40,17 @@ pub enum BitAnswer {
     NoBit,
 }
 
+/// One position of one scan.
+#[derive(Drop)]
+pub struct FoundBit {
+    /// What is known of it.
+    pub answer: BitAnswer,
+    /// The line that says so; nothing where there is no such scan or no such position.
+    pub line: SureSink,
+}
+
 /// The register bit at a position of a path, if it is that long.
-fn bit_on(holds: &Holds, path: &[u32], at: u32) -> Option<BitId>
+fn bit_on(holds: &Holds, path: &[u32], at: u64) -> Option<BitId>
     requires { IsRoute (length holds.now) path.now }
     ensures bit { result ≡ places.bit_on holds.now path.now at }
     ensures there { IfSome result (λ bit. bit.reg < length holds.now) }
@@ -52,10 +60,13 @@ fn bit_on(holds: &Holds, path: &[u32], at: u32) -> Option<BitId>
     for i in 0..path.len() {
         let reg = path[i];
         let width = holds.register(reg).len();
-        if left < width {
-            return Some(BitId { reg, pos: left });
+        if left < u64::from(width) {
+            return Some(BitId {
+                reg,
+                pos: left as u32,
+            });
         }
-        left -= width;
+        left -= u64::from(width);
     }
     None
 }
@@ -88,7 +99,7 @@ fn put_on_path(
     net: &Net,
     bench: &Bench,
     len: usize,
-    at: u32,
+    at: u64,
     line: &mut SureSink,
 ) -> Result<(), StoreFault>
     requires well_formed { IsNet net.now }
@@ -130,7 +141,7 @@ fn answer_of(bit: Shifted) -> BitAnswer
 
 /// Writes the number of a scan and a position in it.
 #[tactic(auto, unfolding(ij_io::specs::Words::words_text))]
-fn put_position(number: u32, at: u32, line: &mut SureSink) -> Result<(), StoreFault>
+fn put_position(number: u32, at: u64, line: &mut SureSink) -> Result<(), StoreFault>
     ensures { OnOk result (Adds (Some line.old) (Some line.new) (places.position_text number at)) }
 {
     put_words(
@@ -139,7 +150,7 @@ fn put_position(number: u32, at: u32, line: &mut SureSink) -> Result<(), StoreFa
             Word::Text(b"scan "),
             Word::Number(u64::from(number)),
             Word::Text(b" bit "),
-            Word::Number(u64::from(at)),
+            Word::Number(at),
         ],
     )
 }
@@ -149,7 +160,7 @@ fn put_target(
     net: &Net,
     bench: &Bench,
     len: usize,
-    at: u32,
+    at: u64,
     line: &mut SureSink,
 ) -> Result<(), StoreFault>
     requires well_formed { IsNet net.now }
@@ -167,7 +178,7 @@ fn put_target(
 fn put_line(
     playing: &Playing,
     number: u32,
-    at: u32,
+    at: u64,
     bit: Shifted,
     line: &mut SureSink,
 ) -> Result<(), StoreFault>
@@ -185,7 +196,7 @@ fn line_of(
     alloc: Global,
     playing: &Playing,
     number: u32,
-    at: u32,
+    at: u64,
     bit: Shifted,
 ) -> Result<SureSink, OutOfMemory>
     requires { IsPlaying playing.now }
@@ -198,57 +209,52 @@ fn line_of(
     }
 }
 
-/// Writes what is known of a position of the scan that was shifted last, by its number.
-fn put_bit_of<K: Sink>(
+/// What is known of a position of the scan that was shifted last, by its number.
+fn bit_in(
     alloc: Global,
     playing: &Playing,
     number: u32,
-    at: u32,
-    k: &mut K,
-) -> Result<BitAnswer, StoreFault>
+    at: u64,
+) -> Result<FoundBit, OutOfMemory>
     requires { IsPlaying playing.now }
-    ensures whole { OnOk result (Adds (K.taken k.old) (K.taken k.new) (places.scan_text playing.now.net.now playing.now.device.now at (Some (record { number = number; bits = playing.now.bits.items; state = playing.now.bench.state })))) }
-    ensures answer { IfOk result (λ answer. answer ≡ places.bit_answer (slice_get playing.now.bits.items at)) }
-    ensures part { OnErr result (AddsPart (K.taken k.old) (K.taken k.new) (places.scan_text playing.now.net.now playing.now.device.now at (Some (record { number = number; bits = playing.now.bits.items; state = playing.now.bench.state })))) }
-    ensures cause { HasCause (K.faults k.old) (K.faults k.new) result StoreFault.Failed }
+    ensures answer { IfOk result (λ found. found.answer ≡ places.scan_answer at (Some (record { number = number; bits = playing.now.bits.items; state = playing.now.bench.state }))) }
+    ensures line { IfOk result (λ found. found.line ≡ places.scan_text playing.now.net.now playing.now.device.now at (Some (record { number = number; bits = playing.now.bits.items; state = playing.now.bench.state }))) }
 {
     match playing.bits.as_slice().get(at as usize) {
-        None => {
-            k.write(b"")?;
-            Ok(BitAnswer::NoBit)
-        }
-        Some(bit) => {
-            let line = line_of(alloc, playing, number, at, *bit)?;
-            k.write(line.bytes())?;
-            Ok(answer_of(*bit))
-        }
+        None => Ok(FoundBit {
+            answer: BitAnswer::NoBit,
+            line: SureSink::new(alloc),
+        }),
+        Some(bit) => Ok(FoundBit {
+            answer: answer_of(*bit),
+            line: line_of(alloc, playing, number, at, *bit)?,
+        }),
     }
 }
 
-/// Writes what is known of a position of the scan of a number, among those that are left.
-fn put_found<K: Sink>(
+/// What is known of a position of the scan of a number, among those that are left.
+fn find_in(
     alloc: Global,
     playing: &mut Playing,
-    scan: u32,
-    at: u32,
-    k: &mut K,
-) -> Result<BitAnswer, StoreFault>
+    scan: u64,
+    at: u64,
+) -> Result<FoundBit, OutOfMemory>
     requires { IsPlaying playing.old }
-    ensures whole { OnOk result (Adds (K.taken k.old) (K.taken k.new) (places.scan_text playing.old.net.now playing.old.device.now at (places.scan_numbered scan (left_scans playing.old)))) }
-    ensures answer { IfOk result (λ answer. answer ≡ places.scan_answer at (places.scan_numbered scan (left_scans playing.old))) }
-    ensures part { OnErr result (AddsPart (K.taken k.old) (K.taken k.new) (places.scan_text playing.old.net.now playing.old.device.now at (places.scan_numbered scan (left_scans playing.old)))) }
-    ensures cause { HasCause (K.faults k.old) (K.faults k.new) result StoreFault.Failed }
+    ensures answer { IfOk result (λ found. found.answer ≡ places.scan_answer at (places.scan_numbered scan (left_scans playing.old))) }
+    ensures line { IfOk result (λ found. found.line ≡ places.scan_text playing.old.net.now playing.old.device.now at (places.scan_numbered scan (left_scans playing.old))) }
 {
     while let Some(number) = playing.next()? {
-        if number == scan {
-            return put_bit_of(alloc, playing, number, at, k);
+        if u64::from(number) == scan {
+            return bit_in(alloc, playing, number, at);
         }
     }
-    k.write(b"")?;
-    Ok(BitAnswer::NoScan)
+    Ok(FoundBit {
+        answer: BitAnswer::NoScan,
+        line: SureSink::new(alloc),
+    })
 }
 
-/// Writes one line on one position of one scan of a play (Serial Vector Format, revision E: SIR, SDR; IEEE 1687-2014: active
+/// What is known of one position of one scan of a play (Serial Vector Format, revision E: SIR, SDR; IEEE 1687-2014: active
 /// scan path). `commands` are played from power-up on a device with a scan network and its instruments, of which `models` has
 /// one for each, in the network's order. Scans are counted from 1 over SIR and SDR alike; position 0 is shifted first.
 ///
@@ -258,31 +264,24 @@ fn put_found<K: Sink>(
 /// either with `~` in front where it is inverted, a constant 0 or 1, or `-` where there is none. E is `-` where nothing is
 /// compared.
 ///
-/// Answers whether another bit is found than is expected. Where there is no such scan or no such position it says so, and
-/// writes nothing.
-///
 /// # Errors
 ///
-/// Those of the sink, which then took some first bytes of the line, and `OutOfMemory` where there is no memory for the
-/// bench, for the bits of one scan or for the line.
-pub fn put_bit<K: Sink>(
+/// `OutOfMemory`, where there is no memory for the bench, for the bits of one scan or for the line.
+pub fn find_bit(
     alloc: Global,
     net: &Net,
     device: &Device,
     models: &List<Model>,
     commands: &Commands,
-    scan: u32,
-    bit: u32,
-    k: &mut K,
-) -> Result<BitAnswer, StoreFault>
+    scan: u64,
+    bit: u64,
+) -> Result<FoundBit, OutOfMemory>
     requires well_formed { IsNet net.now }
     requires models { AreModels net.now models.now.items }
     requires scans { scans_in commands.now ≤ 1000000000 }
-    ensures whole { OnOk result (Adds (K.taken k.old) (K.taken k.new) (places.where_text net.now device.now (map seen_model models.now.items) commands.now scan bit)) }
-    ensures answer { IfOk result (λ answer. answer ≡ places.where_answer net.now device.now (map seen_model models.now.items) commands.now scan bit) }
-    ensures part { OnErr result (AddsPart (K.taken k.old) (K.taken k.new) (places.where_text net.now device.now (map seen_model models.now.items) commands.now scan bit)) }
-    ensures cause { HasCause (K.faults k.old) (K.faults k.new) result StoreFault.Failed }
+    ensures answer { IfOk result (λ found. found.answer ≡ places.where_answer net.now device.now (map seen_model models.now.items) commands.now scan bit) }
+    ensures line { IfOk result (λ found. found.line ≡ places.where_text net.now device.now (map seen_model models.now.items) commands.now scan bit) }
 {
     let mut playing = Playing::new(alloc, net, device, models, commands)?;
-    put_found(alloc, &mut playing, scan, bit, k)
+    find_in(alloc, &mut playing, scan, bit)
 }
