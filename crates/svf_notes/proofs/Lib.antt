@@ -1,0 +1,4 @@
+pub mod Cutting
+pub mod OnLine
+pub mod Same
+pub mod Scanning

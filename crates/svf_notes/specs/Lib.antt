@@ -1,0 +1,6 @@
+pub mod Scans
+pub mod Notes
+pub mod Explained
+pub mod Targets
+pub mod Left
+pub mod Places

@@ -1,0 +1,130 @@
+-- One position of one scan: which register bit it is, what it captures, what is written, expected and found there (Serial Vector
+-- Format, revision E; IEEE 1687-2014: active scan path, CaptureSource).
+use Rattle.std.specs.Prelude.{ℕ, ◌+◌, ◌-◌, ◌==◌, nat_lt, Bool, true, false, cond, List, [], ◌∷◌, ◌++◌, codes, decimal, get_or, length, map, slice_get, Option, Some, None}
+use Rattle.net_graph.specs.declared.device.Device.{Device}
+use Rattle.net_graph.specs.declared.net.BitId.{BitId}
+use Rattle.net_graph.specs.declared.net.Net.{Net}
+use Rattle.net_graph.specs.declared.net.Sig.{Sig}
+use Rattle.net_graph.specs.declared.net.Sig.TheVariants.{Absent, Zero, One, Bit, Out}
+use Rattle.net_graph.specs.Named.{thing_of}
+use Rattle.net_graph.specs.Path.{route_of}
+use Rattle.net_graph.specs.Signals.{Holds, bits_at, capture_signal}
+use Rattle.instruments.specs.declared.Counts.{Counts}
+use Rattle.instruments.specs.Seen.{SeenModel}
+use Rattle.report.specs.Paths.{instrument_path, register_path}
+use Rattle.report.specs.Registers.{digit}
+use Rattle.svf_writer.specs.SeenCommands.{SeenCommand}
+use Rattle.net_bench.specs.Instruction.{Network, Identity, Bypass}
+use Rattle.svf_notes.specs.declared.scan.Shifted.{Shifted}
+use Rattle.svf_notes.specs.declared.place.BitAnswer.{BitAnswer}
+use Rattle.svf_notes.specs.declared.place.BitAnswer.TheVariants.{Same, Differs, NoScan, NoBit}
+use Rattle.svf_notes.specs.Notes.{Target, Instruction, Data, differs, expected_digit, path_length, played_scans, target}
+use Rattle.svf_notes.specs.Scans.{Scan}
+
+-- ---- names of bits
+
+-- position 0 has the right index
+abbrev pub index_between : ℕ → ℕ → ℕ → ℕ
+index_between left right pos = cond (nat_lt left right) (right - pos) (right + pos)
+
+abbrev pub index_of : Net → BitId → ℕ
+index_of net b =
+    let t = thing_of net b.reg in
+    index_between (get_or (map (λ thing. thing.left) net.things.items) t 0) (get_or (map (λ thing. thing.right) net.things.items) t 0) b.pos
+
+abbrev pub index_text : ℕ → List ℕ
+index_text index = codes "[" ++ (decimal index ++ codes "]")
+
+abbrev pub bit_name : Net → BitId → List ℕ
+bit_name net b = register_path net b.reg ++ index_text (index_of net b)
+
+-- an output of an instrument
+abbrev pub port_name : Net → ℕ → ℕ → List ℕ
+port_name net inst port =
+    get_or (get_or (map (λ i. map (λ p. p.name.items) i.outs.items) net.insts.items) inst []) port []
+
+abbrev pub output_name : Net → ℕ → ℕ → ℕ → List ℕ
+output_name net inst port pos =
+    instrument_path net inst ++ (codes "." ++ (port_name net inst port ++ index_text pos))
+
+-- ~ is the inverse
+abbrev pub tilde_if : Bool → List ℕ
+tilde_if inverted = cond inverted (codes "~") []
+
+-- a captured signal: a constant, a bit, or - where there is none
+abbrev pub signal_name : Net → Sig → List ℕ
+signal_name net Absent = codes "-"
+signal_name net Zero = codes "0"
+signal_name net One = codes "1"
+signal_name net (Bit b inverted) = tilde_if inverted ++ bit_name net b
+signal_name net (Out inst port pos inverted) = tilde_if inverted ++ output_name net inst port pos
+
+-- ---- the place of a bit
+
+-- the register bit at a position of a path
+abbrev pub bit_on : Holds → List ℕ → ℕ → Option BitId
+bit_on holds [] at = None
+bit_on holds (r ∷ rs) at =
+    let w = length (bits_at holds r) in
+    cond (nat_lt at w) (Some (record { reg = r; pos = at })) (bit_on holds rs (at - w))
+
+abbrev pub register_text : Net → Option BitId → List ℕ
+register_text net None = []
+register_text net (Some b) = codes " register " ++ (bit_name net b ++ (codes " captures " ++ signal_name net (capture_signal net b)))
+
+-- the bits of a scan that isn't as long as its path come to stand in no register of their own
+abbrev pub on_path : Net → Holds → ℕ → ℕ → List ℕ
+on_path net holds len at =
+    cond (len == path_length net holds) (register_text net (bit_on holds (route_of net holds) at)) (codes " no register")
+
+-- what a scan of so many bits goes through, and of the network where a bit comes to stand
+abbrev pub target_place : Net → Holds → ℕ → ℕ → Target → List ℕ
+target_place net holds len at Instruction = codes " instruction"
+target_place net holds len at (Data Network) = on_path net holds len at
+target_place net holds len at (Data Identity) = codes " identity"
+target_place net holds len at (Data Bypass) = codes " bypass"
+
+-- ---- the line
+
+abbrev pub values_text : Shifted → List ℕ
+values_text b =
+    codes " writes " ++ (digit b.tdi ∷ [] ++ (codes " expects " ++ (expected_digit b.expect ∷ [] ++ (codes " finds " ++ digit b.found ∷ 10 ∷ []))))
+
+abbrev pub position_text : ℕ → ℕ → List ℕ
+position_text n at = codes "scan " ++ (decimal n ++ (codes " bit " ++ decimal at))
+
+abbrev pub bit_line : Net → Device → Scan Counts → ℕ → Shifted → List ℕ
+bit_line net device x at b =
+    position_text x.number at ++ (target_place net x.state.holds (length x.bits) at (target device x.state) ++ values_text b)
+
+-- the scan of a number
+abbrev pub scan_numbered : ℕ → List (Scan Counts) → Option (Scan Counts)
+scan_numbered n [] = None
+scan_numbered n (x ∷ xs) = cond (x.number == n) (Some x) (scan_numbered n xs)
+
+abbrev pub bit_answer : Option Shifted → BitAnswer
+bit_answer None = NoBit
+bit_answer (Some b) = cond (differs b) Differs Same
+
+abbrev pub bit_text : Net → Device → Scan Counts → ℕ → Option Shifted → List ℕ
+bit_text net device x at None = []
+bit_text net device x at (Some b) = bit_line net device x at b
+
+abbrev pub scan_answer : ℕ → Option (Scan Counts) → BitAnswer
+scan_answer at None = NoScan
+scan_answer at (Some x) = bit_answer (slice_get x.bits at)
+
+abbrev pub scan_text : Net → Device → ℕ → Option (Scan Counts) → List ℕ
+scan_text net device at None = []
+scan_text net device at (Some x) = bit_text net device x at (slice_get x.bits at)
+
+-- the scan of a number, in a play of commands from power-up
+abbrev pub scan_in : Net → Device → List SeenModel → List SeenCommand → ℕ → Option (Scan Counts)
+scan_in net device models commands n =
+    scan_numbered n (played_scans net device models commands)
+
+abbrev pub where_answer : Net → Device → List SeenModel → List SeenCommand → ℕ → ℕ → BitAnswer
+where_answer net device models commands n at = scan_answer at (scan_in net device models commands n)
+
+abbrev pub where_text : Net → Device → List SeenModel → List SeenCommand → ℕ → ℕ → List ℕ
+where_text net device models commands n at = scan_text net device at (scan_in net device models commands n)

@@ -1,0 +1,22 @@
+//! Notes for SVF: what each bit of each scan of a play is (Serial Vector Format, revision E).
+#![tactic(auto)]
+
+mod digits;
+mod explained;
+mod instruction;
+mod laws;
+mod names;
+mod note;
+mod place;
+mod playing;
+mod row;
+mod scan;
+
+pub use explained::{explained_len, put_explained_file};
+pub use laws::{commands_stay, explained_commands_stay};
+pub use place::{BitAnswer, FoundBit, find_bit};
+
+#[test]
+fn nothing(rt: std::rt::HostRuntime) {
+    assert!(rt; true);
+}

@@ -1,0 +1,61 @@
+// The scans of a play, one at a time.
+ghost use Rattle.std.specs.Prelude.{◌≡◌, ◌++◌, ◌∷◌, [], IfOk, MatchOption, OnOk};
+ghost use Rattle.bench_report.specs.Report.{chip_of};
+ghost use Rattle.svf_notes.specs.Scans.{scans_of, shifted_at};
+
+use ij_bits::{List, OutOfMemory};
+use net_bench::Bench;
+use tap_machine::{Pins, Player};
+
+/// What stands at TDI and TDO at one clock that shifts, and what is expected at TDO.
+#[derive(Clone, Copy, Drop)]
+pub(crate) struct Shifted {
+    pub tdi: bool,
+    pub expect: Option<bool>,
+    pub found: bool,
+}
+
+/// Which of its values is shown of a bit.
+#[derive(Clone, Copy)]
+pub(crate) enum Shown {
+    /// The one at TDI.
+    Written,
+    /// The one that is expected at TDO.
+    Expected,
+    /// The one that is found there, where it is compared.
+    Found,
+}
+
+/// Adds the bit of a clock that shifts.
+fn add_bit(pins: &Pins, found: bool, bits: &mut List<Shifted>) -> Result<(), OutOfMemory>
+    ensures { OnOk result (bits.new.items ≡ bits.old.items ++ shifted_at pins.now found ∷ []) }
+{
+    bits.push(Shifted {
+        tdi: pins.tdi,
+        expect: pins.expect,
+        found,
+    })
+}
+
+/// Plays up to the last shift clock of the next scan, so before its update; answers the scan's number, and `None` where
+/// the play ends first. `bits` becomes its bits, position 0 first.
+pub(crate) fn next_scan(
+    player: &mut Player,
+    bench: &mut Bench,
+    bits: &mut List<Shifted>,
+) -> Result<Option<u32>, OutOfMemory>
+    ensures bench { bench.new ≡ record bench.old { state = bench.new.state } }
+    ensures scan { IfOk result (λ number. MatchOption number (scans_of (chip_of bench.old) player.old.pins bench.old.state ≡ []) (λ n. scans_of (chip_of bench.old) player.old.pins bench.old.state ≡ record { number = n; bits = bits.new.items; state = bench.new.state } ∷ scans_of (chip_of bench.old) player.new.pins bench.new.state)) }
+{
+    bits.clear();
+    while let Some(pins) = player.next() {
+        let found = bench.clock(pins.tms, pins.tdi);
+        if pins.scan != 0 {
+            add_bit(&pins, found, bits)?;
+            if pins.tms {
+                return Ok(Some(pins.scan));
+            }
+        }
+    }
+    Ok(None)
+}
