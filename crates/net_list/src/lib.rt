@@ -16,7 +16,7 @@ mod values;
 mod whole;
 
 pub use format::ListFormat;
-pub use mux::{put_rows, put_selects};
+pub use mux::{mux_count, put_rows, put_selects};
 pub use names::{index_of, put_bit_name, put_register_path};
 pub use register::{put_reset, put_selected, put_width, selected_by};
 pub use values::put_values;

@@ -237,8 +237,8 @@ fn put_mux<K: Sink>(
     put_text(format, net, mux, depth, k)
 }
 
-/// How many muxes there are.
-pub(crate) fn mux_count(net: &Net) -> u32
+/// How many muxes there are. Takes no memory.
+pub fn mux_count(net: &Net) -> u32
     requires { IsNet net.now }
     ensures { result ≡ length net.now.muxes.items }
 {

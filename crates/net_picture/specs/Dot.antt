@@ -15,17 +15,20 @@ use Rattle.net_tree.specs.Places.{same_point}
 use Rattle.net_picture.specs.Labels.{register_label, short_values}
 use Rattle.net_picture.specs.Layout.{is_row}
 
--- what is met on the active path from a point back to scan-in in at most n moves, the one nearest scan-out first; it ends
--- at a multiplexer that is in none of its rows
-abbrev pub met_from : Net → Holds → ℕ → Point → List Point
+-- what stands before a point on the active path; nothing before scan-in, or before a multiplexer that is in none of its rows
+abbrev pub before : Net → Holds → Point → Option Point
+before net holds Entry = None
+before net holds (Reg r) = Some (reg_source net r)
+before net holds (Mux m) = mux_source net holds m
+
+-- what is met on the active path back to scan-in in at most n moves, the one nearest scan-out first
+abbrev pub met_from : Net → Holds → ℕ → Option Point → List Point
 met_from net holds zero p = []
-met_from net holds (suc n) Entry = []
-met_from net holds (suc n) (Reg r) = Reg r ∷ met_from net holds n (reg_source net r)
-met_from net holds (suc n) (Mux m) =
-    Mux m ∷ elim (mux_source net holds m) [ Some p ↦ met_from net holds n p | None ↦ [] ]
+met_from net holds (suc n) None = []
+met_from net holds (suc n) (Some p) = p ∷ met_from net holds n (before net holds p)
 
 abbrev pub met : Net → Holds → List Point
-met net holds = met_from net holds (length net.regs.items + length net.muxes.items) net.out
+met net holds = met_from net holds (length net.regs.items + length net.muxes.items) (Some net.out)
 
 abbrev pub is_met : List Point → Point → Bool
 is_met points p = list_any (same_point p) points
@@ -53,13 +56,18 @@ node_style marked active =
 abbrev pub edge_style : Bool → List ℕ
 edge_style active = cond active (codes "color=\"#d55e00\", penwidth=3") (codes "color=\"#868e96\"")
 
-unfoldable pub register_node : Net → Option Point → List Point → ℕ → List ℕ
-register_node net marked points r =
-    codes "  r" ++ (decimal r ++ (codes " [label=\"" ++ (register_label net r ++ (codes "\"" ++ (node_style (is_marked marked (Reg r)) (is_met points (Reg r)) ++ (codes "];\n" ++ []))))))
+-- a node: the letters and the number of its name, its label, its form and its style
+unfoldable pub node_text : List ℕ → ℕ → List ℕ → List ℕ → List ℕ → List ℕ
+node_text letters number label form style =
+    letters ++ (decimal number ++ (codes " [label=\"" ++ (label ++ (form ++ (style ++ (codes "];\n" ++ []))))))
 
-unfoldable pub mux_node : Net → Option Point → List Point → ℕ → List ℕ
+abbrev pub register_node : Net → Option Point → List Point → ℕ → List ℕ
+register_node net marked points r =
+    node_text (codes "  r") r (register_label net r) (codes "\"") (node_style (is_marked marked (Reg r)) (is_met points (Reg r)))
+
+abbrev pub mux_node : Net → Option Point → List Point → ℕ → List ℕ
 mux_node net marked points m =
-    codes "  m" ++ (decimal m ++ (codes " [label=\"" ++ (mux_path net m ++ (codes "\", shape=trapezium, orientation=270" ++ (node_style (is_marked marked (Mux m)) (is_met points (Mux m)) ++ (codes "];\n" ++ []))))))
+    node_text (codes "  m") m (mux_path net m) (codes "\", shape=trapezium, orientation=270") (node_style (is_marked marked (Mux m)) (is_met points (Mux m)))
 
 -- an edge from a source to a register
 unfoldable pub register_edge : Net → List Point → ℕ → List ℕ
@@ -71,9 +79,13 @@ abbrev pub row_source : Net → ℕ → ℕ → Point
 row_source net m q = get_or (map (λ row. row.from) (rows_of net m)) q Entry
 
 -- an edge from the source of row q to its multiplexer
-unfoldable pub row_edge : Net → Holds → List Point → ℕ → ℕ → List ℕ
-row_edge net holds points m q =
-    codes "  " ++ (node_letters (row_source net m q) ++ (node_number (row_source net m q) ++ (codes " -> m" ++ (decimal m ++ (codes " [label=\"" ++ (short_values net m q ++ (codes "\", " ++ (edge_style (is_met points (Mux m) && is_row (row_of net holds m) q) ++ (codes "];\n" ++ [])))))))))
+unfoldable pub row_edge : Net → Bool → ℕ → ℕ → List ℕ
+row_edge net active m q =
+    codes "  " ++ (node_letters (row_source net m q) ++ (node_number (row_source net m q) ++ (codes " -> m" ++ (decimal m ++ (codes " [label=\"" ++ (short_values net m q ++ (codes "\", " ++ (edge_style active ++ (codes "];\n" ++ [])))))))))
+
+-- the edge of the row that is selected is on the active path where its multiplexer is
+abbrev pub row_line : Net → Bool → Option ℕ → ℕ → ℕ → List ℕ
+row_line net active selected m q = row_edge net (active && is_row selected q) m q
 
 -- an edge from a select bit's register
 unfoldable pub select_edge : ℕ → BitId → List ℕ
@@ -82,7 +94,7 @@ select_edge m b =
 
 abbrev pub mux_edges : Net → Holds → List Point → ℕ → List ℕ
 mux_edges net holds points m =
-    lines_from (row_edge net holds points m) 0 (length (rows_of net m)) ++ flat_map (select_edge m) (selects_of net m)
+    lines_from (row_line net (is_met points (Mux m)) (row_of net holds m) m) 0 (length (rows_of net m)) ++ flat_map (select_edge m) (selects_of net m)
 
 unfoldable pub output_edge : Net → List ℕ
 output_edge net =

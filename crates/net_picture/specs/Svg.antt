@@ -32,13 +32,23 @@ abbrev pub corner : List ℕ → ℕ
 corner [] = 3
 corner (m ∷ ms) = 13
 
-unfoldable pub register_text : Net → ℕ → ℕ → ℕ → ℕ → Bool → List ℕ
-register_text net r x y width active =
-    codes "<g transform=\"translate(" ++ (decimal x ++ (codes " " ++ (decimal y ++ (codes ")\"><title>" ++ (register_title net r ++ (codes "</title><rect class=\"" ++ (class_text active (codes "b a") (codes "b") ++ (codes "\" y=\"-13\" width=\"" ++ (decimal width ++ (codes "\" height=\"26\" rx=\"" ++ (decimal (corner (selected_by net r)) ++ (codes "\"/><text class=\"n\" x=\"" ++ (decimal (width / 2) ++ (codes "\" y=\"4\">" ++ (short_register net r ++ (codes "</text></g>\n" ++ []))))))))))))))))
+-- a box with its tooltip and its label
+unfoldable pub box_text : List ℕ → List ℕ → ℕ → ℕ → ℕ → ℕ → Bool → List ℕ
+box_text title label round x y width active =
+    codes "<g transform=\"translate(" ++ (decimal x ++ (codes " " ++ (decimal y ++ (codes ")\"><title>" ++ (title ++ (codes "</title><rect class=\"" ++ (class_text active (codes "b a") (codes "b") ++ (codes "\" y=\"-13\" width=\"" ++ (decimal width ++ (codes "\" height=\"26\" rx=\"" ++ (decimal round ++ (codes "\"/><text class=\"n\" x=\"" ++ (decimal (width / 2) ++ (codes "\" y=\"4\">" ++ (label ++ (codes "</text></g>\n" ++ []))))))))))))))))
 
-unfoldable pub mux_text : Net → ℕ → ℕ → ℕ → ℕ → Bool → List ℕ
+abbrev pub register_text : Net → ℕ → ℕ → ℕ → ℕ → Bool → List ℕ
+register_text net r x y width active =
+    box_text (register_title net r) (short_register net r) (corner (selected_by net r)) x y width active
+
+-- a funnel with its tooltip and its label
+unfoldable pub funnel_text : List ℕ → List ℕ → ℕ → ℕ → ℕ → Bool → List ℕ
+funnel_text title label x y height active =
+    codes "<g transform=\"translate(" ++ (decimal x ++ (codes " " ++ (decimal y ++ (codes ")\"><title>" ++ (title ++ (codes "</title><path class=\"" ++ (class_text active (codes "f a") (codes "f") ++ (codes "\" d=\"M0-13l14 6v" ++ (decimal height ++ (codes "v14l-14 6z\"/><text class=\"m\" x=\"18\" y=\"12\">" ++ (label ++ (codes "</text></g>\n" ++ []))))))))))))
+
+abbrev pub mux_text : Net → ℕ → ℕ → ℕ → ℕ → Bool → List ℕ
 mux_text net m x y height active =
-    codes "<g transform=\"translate(" ++ (decimal x ++ (codes " " ++ (decimal y ++ (codes ")\"><title>" ++ (mux_title net m ++ (codes "</title><path class=\"" ++ (class_text active (codes "f a") (codes "f") ++ (codes "\" d=\"M0-13l14 6v" ++ (decimal height ++ (codes "v14l-14 6z\"/><text class=\"m\" x=\"18\" y=\"12\">" ++ (short_mux net m ++ (codes "</text></g>\n" ++ []))))))))))))
+    funnel_text (mux_title net m) (short_mux net m) x y height active
 
 unfoldable pub values_text : Net → ℕ → ℕ → ℕ → ℕ → List ℕ
 values_text net m q x y =

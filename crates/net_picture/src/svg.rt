@@ -32,8 +32,84 @@ fn corner(muxes: &[u32]) -> u64
     if muxes.is_empty() { 3 } else { 13 }
 }
 
+/// A box: its tooltip, its label, how round its corners are, its place and width, and whether it is on the active path.
+#[derive(Clone, Copy)]
+struct BoxText<'a> {
+    title: &'a [u8],
+    label: &'a [u8],
+    round: u64,
+    x: u64,
+    y: u64,
+    width: u64,
+    active: bool,
+}
+
+/// A funnel: its tooltip, its label, its place and height, and whether it is on the active path.
+#[derive(Clone, Copy)]
+struct FunnelText<'a> {
+    title: &'a [u8],
+    label: &'a [u8],
+    x: u64,
+    y: u64,
+    height: u64,
+    active: bool,
+}
+
+/// Writes a box.
+#[tactic(auto, unfolding(crate::specs::Svg::box_text, ij_io::specs::Words::words_text))]
+fn put_box<K: Sink>(it: BoxText<'_>, k: &mut K) -> Result<(), StoreFault>
+    ensures whole { OnOk result (Adds (K.taken k.old) (K.taken k.new) (svg.box_text it.title.now it.label.now it.round it.x it.y it.width it.active)) }
+    ensures part { OnErr result (AddsPart (K.taken k.old) (K.taken k.new) (svg.box_text it.title.now it.label.now it.round it.x it.y it.width it.active)) }
+    ensures cause { HasCause (K.faults k.old) (K.faults k.new) result StoreFault.Failed }
+{
+    let words = [
+        Word::Text(b"<g transform=\"translate("),
+        Word::Number(it.x),
+        Word::Text(b" "),
+        Word::Number(it.y),
+        Word::Text(b")\"><title>"),
+        Word::Text(it.title),
+        Word::Text(b"</title><rect class=\""),
+        Word::Text(class(it.active, b"b a", b"b")),
+        Word::Text(b"\" y=\"-13\" width=\""),
+        Word::Number(it.width),
+        Word::Text(b"\" height=\"26\" rx=\""),
+        Word::Number(it.round),
+        Word::Text(b"\"/><text class=\"n\" x=\""),
+        Word::Number(it.width / 2),
+        Word::Text(b"\" y=\"4\">"),
+        Word::Text(it.label),
+        Word::Text(b"</text></g>\n"),
+    ];
+    put_words(k, &words)
+}
+
+/// Writes a funnel.
+#[tactic(auto, unfolding(crate::specs::Svg::funnel_text, ij_io::specs::Words::words_text))]
+fn put_funnel<K: Sink>(it: FunnelText<'_>, k: &mut K) -> Result<(), StoreFault>
+    ensures whole { OnOk result (Adds (K.taken k.old) (K.taken k.new) (svg.funnel_text it.title.now it.label.now it.x it.y it.height it.active)) }
+    ensures part { OnErr result (AddsPart (K.taken k.old) (K.taken k.new) (svg.funnel_text it.title.now it.label.now it.x it.y it.height it.active)) }
+    ensures cause { HasCause (K.faults k.old) (K.faults k.new) result StoreFault.Failed }
+{
+    let words = [
+        Word::Text(b"<g transform=\"translate("),
+        Word::Number(it.x),
+        Word::Text(b" "),
+        Word::Number(it.y),
+        Word::Text(b")\"><title>"),
+        Word::Text(it.title),
+        Word::Text(b"</title><path class=\""),
+        Word::Text(class(it.active, b"f a", b"f")),
+        Word::Text(b"\" d=\"M0-13l14 6v"),
+        Word::Number(it.height),
+        Word::Text(b"v14l-14 6z\"/><text class=\"m\" x=\"18\" y=\"12\">"),
+        Word::Text(it.label),
+        Word::Text(b"</text></g>\n"),
+    ];
+    put_words(k, &words)
+}
+
 /// Writes a register's box.
-#[tactic(auto, unfolding(crate::specs::Svg::register_text, ij_io::specs::Words::words_text))]
 fn put_register<K: Sink>(
     alloc: Global,
     net: &Net,
@@ -53,30 +129,19 @@ fn put_register<K: Sink>(
     let muxes = selected_by(alloc, net, reg)?;
     let title = register_title(alloc, net, reg, muxes.as_slice())?;
     let label = short_register(alloc, net, reg)?;
-    let words = [
-        Word::Text(b"<g transform=\"translate("),
-        Word::Number(x),
-        Word::Text(b" "),
-        Word::Number(y),
-        Word::Text(b")\"><title>"),
-        Word::Text(title.bytes()),
-        Word::Text(b"</title><rect class=\""),
-        Word::Text(class(active, b"b a", b"b")),
-        Word::Text(b"\" y=\"-13\" width=\""),
-        Word::Number(width),
-        Word::Text(b"\" height=\"26\" rx=\""),
-        Word::Number(corner(muxes.as_slice())),
-        Word::Text(b"\"/><text class=\"n\" x=\""),
-        Word::Number(width / 2),
-        Word::Text(b"\" y=\"4\">"),
-        Word::Text(label.bytes()),
-        Word::Text(b"</text></g>\n"),
-    ];
-    put_words(k, &words)
+    let it = BoxText {
+        title: title.bytes(),
+        label: label.bytes(),
+        round: corner(muxes.as_slice()),
+        x,
+        y,
+        width,
+        active,
+    };
+    put_box(it, k)
 }
 
 /// Writes a multiplexer's funnel.
-#[tactic(auto, unfolding(crate::specs::Svg::mux_text, ij_io::specs::Words::words_text))]
 fn put_mux<K: Sink>(
     alloc: Global,
     net: &Net,
@@ -95,22 +160,15 @@ fn put_mux<K: Sink>(
 {
     let title = mux_title(alloc, net, mux)?;
     let label = short_mux(alloc, net, mux)?;
-    let words = [
-        Word::Text(b"<g transform=\"translate("),
-        Word::Number(x),
-        Word::Text(b" "),
-        Word::Number(y),
-        Word::Text(b")\"><title>"),
-        Word::Text(title.bytes()),
-        Word::Text(b"</title><path class=\""),
-        Word::Text(class(active, b"f a", b"f")),
-        Word::Text(b"\" d=\"M0-13l14 6v"),
-        Word::Number(height),
-        Word::Text(b"v14l-14 6z\"/><text class=\"m\" x=\"18\" y=\"12\">"),
-        Word::Text(label.bytes()),
-        Word::Text(b"</text></g>\n"),
-    ];
-    put_words(k, &words)
+    let it = FunnelText {
+        title: title.bytes(),
+        label: label.bytes(),
+        x,
+        y,
+        height,
+        active,
+    };
+    put_funnel(it, k)
 }
 
 /// Writes the select values of a row.
