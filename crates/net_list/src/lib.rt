@@ -16,6 +16,10 @@ mod values;
 mod whole;
 
 pub use format::ListFormat;
+pub use mux::{mux_count, put_rows, put_selects};
+pub use names::{index_of, put_bit_name, put_register_path};
+pub use register::{put_reset, put_selected, put_width, selected_by};
+pub use values::put_values;
 pub use whole::put_list;
 
 /// What is proved of the numbers of scans in a listing: it carries no code, its clause says what holds of the definitions.

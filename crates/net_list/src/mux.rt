@@ -68,8 +68,8 @@ fn put_select_bits<K: Sink>(
     Ok(())
 }
 
-/// Writes the select bits of a mux.
-fn put_selects<K: Sink>(
+/// Writes the select bits of a mux, the highest first. The refusals are those of the sink, which then took some first bytes.
+pub fn put_selects<K: Sink>(
     format: ListFormat,
     net: &Net,
     mux: u32,
@@ -164,8 +164,9 @@ fn put_row_list<K: Sink>(
     Ok(())
 }
 
-/// Writes the select values of the rows of a mux.
-fn put_rows<K: Sink>(format: ListFormat, net: &Net, mux: u32, k: &mut K) -> Result<(), StoreFault>
+/// Writes the select values of the rows of a mux, each row on a line in text. The refusals are those of the sink, which then took
+/// some first bytes.
+pub fn put_rows<K: Sink>(format: ListFormat, net: &Net, mux: u32, k: &mut K) -> Result<(), StoreFault>
     requires well_formed { IsNet net.now }
     requires there { mux < length net.now.muxes.items }
     ensures whole { OnOk result (Adds (K.taken k.old) (K.taken k.new) (lines.rows_text format net.now mux)) }
@@ -236,8 +237,8 @@ fn put_mux<K: Sink>(
     put_text(format, net, mux, depth, k)
 }
 
-/// How many muxes there are.
-pub(crate) fn mux_count(net: &Net) -> u32
+/// How many muxes there are. Takes no memory.
+pub fn mux_count(net: &Net) -> u32
     requires { IsNet net.now }
     ensures { result ≡ length net.now.muxes.items }
 {

@@ -51,8 +51,8 @@ fn index_between(left: u32, right: u32, pos: u32) -> u64
     }
 }
 
-/// The index of a bit in its register.
-pub(crate) fn index_of(net: &Net, bit: BitId) -> u64
+/// The index of a bit in its register (IEEE 1687-2014, ICL: `ScanRegister`). Takes no memory.
+pub fn index_of(net: &Net, bit: BitId) -> u64
     requires well_formed { IsNet net.now }
     requires there { bit.reg < length net.now.regs.items }
     ensures { result ≡ drivers.index_of net.now bit }
@@ -61,8 +61,8 @@ pub(crate) fn index_of(net: &Net, bit: BitId) -> u64
     index_between(left_of(net, thing), right_of(net, thing), bit.pos)
 }
 
-/// Writes the path of a register.
-pub(crate) fn put_register_path<K: Sink>(net: &Net, reg: u32, k: &mut K) -> Result<(), StoreFault>
+/// Writes the path of a register. The refusals are those of the sink, which then took some first bytes.
+pub fn put_register_path<K: Sink>(net: &Net, reg: u32, k: &mut K) -> Result<(), StoreFault>
     requires well_formed { IsNet net.now }
     requires there { reg < length net.now.regs.items }
     ensures whole { OnOk result (Adds (K.taken k.old) (K.taken k.new) (drivers.register_path net.now reg)) }
@@ -87,8 +87,9 @@ pub(crate) fn put_open_name<K: Sink>(net: &Net, bit: BitId, k: &mut K) -> Result
     Ok(())
 }
 
-/// Writes the path of a register and the index of a bit in brackets.
-pub(crate) fn put_bit_name<K: Sink>(net: &Net, bit: BitId, k: &mut K) -> Result<(), StoreFault>
+/// Writes the path of a register and the index of a bit in brackets. The refusals are those of the sink, which then took some first
+/// bytes.
+pub fn put_bit_name<K: Sink>(net: &Net, bit: BitId, k: &mut K) -> Result<(), StoreFault>
     requires well_formed { IsNet net.now }
     requires there { bit.reg < length net.now.regs.items }
     ensures whole { OnOk result (Adds (K.taken k.old) (K.taken k.new) (drivers.bit_name net.now bit)) }

@@ -56,8 +56,8 @@ fn push_if(muxes: &mut List<u32>, mux: u32, selected: bool) -> Result<(), OutOfM
     Ok(())
 }
 
-/// The muxes in which a register selects.
-fn selected_by(alloc: Global, net: &Net, reg: u32) -> Result<List<u32>, OutOfMemory>
+/// The muxes in which a register selects, in the network's order (IEEE 1687-2014, ICL: `SelectedBy`).
+pub fn selected_by(alloc: Global, net: &Net, reg: u32) -> Result<List<u32>, OutOfMemory>
     requires { IsNet net.now }
     ensures muxes { IfOk result (λ muxes. muxes.items ≡ lines.selected_by net.now reg) }
     ensures there { IfOk result (λ muxes. All (λ m. m < length net.now.muxes.items) muxes.items) }
@@ -92,8 +92,8 @@ fn put_muxes<K: Sink>(
     Ok(())
 }
 
-/// Writes the muxes in which a register selects.
-fn put_selected<K: Sink>(
+/// Writes the muxes in which a register selects. The refusals are those of the sink, which then took some first bytes.
+pub fn put_selected<K: Sink>(
     format: ListFormat,
     net: &Net,
     reg: u32,
@@ -115,8 +115,8 @@ fn put_selected<K: Sink>(
     Ok(())
 }
 
-/// Writes how many bits a register has.
-fn put_width<K: Sink>(format: ListFormat, net: &Net, reg: u32, k: &mut K) -> Result<(), StoreFault>
+/// Writes how many bits a register has. The refusals are those of the sink, which then took some first bytes.
+pub fn put_width<K: Sink>(format: ListFormat, net: &Net, reg: u32, k: &mut K) -> Result<(), StoreFault>
     requires { reg < length net.now.regs.items }
     ensures whole { OnOk result (Adds (K.taken k.old) (K.taken k.new) (lines.width_text format net.now reg)) }
     ensures part { OnErr result (AddsPart (K.taken k.old) (K.taken k.new) (lines.width_text format net.now reg)) }
@@ -126,8 +126,9 @@ fn put_width<K: Sink>(format: ListFormat, net: &Net, reg: u32, k: &mut K) -> Res
     put_count(format, b" bits ", b"\",\"bits\":", width as u64, k)
 }
 
-/// Writes the reset value of a register.
-fn put_reset<K: Sink>(net: &Net, reg: u32, k: &mut K) -> Result<(), StoreFault>
+/// Writes the reset value of a register, the highest position first. The refusals are those of the sink, which then took some first
+/// bytes.
+pub fn put_reset<K: Sink>(net: &Net, reg: u32, k: &mut K) -> Result<(), StoreFault>
     requires { reg < length net.now.regs.items }
     ensures whole { OnOk result (Adds (K.taken k.old) (K.taken k.new) (lines.reset_text net.now reg)) }
     ensures part { OnErr result (AddsPart (K.taken k.old) (K.taken k.new) (lines.reset_text net.now reg)) }

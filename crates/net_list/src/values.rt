@@ -46,8 +46,8 @@ fn put_value<K: Sink>(before: &[u8], value: &Tern, k: &mut K) -> Result<(), Stor
     Ok(())
 }
 
-/// Writes the select values of a row, with bars between.
-pub(crate) fn put_values<K: Sink>(values: &[Tern], k: &mut K) -> Result<(), StoreFault>
+/// Writes the select values of a row, with bars between. The refusals are those of the sink, which then took some first bytes.
+pub fn put_values<K: Sink>(values: &[Tern], k: &mut K) -> Result<(), StoreFault>
     ensures whole { OnOk result (Adds (K.taken k.old) (K.taken k.new) (forms.values_text values.now)) }
     ensures part { OnErr result (AddsPart (K.taken k.old) (K.taken k.new) (forms.values_text values.now)) }
     ensures cause { HasCause (K.faults k.old) (K.faults k.new) result StoreFault.Failed }

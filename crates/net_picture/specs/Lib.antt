@@ -1,0 +1,9 @@
+pub mod Labels
+pub mod Plan
+pub mod Pens
+pub mod Layout
+pub mod Walk
+pub mod Drawing
+pub mod There
+pub mod Svg
+pub mod Dot
