@@ -1,0 +1,81 @@
+-- How many clocks any SVF takes at least that does what a procedure asks for
+-- (IEEE 1149.1-2013, TAP controller; IEEE 1687-2014, PDL level 0; Serial Vector Format, revision E).
+use Rattle.std.specs.Prelude.{ℕ, suc, ◌+◌, Bool, true, false, not, List, [], ◌∷◌, ◌++◌, map, filter, flat_map}
+use Rattle.net_graph.specs.declared.branch.Branch.{Branch}
+use Rattle.net_graph.specs.declared.device.Device.{Device}
+use Rattle.net_graph.specs.declared.net.Net.{Net}
+use Rattle.net_graph.specs.declared.net.Point.TheVariants.{Reg}
+use Rattle.net_graph.specs.Resets.{reset_holds, start_holds}
+use Rattle.net_graph.specs.SeenSteps.{SeenGroup, SeenStep}
+use Rattle.net_graph.specs.Signals.{Holds}
+use Rattle.net_graph.specs.Writes.{write_all}
+use Rattle.net_tree.specs.Form.{Items}
+use Rattle.net_tree.specs.Places.{place_of}
+use Rattle.tap_machine.specs.declared.Stable.{Stable}
+use Rattle.tap_machine.specs.declared.Stable.TheVariants.{Reset as InReset, Idle as InIdle}
+use Rattle.svf_audit.specs.Work.{Work, Group, Cycle, Reset, all_work, has_value, is_redundant}
+use Rattle.least_clocks.specs.Inside.{is_one_of, path_bits}
+
+-- the registers of which a round changes a bit, and those of which it reads one
+abbrev pub changed : Holds → SeenGroup → List ℕ
+changed holds g = map (λ w. w.bit.reg) (filter (λ w. not (has_value holds w)) g.writes)
+
+abbrev pub read : SeenGroup → List ℕ
+read g = map (λ r. r.bit.reg) g.reads
+
+-- each mux and row around some registers
+abbrev pub rows_around : Items → List ℕ → List Branch
+rows_around form registers = flat_map (λ r. place_of form (Reg r)) registers
+
+-- whether the scan of a round passes a row
+abbrev pub is_passed : Items → Holds → SeenGroup → Branch → Bool
+is_passed form holds g = is_one_of (rows_around form (changed holds g) ++ rows_around form (read g))
+
+-- whether the link's instruction is in force, where the controller rests, and the register bits: what counts of them are
+-- those that select nothing
+pub record State : Type 0 where
+  pub linked : Bool
+  pub rest : Stable
+  pub holds : Holds
+
+-- the clocks from there to Run-Test/Idle
+abbrev pub to_idle : Stable → ℕ
+to_idle InReset = 1
+to_idle InIdle = 0
+
+-- the clocks of the scan that brings the link's instruction into force: 4 to Shift-IR and 2 back, as many as it has bits between
+abbrev pub to_link : Device → Bool → ℕ
+to_link device true = 0
+to_link device false = device.ir + 6
+
+module _ (net : Net) (form : Items) (device : Device) where
+  -- a round that changes a bit or reads one takes a scan of its own: 3 clocks to Shift-DR and 2 back, as many as the path has
+  -- bits between
+  abbrev pub round_clocks : State → SeenGroup → ℕ
+  round_clocks s g = to_idle s.rest + (to_link device s.linked + (path_bits net form (is_passed form s.holds g) + 5))
+
+  abbrev pub was_scanned : State → SeenGroup → State
+  was_scanned s g = record { linked = true; rest = InIdle; holds = write_all s.holds g.writes }
+
+  abbrev pub was_idle : State → State
+  was_idle s = record s { rest = InIdle }
+
+  abbrev pub was_reset : State → State
+  was_reset s = record { linked = false; rest = InReset; holds = reset_holds net s.holds }
+
+  -- the clocks of work from a state on: a reset takes 5, and goes out from Run-Test/Idle
+  abbrev pub clocks_from : State → List Work → ℕ
+  clocks_from s [] = 0
+  clocks_from s (Group g ∷ ws) = elim (is_redundant s.holds (Group g)) [
+    | true ↦ clocks_from s ws
+    | false ↦ round_clocks s g + clocks_from (was_scanned s g) ws
+  ]
+  clocks_from s (Cycle ∷ ws) = to_idle s.rest + suc (clocks_from (was_idle s) ws)
+  clocks_from s (Reset ∷ ws) = to_idle s.rest + (5 + clocks_from (was_reset s) ws)
+
+  -- at power-up
+  abbrev pub start : State
+  start = record { linked = false; rest = InReset; holds = start_holds net }
+
+  abbrev pub least_clocks : List SeenStep → ℕ
+  least_clocks steps = clocks_from start (all_work steps)
