@@ -39,43 +39,45 @@ pub record State : Type 0 where
   pub holds : Holds
 
 -- the clocks from there to Run-Test/Idle
-abbrev pub to_idle : Stable → ℕ
-to_idle InReset = 1
-to_idle InIdle = 0
+abbrev pub clocks_to_idle : Stable → ℕ
+clocks_to_idle InReset = 1
+clocks_to_idle InIdle = 0
 
 -- the clocks of the scan that brings the link's instruction into force: 4 to Shift-IR and 2 back, as many as it has bits between
-abbrev pub to_link : Device → Bool → ℕ
-to_link device true = 0
-to_link device false = device.ir + 6
+abbrev pub clocks_to_link : Device → Bool → ℕ
+clocks_to_link device true = 0
+clocks_to_link device false = device.ir + 6
+
+-- after the scan of a round, in Run-Test/Idle, after a reset, and at power-up
+abbrev pub was_scanned : State → SeenGroup → State
+was_scanned s g = record { linked = true; rest = InIdle; holds = write_all s.holds g.writes }
+
+abbrev pub was_idle : State → State
+was_idle s = record s { rest = InIdle }
+
+abbrev pub was_reset : Net → State → State
+was_reset net s = record { linked = false; rest = InReset; holds = reset_holds net s.holds }
+
+abbrev pub start : Net → State
+start net = record { linked = false; rest = InReset; holds = start_holds net }
 
 module _ (net : Net) (form : Items) (device : Device) where
   -- a round that changes a bit or reads one takes a scan of its own: 3 clocks to Shift-DR and 2 back, as many as the path has
   -- bits between
   abbrev pub round_clocks : State → SeenGroup → ℕ
-  round_clocks s g = to_idle s.rest + (to_link device s.linked + (path_bits net form (is_passed form s.holds g) + 5))
-
-  abbrev pub was_scanned : State → SeenGroup → State
-  was_scanned s g = record { linked = true; rest = InIdle; holds = write_all s.holds g.writes }
-
-  abbrev pub was_idle : State → State
-  was_idle s = record s { rest = InIdle }
-
-  abbrev pub was_reset : State → State
-  was_reset s = record { linked = false; rest = InReset; holds = reset_holds net s.holds }
+  round_clocks s g =
+      clocks_to_idle s.rest + (clocks_to_link device s.linked + (path_bits net form (is_passed form s.holds g) + 5))
 
   -- the clocks of work from a state on: a reset takes 5, and goes out from Run-Test/Idle
-  abbrev pub clocks_from : State → List Work → ℕ
-  clocks_from s [] = 0
-  clocks_from s (Group g ∷ ws) = elim (is_redundant s.holds (Group g)) [
-    | true ↦ clocks_from s ws
-    | false ↦ round_clocks s g + clocks_from (was_scanned s g) ws
+  abbrev pub least_from : State → List Work → ℕ
+  least_from s [] = 0
+  least_from s (Group g ∷ ws) = elim (is_redundant s.holds (Group g)) [
+    | true ↦ least_from s ws
+    | false ↦ round_clocks s g + least_from (was_scanned s g) ws
   ]
-  clocks_from s (Cycle ∷ ws) = to_idle s.rest + suc (clocks_from (was_idle s) ws)
-  clocks_from s (Reset ∷ ws) = to_idle s.rest + (5 + clocks_from (was_reset s) ws)
+  least_from s (Cycle ∷ ws) = clocks_to_idle s.rest + suc (least_from (was_idle s) ws)
+  least_from s (Reset ∷ ws) = clocks_to_idle s.rest + (5 + least_from (was_reset net s) ws)
 
-  -- at power-up
-  abbrev pub start : State
-  start = record { linked = false; rest = InReset; holds = start_holds net }
-
+  -- from power-up on
   abbrev pub least_clocks : List SeenStep → ℕ
-  least_clocks steps = clocks_from start (all_work steps)
+  least_clocks steps = least_from (start net) (all_work steps)

@@ -1,5 +1,5 @@
 // A count of clocks through the work of a procedure.
-ghost use Rattle.std.specs.Prelude.{◌≡◌, ◌≤◌, ◌<◌, ◌+◌, ◌*◌, ◌^◌, [], false, true, length, map, replicate, All, IfOk, OnOk, Some};
+ghost use Rattle.std.specs.Prelude.{◌≡◌, ◌≤◌, ◌<◌, ◌+◌, ◌*◌, ◌^◌, [], ◌∷◌, false, true, length, map, replicate, All, IfOk, OnOk, Some};
 ghost use Rattle.net_graph.specs.Held.{AreHolds};
 ghost use Rattle.net_graph.specs.Nets.{IsNet};
 ghost use Rattle.net_graph.specs.declared.device.Device.{Device as ADevice};
@@ -10,11 +10,11 @@ ghost use Rattle.net_graph.specs.Steps.{IsGroup, IsStep};
 ghost use Rattle.pdl_targets.specs.Laws.{round_count};
 ghost use Rattle.svf_audit.specs.Work.{Group as GroupWork, Cycle, Reset as ResetWork, work_of};
 ghost use Rattle.least_clocks.specs.Counting.{Counts, state_of};
-ghost use Rattle.least_clocks.specs.Least.{start, to_idle, to_link};
+ghost use Rattle.least_clocks.specs.Least.{start, clocks_to_idle, clocks_to_link};
 
 use crate::inside::path_bits;
 use crate::rows::passed_rows;
-use crate::work::{is_redundant, write_all};
+use crate::work::{is_redundant, write_group};
 use ij_bits::OutOfMemory;
 use net_graph::{BitStep, Device, Group, Holds, Net};
 use net_tree::Tree;
@@ -51,7 +51,8 @@ impl Count {
     /// Goes to Run-Test/Idle.
     fn leave(&mut self)
         requires { self.old.clocks < 2 ^ 63 }
-        ensures { self.new ≡ record self.old { rest = Stable.Idle; clocks = self.old.clocks + to_idle self.old.rest } }
+        ensures state { self.new ≡ record self.old { rest = Stable.Idle; clocks = self.old.clocks + clocks_to_idle self.old.rest } }
+        ensures few { self.new.clocks ≤ self.old.clocks + 1 }
     {
         if self.rest == Stable::Reset {
             self.clocks += 1;
@@ -62,12 +63,25 @@ impl Count {
     /// Brings the link's instruction into force.
     fn link(&mut self, device: &Device)
         requires { self.old.clocks < 2 ^ 63 + 2 ^ 32 }
-        ensures { self.new ≡ record self.old { linked = true; clocks = self.old.clocks + to_link device.now self.old.linked } }
+        ensures state { self.new ≡ record self.old { linked = true; clocks = self.old.clocks + clocks_to_link device.now self.old.linked } }
+        ensures few { self.new.clocks ≤ self.old.clocks + 2 ^ 33 }
     {
         if !self.linked {
             self.clocks += u64::from(device.ir) + 6;
         }
         self.linked = true;
+    }
+
+    /// Takes a data scan of so many bits.
+    fn scan(&mut self, device: &Device, bits: u64)
+        requires room { self.old.clocks < 2 ^ 63 }
+        requires few { bits ≤ 4096 * 2 ^ 32 }
+        ensures state { self.new ≡ record self.old { linked = true; rest = Stable.Idle; clocks = self.old.clocks + (clocks_to_idle self.old.rest + (clocks_to_link device.now self.old.linked + (bits + 5))) } }
+        ensures few { self.new.clocks ≤ self.old.clocks + 2 ^ 45 }
+    {
+        self.leave();
+        self.link(device);
+        self.clocks += bits + 5;
     }
 
     /// Does a round.
@@ -91,10 +105,8 @@ impl Count {
             return Ok(());
         }
         let rows = passed_rows(alloc, tree, &self.holds, group)?;
-        self.leave();
-        self.link(device);
-        self.clocks += path_bits(net, tree, rows.as_slice()) + 5;
-        write_all(&mut self.holds, group.writes.as_slice());
+        self.scan(device, path_bits(net, tree, rows.as_slice()));
+        write_group(&mut self.holds, group);
         Ok(())
     }
 

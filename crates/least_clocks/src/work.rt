@@ -37,12 +37,12 @@ pub(crate) fn is_redundant(holds: &Holds, group: &Group) -> bool
     group.reads.is_empty() && have_values(holds, group.writes.as_slice())
 }
 
-/// Writes register bits, one after the other.
-pub(crate) fn write_all(holds: &mut Holds, writes: &[WriteBit])
-    requires { All (λ w. IsHeld holds.old w.bit) writes.now }
-    ensures { holds.new ≡ writing.write_all holds.old writes.now }
+/// Writes the bits of a round, one after the other.
+pub(crate) fn write_group(holds: &mut Holds, group: &Group)
+    requires { All (λ w. IsHeld holds.old w.bit) group.now.writes.items }
+    ensures { holds.new ≡ writing.write_all holds.old group.now.writes.items }
 {
-    for w in writes {
+    for w in group.writes.as_slice() {
         holds.set(w.bit, w.value);
     }
 }
