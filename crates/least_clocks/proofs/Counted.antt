@@ -1,0 +1,48 @@
+-- What a count counts of each piece of work.
+use Rattle.std.proofs.Common.{◌≡◌, ℕ, zero, suc, ◌+◌, ◌<◌, Bool, true, false, List, [], ◌∷◌, ◌++◌, refl, sym, ap, ◌∙◌, arith}
+use Rattle.std.specs.Prelude.{map, replicate}
+use Rattle.net_graph.specs.declared.branch.Branch.{Branch}
+use Rattle.net_graph.specs.declared.device.Device.{Device}
+use Rattle.net_graph.specs.declared.net.Net.{Net}
+use Rattle.net_graph.specs.SeenSteps.{SeenGroup}
+use Rattle.net_graph.specs.Signals.{Holds}
+use Rattle.net_graph.specs.Writes.{write_all}
+use Rattle.net_tree.specs.Form.{Items}
+use Rattle.tap_machine.specs.declared.Stable.TheVariants.{Idle as InIdle}
+use Rattle.svf_audit.specs.Work.{Work, Group, Cycle, is_redundant}
+use Rattle.least_clocks.specs.declared.count.Count.{Count}
+use Rattle.least_clocks.specs.Counting.{state_of}
+use Rattle.least_clocks.specs.Inside.{is_one_of, path_bits}
+use Rattle.least_clocks.specs.Least.{State, clocks_to_idle, clocks_to_link, is_passed, was_idle, least_from}
+use Rattle.least_clocks.proofs.Moving.{takes}
+
+module _ (net : Net) (form : Items) (device : Device) where
+  abbrev from : State → List Work → ℕ
+  from s ws = least_from net form device s ws
+
+  abbrev counted : Count → List Work → ℕ
+  counted c ws = c.clocks + from (state_of c) ws
+
+  idle_cycles : (s : State) (n : ℕ) (left : List Work) → from (was_idle s) (replicate n Cycle ++ left) ≡ n + from (was_idle s) left
+  idle_cycles s zero left = omega arith
+  idle_cycles s (suc n) left = omega (arith, idle_cycles s n left)
+
+  some_cycles : (s : State) (n : ℕ) (left : List Work) → 0 < n → from s (replicate n Cycle ++ left) ≡ clocks_to_idle s.rest + (n + from (was_idle s) left)
+  some_cycles s zero left l = absurd (omega (arith, l))
+  some_cycles s (suc n) left l = omega (arith, idle_cycles s n left)
+
+  pub run_counted : (c d : Count) (n m : ℕ) → 0 < n → m ≡ n → d ≡ record c { rest = InIdle; clocks = c.clocks + clocks_to_idle c.rest } → (left : List Work) → counted (record d { clocks = d.clocks + m }) left ≡ counted c (replicate n Cycle ++ left)
+  run_counted c d n m l is e left =
+      let to = ap (λ (x : Count). counted (record x { clocks = x.clocks + m }) left) e in
+      let ran = some_cycles (state_of c) n left l in
+      omega (arith, to, ran, is)
+
+  pub round_counted : (c d : Count) (g : SeenGroup) (rows : List Branch) (n : ℕ) (h : Holds) → is_redundant c.holds (Group g) ≡ false → ((b : Branch) → is_one_of rows b ≡ is_passed form c.holds g b) → n ≡ path_bits net form (is_one_of rows)
+      → d ≡ record c { linked = true; rest = InIdle; clocks = c.clocks + (clocks_to_idle c.rest + (clocks_to_link device c.linked + (n + 5))) } → h ≡ write_all d.holds g.writes → (left : List Work) → counted (record d { holds = h }) left ≡ counted c (Group g ∷ left)
+  round_counted c d g rows n h redundant same bits e held left =
+      let passed : n ≡ path_bits net form (is_passed form c.holds g) = bits ∙ ap (path_bits net form) (λ i b. same b i) in
+      let written : h ≡ write_all c.holds g.writes = held ∙ ap (λ (x : Count). write_all x.holds g.writes) e in
+      let to = ap (λ (x : Count). counted (record x { holds = h }) left) e in
+      let later = ap (λ k. from (record { linked = true; rest = InIdle; holds = k }) left) written in
+      let taken = takes net form device c.linked c.rest c.holds g left redundant in
+      omega (arith, to, later, taken, passed)

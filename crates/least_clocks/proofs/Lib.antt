@@ -1,0 +1,5 @@
+pub mod Adding
+pub mod Moving
+pub mod Passing
+pub mod Bounded
+pub mod Counted

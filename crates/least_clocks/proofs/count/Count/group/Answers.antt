@@ -1,0 +1,24 @@
+use Rattle.std.proofs.Common.{◌≡◌, Bool, List, ap, sym, ◌∙◌}
+use Rattle.net_graph.specs.declared.branch.Branch.{Branch}
+use Rattle.net_graph.specs.SeenSteps.{seen_group}
+use Rattle.net_graph.proofs.Shapes.{shape}
+use Rattle.net_graph.proofs.Writing.{write_all-shape}
+use Rattle.least_clocks.specs.Inside.{is_one_of, path_bits}
+use Rattle.least_clocks.specs.declared.count.Count.{Count}
+use Rattle.least_clocks.proofs.Counted.{round_counted}
+use Rattle.least_clocks.proofs.count.Count.group.Goals as goal
+
+pub returns-clause-counts : goal.returns-clause-counts
+returns-clause-counts c =
+    let net = c.args.net.now in
+    let form = c.args.tree.now in
+    let bits = c.path_bits.ensures.bits ∙ ap (λ (rows : List Branch). path_bits net form (is_one_of rows)) c.as_slice.ensures in
+    round_counted net form c.args.device.now c.args.self.now c.scan.new.self (seen_group c.args.group.now) c.in_ok-rows.rows.items c.path_bits.result c.write_group.new.holds
+    (sym c.is_redundant.ensures ∙ c.if-is_redundant.false) c.in_ok-rows.ensures bits c.scan.ensures.state c.write_group.ensures
+
+pub returns-clause-holds : goal.returns-clause-holds
+returns-clause-holds c =
+    ap shape c.write_group.ensures
+    ∙ write_all-shape c.args.group.now.writes.items c.scan.new.self.holds
+    ∙ ap (λ (x : Count). shape x.holds) c.scan.ensures.state
+    ∙ c.requires.holds

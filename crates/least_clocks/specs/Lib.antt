@@ -1,0 +1,4 @@
+pub mod Inside
+pub mod Least
+pub mod Counting
+pub mod Law
