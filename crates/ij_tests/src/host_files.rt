@@ -1,16 +1,50 @@
-// Files of the host: what its shelf does with them, of which no clause can speak.
+// Files of the host: what its shelf does with them, of which no clause can speak. A test is a table of steps.
 
 use crate::calls::{append, begin, finish, load};
 use ij_io::{HostShelf, LoadFault, Shelf, StoreFault};
-use std::alloc::Allocator;
+use std::alloc::{AllocError, Allocator, Global};
 use std::fs::{Files, Metadata, OpenFile, OpenOptions};
 use std::io::{ErrorKind, Read, Seek, SeekFrom, Write};
 use std::rt::HostRuntime;
 use std::test::Fail;
 use std::{env, fs, io, process};
 
-/// A name in the host's folder for files of a short life, which no other process has.
-fn own_name(rt: &HostRuntime) -> Result<String, Fail> {
+// ---- steps
+
+/// A call of a shelf, on the file of a step.
+#[derive(Clone, Copy)]
+enum Call<'a> {
+    Begin,
+    Append(&'a [u8]),
+    Finish,
+}
+
+/// What is done to the file of a step, or is to be found there.
+#[derive(Clone, Copy)]
+enum Act<'a> {
+    /// The first shelf takes this call.
+    First(Call<'a>),
+    /// The second shelf takes this call.
+    Second(Call<'a>),
+    /// The first shelf refuses this call.
+    Refused(Call<'a>),
+    /// The first shelf can't load the file.
+    NotLoaded,
+    /// The host writes the file anew, with these bytes.
+    Written(&'a [u8]),
+    /// The host gives the file the name that ends so.
+    RenamedTo(&'a str),
+    /// The host removes the file.
+    Removed,
+    /// The file holds these bytes.
+    Holds(&'a [u8]),
+}
+
+use Act::{First, Holds, NotLoaded, Refused, Removed, RenamedTo, Second, Written};
+use Call::{Append, Begin, Finish};
+
+/// The front of all names of a test: in the host's folder for files of a short life, and no other process has it.
+fn own_stem(rt: &HostRuntime) -> Result<String, Fail> {
     let folder = env::temp_dir(rt)?;
     Ok(format!(in rt.alloc();
         "{}/ijtag-{}",
@@ -19,148 +53,206 @@ fn own_name(rt: &HostRuntime) -> Result<String, Fail> {
     )?)
 }
 
+/// The name of a file that ends so. One that begins with `/` stands for itself.
+fn name_of(alloc: Global, stem: &str, ending: &str) -> Result<String, AllocError> {
+    if ending.starts_with('/') {
+        return String::from_str(alloc, ending);
+    }
+    format!(in alloc; "{stem}.{ending}")
+}
+
+fn answer<S: Shelf>(shelf: &mut S, name: &str, call: Call<'_>) -> Result<(), StoreFault> {
+    match call {
+        Begin => begin(shelf, name),
+        Append(piece) => append(shelf, name, piece),
+        Finish => finish(shelf, name),
+    }
+}
+
+fn is_not_loaded<S: Shelf>(alloc: Global, shelf: &mut S, name: &str) -> bool {
+    matches!(load(alloc, shelf, name, 100), Err(LoadFault::Failed))
+}
+
 /// Whether a file holds these bytes.
 fn holds(rt: &HostRuntime, name: &str, bytes: &[u8]) -> Result<bool, Fail> {
     Ok(fs::read(rt, name)?.as_slice() == bytes)
 }
 
-/// Whether a file is empty once it is begun, has each piece after those before, and is empty once it is begun again.
-fn grows<S: Shelf>(rt: &HostRuntime, shelf: &mut S, name: &str) -> Result<[bool; 3], Fail> {
-    begin(shelf, name)?;
-    let begun = holds(rt, name, b"")?;
-    for piece in [b"ab".as_slice(), b"", b"c\n"] {
-        append(shelf, name, piece)?;
-    }
-    let grown = holds(rt, name, b"abc\n")?;
-    begin(shelf, name)?;
-    append(shelf, name, b"d")?;
-    let again = holds(rt, name, b"d")?;
-    Ok([begun, grown, again])
+fn rename(rt: &HostRuntime, stem: &str, name: &str, ending: &str) -> Result<bool, Fail> {
+    let new = name_of(rt.alloc(), stem, ending)?;
+    fs::rename(rt, name, new.as_str())?;
+    Ok(true)
 }
+
+fn put(rt: &HostRuntime, name: &str, bytes: &[u8]) -> Result<bool, Fail> {
+    fs::write(rt, name, bytes)?;
+    Ok(true)
+}
+
+fn remove(rt: &HostRuntime, name: &str) -> Result<bool, Fail> {
+    fs::remove_file(rt, name)?;
+    Ok(true)
+}
+
+/// Does what a step says. Whether it came as the step says, too.
+fn is_met<S: Shelf>(
+    rt: &HostRuntime,
+    first: &mut S,
+    second: &mut S,
+    stem: &str,
+    name: &str,
+    act: Act<'_>,
+) -> Result<bool, Fail> {
+    match act {
+        First(call) => Ok(answer(first, name, call) == Ok(())),
+        Second(call) => Ok(answer(second, name, call) == Ok(())),
+        Refused(call) => Ok(answer(first, name, call) == Err(StoreFault::Failed)),
+        NotLoaded => Ok(is_not_loaded(rt.alloc(), first, name)),
+        Written(bytes) => put(rt, name, bytes),
+        RenamedTo(ending) => rename(rt, stem, name, ending),
+        Removed => remove(rt, name),
+        Holds(bytes) => holds(rt, name, bytes),
+    }
+}
+
+/// The number of the first step that didn't come as it says. All are done, so that those that remove the files are, too.
+fn first_unmet<S: Shelf>(
+    rt: &HostRuntime,
+    first: &mut S,
+    second: &mut S,
+    steps: &[(&str, Act<'_>)],
+) -> Result<Option<usize>, Fail> {
+    let stem = own_stem(rt)?;
+    let mut unmet = None;
+    for (number, step) in steps.iter().enumerate() {
+        let name = name_of(rt.alloc(), stem.as_str(), step.0)?;
+        let met = is_met(rt, first, second, stem.as_str(), name.as_str(), step.1)?;
+        if !met && unmet.is_none() {
+            unmet = Some(number);
+        }
+    }
+    Ok(unmet)
+}
+
+/// Does steps, each on a file that is given by the ending of its name, with two shelves: the number of the first that didn't come
+/// as it says.
+fn unmet(rt: &HostRuntime, steps: &[(&str, Act<'_>)]) -> Result<Option<usize>, Fail> {
+    let mut first = HostShelf::new(rt, rt.alloc());
+    let mut second = HostShelf::new(rt, rt.alloc());
+    first_unmet(rt, &mut first, &mut second, steps)
+}
+
+// ---- tests
 
 /// A begun file is empty, whatever stood in it, and a piece is added after what stands.
 #[test]
 fn a_begun_file_is_empty_and_grows_at_its_end(rt: HostRuntime) -> Result<(), Fail> {
-    let alloc = rt.alloc();
-    let stem = own_name(&rt)?;
-    let added = format!(in alloc; "{stem}.added")?;
-    fs::write(&rt, stem.as_str(), b"a longer text that is there already")?;
-    let mut shelf = HostShelf::new(&rt, alloc);
-    let grown = grows(&rt, &mut shelf, stem.as_str())?;
-    append(&mut shelf, added.as_str(), b"new")?;
-    let new = holds(&rt, added.as_str(), b"new")?;
-    fs::remove_file(&rt, stem.as_str())?;
-    fs::remove_file(&rt, added.as_str())?;
-    assert_eq!(rt; grown, [true; 3]);
-    assert!(rt; new);
+    let steps = [
+        ("grown", Written(b"a longer text that is there already")),
+        ("grown", First(Begin)),
+        ("grown", Holds(b"")),
+        ("grown", First(Append(b"ab"))),
+        ("grown", First(Append(b""))),
+        ("grown", First(Append(b"c\n"))),
+        ("grown", Holds(b"abc\n")),
+        ("grown", First(Begin)),
+        ("grown", First(Append(b"d"))),
+        ("grown", Holds(b"d")),
+        ("added", First(Append(b"new"))),
+        ("added", Holds(b"new")),
+        ("grown", Removed),
+        ("added", Removed),
+    ];
+    assert_eq!(rt; unmet(&rt, &steps)?, None);
     Ok(())
 }
 
 /// A name that isn't there, a folder, and a name below a file.
 #[test]
 fn what_is_no_file_is_a_failed_call(rt: HostRuntime) -> Result<(), Fail> {
-    let alloc = rt.alloc();
-    let file = own_name(&rt)?;
-    let missing = format!(in alloc; "{file}.missing")?;
-    let below = format!(in alloc; "{file}.kept/below")?;
-    let kept = format!(in alloc; "{file}.kept")?;
-    fs::write(&rt, kept.as_str(), b"a")?;
-    let mut shelf = HostShelf::new(&rt, alloc);
-    for name in [missing.as_str(), "/", below.as_str()] {
-        let loaded = load(alloc, &mut shelf, name, 100);
-        assert!(rt; matches!(loaded, Err(LoadFault::Failed)));
-    }
-    for name in ["/", below.as_str()] {
-        assert_eq!(rt; begin(&mut shelf, name), Err(StoreFault::Failed));
-        assert_eq!(rt; append(&mut shelf, name, b"b"), Err(StoreFault::Failed));
-    }
-    let stays = holds(&rt, kept.as_str(), b"a")?;
-    fs::remove_file(&rt, kept.as_str())?;
-    assert!(rt; stays);
+    let steps = [
+        ("kept", Written(b"a")),
+        ("missing", NotLoaded),
+        ("/", NotLoaded),
+        ("kept/below", NotLoaded),
+        ("/", Refused(Begin)),
+        ("/", Refused(Append(b"b"))),
+        ("kept/below", Refused(Begin)),
+        ("kept/below", Refused(Append(b"b"))),
+        ("kept", Holds(b"a")),
+        ("kept", Removed),
+    ];
+    assert_eq!(rt; unmet(&rt, &steps)?, None);
     Ok(())
 }
 
 /// A file that is renamed after it was begun gets the pieces, and no other comes in its place.
 #[test]
 fn pieces_go_to_the_file_that_was_begun(rt: HostRuntime) -> Result<(), Fail> {
-    let alloc = rt.alloc();
-    let stem = own_name(&rt)?;
-    let begun = format!(in alloc; "{stem}.begun")?;
-    let moved = format!(in alloc; "{stem}.moved")?;
-    let mut shelf = HostShelf::new(&rt, alloc);
-    begin(&mut shelf, begun.as_str())?;
-    append(&mut shelf, begun.as_str(), b"a")?;
-    fs::rename(&rt, begun.as_str(), moved.as_str())?;
-    append(&mut shelf, begun.as_str(), b"b")?;
-    let whole = holds(&rt, moved.as_str(), b"ab")?;
-    let other = load(alloc, &mut shelf, begun.as_str(), 100);
-    fs::remove_file(&rt, moved.as_str())?;
-    assert!(rt; whole);
-    assert!(rt; matches!(other, Err(LoadFault::Failed)));
+    let steps = [
+        ("begun", First(Begin)),
+        ("begun", First(Append(b"a"))),
+        ("begun", RenamedTo("moved")),
+        ("begun", First(Append(b"b"))),
+        ("moved", Holds(b"ab")),
+        ("begun", NotLoaded),
+        ("moved", Removed),
+    ];
+    assert_eq!(rt; unmet(&rt, &steps)?, None);
     Ok(())
 }
 
 /// Two shelves that write the same text to one name at once leave that text, once.
 #[test]
 fn two_shelves_that_write_one_text_leave_it_once(rt: HostRuntime) -> Result<(), Fail> {
-    let alloc = rt.alloc();
-    let stem = own_name(&rt)?;
-    let name = format!(in alloc; "{stem}.shared")?;
-    let mut first = HostShelf::new(&rt, alloc);
-    let mut second = HostShelf::new(&rt, alloc);
-    begin(&mut first, name.as_str())?;
-    begin(&mut second, name.as_str())?;
-    append(&mut first, name.as_str(), b"ab")?;
-    append(&mut second, name.as_str(), b"ab")?;
-    finish(&mut first, name.as_str())?;
-    finish(&mut second, name.as_str())?;
-    let once = holds(&rt, name.as_str(), b"ab")?;
-    fs::remove_file(&rt, name.as_str())?;
-    assert!(rt; once);
+    let steps = [
+        ("shared", First(Begin)),
+        ("shared", Second(Begin)),
+        ("shared", First(Append(b"ab"))),
+        ("shared", Second(Append(b"ab"))),
+        ("shared", First(Finish)),
+        ("shared", Second(Finish)),
+        ("shared", Holds(b"ab")),
+        ("shared", Removed),
+    ];
+    assert_eq!(rt; unmet(&rt, &steps)?, None);
     Ok(())
 }
 
 /// Two shelves that write texts of different length to one name: each writes at its own places, and the later byte stands.
 #[test]
 fn two_shelves_write_at_their_own_places(rt: HostRuntime) -> Result<(), Fail> {
-    let alloc = rt.alloc();
-    let stem = own_name(&rt)?;
-    let name = format!(in alloc; "{stem}.texts")?;
-    let mut first = HostShelf::new(&rt, alloc);
-    let mut second = HostShelf::new(&rt, alloc);
-    begin(&mut first, name.as_str())?;
-    begin(&mut second, name.as_str())?;
-    append(&mut first, name.as_str(), b"abc")?;
-    append(&mut second, name.as_str(), b"xy")?;
-    append(&mut first, name.as_str(), b"d")?;
-    finish(&mut second, name.as_str())?;
-    finish(&mut first, name.as_str())?;
-    let both = holds(&rt, name.as_str(), b"xycd")?;
-    fs::remove_file(&rt, name.as_str())?;
-    assert!(rt; both);
+    let steps = [
+        ("texts", First(Begin)),
+        ("texts", Second(Begin)),
+        ("texts", First(Append(b"abc"))),
+        ("texts", Second(Append(b"xy"))),
+        ("texts", First(Append(b"d"))),
+        ("texts", Second(Finish)),
+        ("texts", First(Finish)),
+        ("texts", Holds(b"xycd")),
+        ("texts", Removed),
+    ];
+    assert_eq!(rt; unmet(&rt, &steps)?, None);
     Ok(())
 }
 
 /// A piece of another name goes to the file of that name, also where the two names have one length or one is the other's front.
 #[test]
 fn a_piece_goes_to_the_file_of_its_name(rt: HostRuntime) -> Result<(), Fail> {
-    let alloc = rt.alloc();
-    let stem = own_name(&rt)?;
-    let begun = format!(in alloc; "{stem}.one")?;
-    let mut shelf = HostShelf::new(&rt, alloc);
-    for ending in ["two", "on", "onet"] {
-        let other = format!(in alloc; "{stem}.{ending}")?;
-        begin(&mut shelf, begun.as_str())?;
-        append(&mut shelf, begun.as_str(), b"a")?;
-        append(&mut shelf, other.as_str(), b"x")?;
-        finish(&mut shelf, other.as_str())?;
-        append(&mut shelf, begun.as_str(), b"b")?;
-        let own = holds(&rt, begun.as_str(), b"ab")?;
-        let apart = holds(&rt, other.as_str(), b"x")?;
-        fs::remove_file(&rt, begun.as_str())?;
-        fs::remove_file(&rt, other.as_str())?;
-        assert!(rt; own);
-        assert!(rt; apart);
+    for other in ["two", "on", "onet"] {
+        let steps = [
+            ("one", First(Begin)),
+            ("one", First(Append(b"a"))),
+            (other, First(Append(b"x"))),
+            (other, First(Finish)),
+            ("one", First(Append(b"b"))),
+            ("one", Holds(b"ab")),
+            (other, Holds(b"x")),
+            ("one", Removed),
+            (other, Removed),
+        ];
+        assert_eq!(rt; unmet(&rt, &steps)?, None, "{other}");
     }
     Ok(())
 }
@@ -169,44 +261,39 @@ fn a_piece_goes_to_the_file_of_its_name(rt: HostRuntime) -> Result<(), Fail> {
 /// a piece makes the file anew.
 #[test]
 fn a_finished_file_gets_no_piece(rt: HostRuntime) -> Result<(), Fail> {
-    let alloc = rt.alloc();
-    let stem = own_name(&rt)?;
-    let begun = format!(in alloc; "{stem}.ended")?;
-    let other = format!(in alloc; "{stem}.other")?;
-    let mut shelf = HostShelf::new(&rt, alloc);
-    begin(&mut shelf, begun.as_str())?;
-    append(&mut shelf, begun.as_str(), b"a")?;
-    fs::remove_file(&rt, begun.as_str())?;
-    finish(&mut shelf, other.as_str())?;
-    append(&mut shelf, begun.as_str(), b"b")?;
-    let gone = load(alloc, &mut shelf, begun.as_str(), 100);
-    finish(&mut shelf, begun.as_str())?;
-    append(&mut shelf, begun.as_str(), b"c")?;
-    let anew = holds(&rt, begun.as_str(), b"c")?;
-    fs::remove_file(&rt, begun.as_str())?;
-    assert!(rt; matches!(gone, Err(LoadFault::Failed)));
-    assert!(rt; anew);
+    let steps = [
+        ("ended", First(Begin)),
+        ("ended", First(Append(b"a"))),
+        ("ended", Removed),
+        ("other", First(Finish)),
+        ("ended", First(Append(b"b"))),
+        ("ended", NotLoaded),
+        ("ended", First(Finish)),
+        ("ended", First(Append(b"c"))),
+        ("ended", Holds(b"c")),
+        ("ended", Removed),
+    ];
+    assert_eq!(rt; unmet(&rt, &steps)?, None);
     Ok(())
 }
 
 /// A file that was begun is let go of at the next `begin`, also where that is refused.
 #[test]
 fn a_file_is_let_go_of_at_the_next_begin(rt: HostRuntime) -> Result<(), Fail> {
-    let alloc = rt.alloc();
-    let stem = own_name(&rt)?;
-    let begun = format!(in alloc; "{stem}.first")?;
-    let mut shelf = HostShelf::new(&rt, alloc);
-    begin(&mut shelf, begun.as_str())?;
-    append(&mut shelf, begun.as_str(), b"a")?;
-    fs::remove_file(&rt, begun.as_str())?;
-    let refused = begin(&mut shelf, "/");
-    append(&mut shelf, begun.as_str(), b"b")?;
-    let anew = holds(&rt, begun.as_str(), b"b")?;
-    fs::remove_file(&rt, begun.as_str())?;
-    assert_eq!(rt; refused, Err(StoreFault::Failed));
-    assert!(rt; anew);
+    let steps = [
+        ("first", First(Begin)),
+        ("first", First(Append(b"a"))),
+        ("first", Removed),
+        ("/", Refused(Begin)),
+        ("first", First(Append(b"b"))),
+        ("first", Holds(b"b")),
+        ("first", Removed),
+    ];
+    assert_eq!(rt; unmet(&rt, &steps)?, None);
     Ok(())
 }
+
+// ---- a disk that loses what it took
 
 // What a file answers once it is to keep what was written: a disk that can, one that is full by then, and a pipe.
 #[derive(Clone, Copy)]
@@ -323,21 +410,27 @@ impl Files for Disk {
     }
 }
 
+/// What `finish` answers after a byte was written to `a`: of another name, of `a`, and of `a` once more.
+fn ended(alloc: Global, keeping: Keeping) -> Result<[Result<(), StoreFault>; 3], Fail> {
+    let mut shelf = HostShelf::new(Disk { keeping }, alloc);
+    begin(&mut shelf, "a")?;
+    append(&mut shelf, "a", b"b")?;
+    Ok([
+        finish(&mut shelf, "b"),
+        finish(&mut shelf, "a"),
+        finish(&mut shelf, "a"),
+    ])
+}
+
 /// A disk that refuses only once it is to keep what it took is a fault of the file, at its end. A pipe has nothing to keep.
 #[test]
 fn a_late_fault_is_met_at_the_end(rt: HostRuntime) -> Result<(), Fail> {
-    let alloc = rt.alloc();
-    for (keeping, ended) in [
+    for (keeping, wanted) in [
         (Keeping::Kept, Ok(())),
         (Keeping::Lost, Err(StoreFault::Failed)),
         (Keeping::Pipe, Ok(())),
     ] {
-        let mut shelf = HostShelf::new(Disk { keeping }, alloc);
-        begin(&mut shelf, "a")?;
-        append(&mut shelf, "a", b"b")?;
-        assert_eq!(rt; finish(&mut shelf, "b"), Ok(()));
-        assert_eq!(rt; finish(&mut shelf, "a"), ended);
-        assert_eq!(rt; finish(&mut shelf, "a"), Ok(()));
+        assert_eq!(rt; ended(rt.alloc(), keeping)?, [Ok(()), wanted, Ok(())]);
     }
     Ok(())
 }
