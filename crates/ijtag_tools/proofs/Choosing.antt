@@ -2,7 +2,7 @@
 use Rattle.std.proofs.Common.{◌≡◌, ◌≤◌, ap, ℕ, arith}
 use Rattle.ijtag_work.specs.Accepted.{SeenAccepted}
 use Rattle.ijtag_tools.specs.Planned.{IsCompiled, IsSound, IsTightened}
-use Rattle.ijtag_tools.specs.Tight.{Cost}
+use Rattle.ijtag_tools.specs.Tight.{Cost, least_of}
 use Rattle.ijtag_tools.specs.declared.planned.Planned.{Planned}
 
 as_many : (n : ℕ) → n ≤ n
@@ -12,8 +12,8 @@ no_more : (a b x y : ℕ) → a ≡ x → b ≡ y → a ≤ b → x ≤ y
 no_more a b x y p q less = omega (arith, p, q, less)
 
 -- that text itself
-pub own : (it : SeenAccepted) (p : Planned) → IsCompiled it p → IsTightened it (record { svf = p.svf; cost = p.cost; before = p.cost })
-own it p is =
+pub own : (it : SeenAccepted) (p : Planned) (least : ℕ) → least ≡ least_of it → IsCompiled it p → IsTightened it (record { svf = p.svf; cost = p.cost; before = p.cost; least = least })
+own it p least bound is =
     record {
       tight = record {
         commands = is.sound.commands;
@@ -28,12 +28,13 @@ own it p is =
       };
       takes = is.sound.takes;
       took = is.sound.takes;
+      least = bound;
     }
 
 -- or another one
-pub other : (it : SeenAccepted) (p q : Planned) → IsCompiled it p → IsSound it q → q.cost.scans ≤ p.cost.scans → q.cost.clocks ≤ p.cost.clocks
-    → IsTightened it (record { svf = q.svf; cost = q.cost; before = p.cost })
-other it p q is sound scans clocks =
+pub other : (it : SeenAccepted) (p q : Planned) (least : ℕ) → least ≡ least_of it → IsCompiled it p → IsSound it q → q.cost.scans ≤ p.cost.scans → q.cost.clocks ≤ p.cost.clocks
+    → IsTightened it (record { svf = q.svf; cost = q.cost; before = p.cost; least = least })
+other it p q least bound is sound scans clocks =
     record {
       tight = record {
         commands = sound.commands;
@@ -48,4 +49,5 @@ other it p q is sound scans clocks =
       };
       takes = sound.takes;
       took = is.sound.takes;
+      least = bound;
     }

@@ -20,14 +20,20 @@ use Rattle.ijtag_tools.specs.declared.planned.Tightened.{Tightened}
 
 module _ (name : List ℕ) (it : SeenAccepted) (t : Tightened) (is : Found it t) where
   abbrev pub text : List ℕ
-  text = cost_line (seen_cost t.cost) (seen_cost t.before)
+  text = cost_line (seen_cost t.cost) (seen_cost t.before) t.least
 
   abbrev pub left : Leaves
-  left = left_of name t.svf (seen_cost t.cost) (seen_cost t.before)
+  left = left_of name t.svf (seen_cost t.cost) (seen_cost t.before) t.least
 
   pub given : (tightened name it).gives left
   unfolding tightened
-  given = (t.svf, is.tight, ap (λ (c : Cost). left_of name t.svf c (seen_cost t.before)) is.takes ∙ ap (λ (c : Cost). left_of name t.svf (cost_of is.tight.commands) c) is.took)
+  given = (
+    t.svf,
+    is.tight,
+    ap (λ (c : Cost). left_of name t.svf c (seen_cost t.before) t.least) is.takes
+    ∙ ap (λ (c : Cost). left_of name t.svf (cost_of is.tight.commands) c t.least) is.took
+    ∙ ap (left_of name t.svf (cost_of is.tight.commands) (cost_of is.tight.before)) is.least,
+  )
 
   pub can : (leaves : Leaves) × (tightened name it).gives leaves
   can = (left, given)

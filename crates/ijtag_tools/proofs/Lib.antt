@@ -1,3 +1,4 @@
 mod Choosing
 mod Leaving
 mod Settling
+mod Promising

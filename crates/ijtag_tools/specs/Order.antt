@@ -23,7 +23,7 @@ use Rattle.svf_notes.specs.declared.place.BitAnswer.TheVariants.{Same, Differs, 
 use Rattle.ijtag_tools.specs.Command.{Command, Explain, Explains, Listing, Lists, Lookup, LooksUp, Picture, Pictures, Tighten, Tightens}
 use Rattle.ijtag_tools.specs.declared.words.PictureFormat.{PictureFormat}
 use Rattle.ijtag_tools.specs.declared.words.PictureFormat.TheVariants.{Svg, Dot}
-use Rattle.ijtag_tools.specs.Tight.{Cost, IsTight, cost_of}
+use Rattle.ijtag_tools.specs.Tight.{Cost, IsTight, cost_of, least_of}
 
 -- ---- list: the registers, multiplexers and instruments of the network are printed
 
@@ -112,19 +112,20 @@ picture p = record {
   leaves = λ it. give (filed p.new (drawing_of p.format it));
 }
 
--- ---- tighten: the SVF file has a text that is planned as a whole, and it is printed what it takes
+-- ---- tighten: the SVF file has a text that is planned as a whole, and it is printed what it takes, and what any takes at least
 
-unfoldable pub cost_line : Cost → Cost → List ℕ
-cost_line now before =
+unfoldable pub cost_line : Cost → Cost → ℕ → List ℕ
+cost_line now before least =
     codes "scans " ++ (decimal now.scans ++ (codes " clocks " ++ (decimal now.clocks
-    ++ (codes " were scans " ++ (decimal before.scans ++ (codes " clocks " ++ (decimal before.clocks ++ codes "\n")))))))
+    ++ (codes " were scans " ++ (decimal before.scans ++ (codes " clocks " ++ (decimal before.clocks
+    ++ (codes " least " ++ (decimal least ++ codes "\n")))))))))
 
-abbrev pub left_of : List ℕ → List ℕ → Cost → Cost → Leaves
-left_of name bytes now before = ran name bytes (cost_line now before) false
+abbrev pub left_of : List ℕ → List ℕ → Cost → Cost → ℕ → Leaves
+left_of name bytes now before least = ran name bytes (cost_line now before least) false
 
 unfoldable pub tightened : List ℕ → SeenAccepted → Part Leaves
 tightened name it = record {
-  gives = λ leaves. (bytes : List ℕ) × (tight : IsTight it bytes) × (leaves ≡ left_of name bytes (cost_of tight.commands) (cost_of tight.before));
+  gives = λ leaves. (bytes : List ℕ) × (tight : IsTight it bytes) × (leaves ≡ left_of name bytes (cost_of tight.commands) (cost_of tight.before) (least_of it));
   refuses = λ r. ⊥;
 }
 

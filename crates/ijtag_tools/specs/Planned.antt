@@ -5,7 +5,7 @@ use Rattle.svf_writer.specs.SeenCommands.{SeenCommand}
 use Rattle.ijtag_work.specs.Accepted.{SeenAccepted}
 use Rattle.ijtag_work.specs.Audited.{DoAsMeant}
 use Rattle.ijtag_work.specs.Order.{written_text}
-use Rattle.ijtag_tools.specs.Tight.{Cost, IsTight, cost_of}
+use Rattle.ijtag_tools.specs.Tight.{Cost, IsTight, cost_of, least_of}
 use Rattle.ijtag_tools.specs.declared.cost.Cost.{Cost as RustCost}
 use Rattle.ijtag_tools.specs.declared.planned.Planned.{Planned}
 use Rattle.ijtag_tools.specs.declared.planned.Tightened.{Tightened}
@@ -25,8 +25,9 @@ pub record IsCompiled (it : SeenAccepted) (p : Planned) : Type 0 where
   pub sound : IsSound it p
   pub written : (written_text it).gives p.svf
 
--- a text that takes no more than the one that a compile writes, and what both take
+-- a text that takes no more than the one that a compile writes, what both take, and what any takes at least
 pub record IsTightened (it : SeenAccepted) (t : Tightened) : Type 0 where
   pub tight : IsTight it t.svf
   pub takes : seen_cost t.cost ≡ cost_of tight.commands
   pub took : seen_cost t.before ≡ cost_of tight.before
+  pub least : t.least ≡ least_of it

@@ -3,6 +3,7 @@ ghost use Rattle.std.specs.Prelude.{◌≡◌};
 ghost use Rattle.ijtag_work.specs.Runs.{AreSettled};
 ghost use Rattle.ijtag_tools.specs.Command.{Command as NamedCommand, usage_line};
 ghost use Rattle.ijtag_tools.specs.Order.{task as task_named};
+ghost use Rattle.ijtag_tools.specs.Promises.{IsPromised};
 ghost use Rattle.ijtag_tools.specs.Words.{seen_command};
 
 use crate::words::ToolWords;
@@ -18,7 +19,7 @@ impl<'w> Command for ToolWords<'w> {
 
     ghost task = { task_named };
 
-    ghost promise = { λ _ _ _ _. Unit {0} };
+    ghost promise = { IsPromised };
 
     ghost usage_line = { usage_line };
 

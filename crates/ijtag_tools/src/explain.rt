@@ -1,12 +1,14 @@
 // The command `explain`.
-ghost use Rattle.std.specs.Prelude.{◌≡◌, ◌≤◌, false, true, length, Some, OnOk, OnErr};
+ghost use Rattle.std.specs.Prelude.{◌≡◌, ◌≤◌, false, true, length, Some, Ok, OnOk, OnErr};
 ghost use Rattle.std.specs.Option.{option_map};
 ghost use Rattle.ij_io.specs.Causes.{HasCauseAt, SameCounts};
 ghost use Rattle.ij_io.specs.Files.{OthersStay, file_at};
 ghost use Rattle.ij_io.specs.Pieces.{HoldsPart};
 ghost use Rattle.ijtag_stages.specs.Follows.{Follows};
 ghost use Rattle.ijtag_work.specs.Using.{IsUsable, seen_accepted, there};
+ghost use Rattle.svf_reader.specs.Meaning.{svf};
 ghost use Rattle.ijtag_tools.specs.Order.{explain, explained_of, is_readable};
+ghost use Rattle.ijtag_tools.specs.Promises.{HoldsSameCommands};
 ghost use Rattle.ijtag_tools.specs.Words.{seen_explain};
 
 use crate::words::ExplainWords;
@@ -15,7 +17,7 @@ use ijtag_core::{Effect, SVF_LIMIT};
 use ijtag_stages::{Stage, StageFault, refused};
 use ijtag_work::{Accepted, Stop, Texts, Verdict};
 use std::alloc::Global;
-use svf_notes::{explained_len, put_explained_file};
+use svf_notes::{explained_commands_stay, explained_len, put_explained_file};
 
 /// Refuses a text with notes that is too long to be read again.
 #[tactic(auto, unfolding(crate::specs::Order::is_readable, crate::specs::Order::explained_of))]
@@ -72,13 +74,25 @@ fn write_notes<S: Shelf>(
     )
 }
 
+/// A reader of SVF finds the same commands in the text with its notes.
+#[tactic(auto, unfolding(crate::specs::Order::explained_of))]
+fn notes_change_no_command(it: &Accepted)
+    requires usable { IsUsable it.now }
+    requires text { there it.now.svf ≡ true }
+    ensures read { svf (seen_accepted it.now).svf ≡ Ok (seen_accepted it.now).commands }
+    ensures again { svf (explained_of (seen_accepted it.now)) ≡ Ok (seen_accepted it.now).commands }
+{
+    explained_commands_stay();
+    let _text = it.svf_text();
+}
+
 /// Writes the SVF text once more, with notes on its scans, and prints nothing.
 impl<'w> Effect for ExplainWords<'w> {
     ghost table_row = { λ words. explain (seen_explain words) };
 
     ghost needs = { λ _. record { tables = true; svf = true; pdl = false } };
 
-    ghost promise = { λ _ _ _ _ _. Unit {0} };
+    ghost promise = { λ words files file it _. HoldsSameCommands files (file (seen_explain words).new) it };
 
     fn texts<'t>(&'t self, loaded: &'t [Vec<u8>]) -> Texts<'t> {
         let [svf, icl, device, tables] = loaded else {
@@ -107,6 +121,7 @@ impl<'w> Effect for ExplainWords<'w> {
         _out: &mut O,
     ) -> Result<Verdict, Stop<'a>> {
         check_length(alloc, it)?;
+        notes_change_no_command(it);
         match write_notes(alloc, it, self.new_svf, shelf) {
             Ok(()) => Ok(Verdict::Agrees),
             Err(fault) => Err(Stop::of_file(fault, self.new_svf)),

@@ -7,6 +7,7 @@ ghost use Rattle.tap_machine.specs.declared.Stable.TheVariants.{Reset as InReset
 ghost use Rattle.tap_machine.specs.Play.{pins, scans_in};
 ghost use Rattle.ijtag_work.specs.Using.{IsUsable, seen_accepted, there};
 ghost use Rattle.ijtag_tools.specs.Planned.{IsCompiled, IsSound, IsTightened};
+ghost use Rattle.ijtag_tools.specs.Tight.{NoneTakesFewer, least_of};
 
 use crate::cost::{Cost, cost_of};
 use ij_bits::OutOfMemory;
@@ -14,6 +15,7 @@ use ij_io::SureSink;
 use ijtag_core::{SVF_LIMIT, a_yes_does_as_meant, make_svf, read_commands};
 use ijtag_stages::{StageFault, read_svf};
 use ijtag_work::{Accepted, own_texts_pass, steps_again};
+use least_clocks::{least, least_law};
 use merge_order::{bit_steps_are_few, bit_steps_are_of_the_network};
 use std::alloc::Global;
 use svf_audit::put_audit;
@@ -29,7 +31,7 @@ pub struct Planned {
     pub cost: Cost,
 }
 
-/// The text that is written, what its commands take, and what those of a compile take.
+/// The text that is written, what its commands take, what those of a compile take, and what any take at least.
 #[derive(Drop)]
 pub struct Tightened {
     /// The text.
@@ -38,6 +40,8 @@ pub struct Tightened {
     pub cost: Cost,
     /// What those of the text that a compile writes take.
     pub before: Cost,
+    /// The clocks that any commands take at least of which the audit says yes.
+    pub least: u64,
 }
 
 /// Whether the audit says yes of commands for the accepted procedure.
@@ -137,12 +141,45 @@ fn plan_whole(alloc: Global, it: &Accepted, how: How) -> Result<Option<Planned>,
     }
 }
 
+/// No commands of which the audit says yes for the accepted procedure take fewer clocks than its bound.
+pub fn none_takes_fewer(it: &Accepted)
+    requires usable { IsUsable it.now }
+    requires procedure { there it.now.procedure ≡ true }
+    ensures { NoneTakesFewer (seen_accepted it.now) }
+{
+    bit_steps_are_of_the_network();
+    least_law();
+    let _procedure = it.procedure();
+}
+
+/// The clocks that any commands take at least of which the audit says yes.
+fn least_of(alloc: Global, it: &Accepted) -> Result<u64, OutOfMemory>
+    requires usable { IsUsable it.now }
+    requires procedure { there it.now.procedure ≡ true }
+    ensures { IfOk result (λ clocks. clocks ≡ least_of (seen_accepted it.now)) }
+{
+    bit_steps_are_of_the_network();
+    bit_steps_are_few();
+    let network = &it.network;
+    let mut steps = steps_again(alloc, network, it.procedure())?;
+    let told = least(
+        alloc,
+        &network.net,
+        &network.form,
+        &it.device,
+        &mut steps,
+    );
+    drop(steps);
+    told
+}
+
 /// The text that is written: the one that is planned as a whole, where it takes no more than the one that a compile writes.
 pub fn tightest(alloc: Global, it: &Accepted, how: How) -> Result<Tightened, OutOfMemory>
     requires usable { IsUsable it.now }
     requires procedure { there it.now.procedure ≡ true }
     ensures { IfOk result (IsTightened (seen_accepted it.now)) }
 {
+    let least = least_of(alloc, it)?;
     let compiled = compiled(alloc, it)?;
     let before = compiled.cost;
     if let Some(planned) = plan_whole(alloc, it, how)? {
@@ -152,6 +189,7 @@ pub fn tightest(alloc: Global, it: &Accepted, how: How) -> Result<Tightened, Out
                 svf: planned.svf,
                 cost,
                 before,
+                least,
             });
         }
     }
@@ -159,5 +197,6 @@ pub fn tightest(alloc: Global, it: &Accepted, how: How) -> Result<Tightened, Out
         svf: compiled.svf,
         cost: before,
         before,
+        least,
     })
 }

@@ -4,21 +4,27 @@ ghost use Rattle.ij_io.specs.Bytes.{Adds, AddsPart};
 ghost use Rattle.ij_io.specs.Causes.{HasCause};
 ghost use Rattle.ijtag_tools.specs.Order.{cost_line, tighten};
 ghost use Rattle.ijtag_tools.specs.Planned.{seen_cost};
+ghost use Rattle.ijtag_tools.specs.Tight.{NoneTakesFewer};
 ghost use Rattle.ijtag_tools.specs.Words.{seen_tighten};
 
 use crate::cost::Cost;
-use crate::planned::tightest;
+use crate::planned::{none_takes_fewer, tightest};
 use crate::words::TightenWords;
 use ij_io::{Shelf, Sink, StoreFault, Word, put_words};
 use ijtag_core::Effect;
 use ijtag_work::{Accepted, Stop, Texts, Verdict, write_file};
 use std::alloc::Global;
 
-/// Prints what commands take, and what those of a compile take.
+/// Prints what commands take, what those of a compile take, and the clocks that any take at least.
 #[tactic(auto, unfolding(ij_io::specs::Words::words_text, crate::specs::Order::cost_line))]
-fn put_costs<O: Sink>(now: Cost, before: Cost, out: &mut O) -> Result<(), StoreFault>
-    ensures printed { OnOk result (Adds (O.taken out.old) (O.taken out.new) (cost_line (seen_cost now) (seen_cost before))) }
-    ensures part { OnErr result (AddsPart (O.taken out.old) (O.taken out.new) (cost_line (seen_cost now) (seen_cost before))) }
+fn put_costs<O: Sink>(
+    now: Cost,
+    before: Cost,
+    least: u64,
+    out: &mut O,
+) -> Result<(), StoreFault>
+    ensures printed { OnOk result (Adds (O.taken out.old) (O.taken out.new) (cost_line (seen_cost now) (seen_cost before) least)) }
+    ensures part { OnErr result (AddsPart (O.taken out.old) (O.taken out.new) (cost_line (seen_cost now) (seen_cost before) least)) }
     ensures cause { HasCause (O.faults out.old) (O.faults out.new) result StoreFault.Failed }
 {
     put_words(
@@ -32,6 +38,8 @@ fn put_costs<O: Sink>(now: Cost, before: Cost, out: &mut O) -> Result<(), StoreF
             Word::Number(before.scans),
             Word::Text(b" clocks "),
             Word::Number(before.clocks),
+            Word::Text(b" least "),
+            Word::Number(least),
             Word::Text(b"\n"),
         ],
     )
@@ -43,7 +51,7 @@ impl<'w> Effect for TightenWords<'w> {
 
     ghost needs = { λ _. record { tables = false; svf = false; pdl = true } };
 
-    ghost promise = { λ _ _ _ _ _. Unit {0} };
+    ghost promise = { λ _ _ _ it _. NoneTakesFewer it };
 
     fn texts<'t>(&'t self, loaded: &'t [Vec<u8>]) -> Texts<'t> {
         let [icl, pdl, device] = loaded else {
@@ -71,12 +79,13 @@ impl<'w> Effect for TightenWords<'w> {
         shelf: &mut S,
         out: &mut O,
     ) -> Result<Verdict, Stop<'a>> {
+        none_takes_fewer(it);
         let found = tightest(alloc, it, self.how)?;
         match write_file(self.svf, found.svf.bytes(), shelf) {
             Ok(()) => {}
             Err(fault) => return Err(Stop::of_file(fault, self.svf)),
         }
-        match put_costs(found.cost, found.before, out) {
+        match put_costs(found.cost, found.before, found.least, out) {
             Ok(()) => Ok(Verdict::Agrees),
             Err(fault) => Err(Stop::of_output(fault)),
         }

@@ -6,7 +6,7 @@ ghost use Rattle.ij_io.specs.Files.{file_at};
 ghost use Rattle.ijtag_stages.specs.Refusals.{Refusal};
 ghost use Rattle.ijtag_tools.specs.Command.{command_in, usage_line};
 ghost use Rattle.ijtag_tools.specs.Order.{task};
-ghost use Rattle.ijtag_tools.specs.Promises.{IfTightens, IsTightened};
+ghost use Rattle.ijtag_tools.specs.Promises.{IfExplains, IfTightens, IsBounded, IsExplained, IsTightened};
 ghost use Rattle.ijtag_work.specs.Leaves.{Leaves};
 ghost use Rattle.ijtag_work.specs.Runs.{AreKept, IsDone, IsPartDone, IsReadFault, IsRunStop, IsStop, IfTold, LoadRose, FirstRose, WriteRose, OnlyTheseChange, OnlyTheseRise, Tells, IsOrMemory, IsEarlyStatus, IsPartStatus, IsWriteStop, status_if, counts, seen, loads_in, writes_in, prints_in};
 ghost use Rattle.ijtag_work.specs.Stops.{Stop, Usage, Refuses, ReadFault, stop_text};
@@ -22,10 +22,16 @@ use std::alloc::Global;
 ///
 /// - `list FORMAT ICL DEVICE TOP` loads the two files in this order, accepts what they hold, and prints the registers, multiplexers and
 ///   instruments of the network on `out`, in the format `text` or `json`.
+/// - `explain SVF ICL DEVICE TABLES TOP NEW` loads the four files in this order, accepts what they hold, plays the commands, and writes
+///   the SVF text to NEW once more, with a note after each scan. A text that couldn't be read again is refused.
+/// - `where SVF ICL DEVICE TABLES TOP SCAN BIT` loads and accepts the same, plays the commands, and prints what stands at a position of
+///   a scan on `out`; it ends as `Differs` where its compare differs.
+/// - `picture FORMAT ICL DEVICE TOP NEW` loads the two files in this order, accepts what they hold, and writes a drawing of the network
+///   to NEW, in the format `svg` or `dot`, in which the active path at power-up is marked.
 /// - `tighten HOW ICL PDL DEVICE TOP PROC NEW` loads the three files in this order, accepts what they hold, plans the whole procedure
 ///   for the fewest clocks, in the way `full`, `lean` or `late`, and hands the text to the audit. Only where this says yes, and the text
 ///   takes no more scans and clocks than the one that a compile writes, is it written to NEW; else that one is. It prints what it takes
-///   on `out`.
+///   on `out`, and how many clocks any text takes at least to which the audit says yes.
 ///
 /// A run that ends otherwise than as `Good` prints one line on `err`, or a first part of it where `err` fails, which changes no status.
 /// Memory is taken from `alloc`; want of it anywhere ends the run as `OutOfMemory`.
@@ -40,6 +46,14 @@ pub fn ijtag_tools<S: Shelf, O: Sink, E: Sink>(
     // no more scans and clocks than the text of a compile.
     ensures tightened { result ≡ Status.Good → IfSome (command_in words.now.items) (λ command.
         IfTightens command (λ t. IsTightened (S.files shelf.old) t (file_at (S.files shelf.new) t.svf))) }
+
+    // No SVF to which the audit says yes for the procedure takes fewer clocks than a tighten prints.
+    ensures bounded { result ≡ Status.Good → IfSome (command_in words.now.items) (λ command.
+        IfTightens command (λ t. IsBounded (S.files shelf.old) t)) }
+
+    // In what an explain leaves in its file a reader of SVF finds the very commands that it finds in the text that is explained.
+    ensures explained { result ≡ Status.Good → IfSome (command_in words.now.items) (λ command.
+        IfExplains command (λ e. IsExplained (S.files shelf.old) e (file_at (S.files shelf.new) e.new))) }
 
     // Where all of the command's work is done, and all that was printed is handed on; and what is accepted is done where no fault is
     // counted.

@@ -11,8 +11,8 @@ pub returns-then-cost-before-2 : goal.returns-then-cost-before-2
 returns-then-cost-before-2 c =
     let it : SeenAccepted = seen_accepted c.args.it.now in
     let sound : IsSound it c.in-Some.planned = subst (λ (found : Option Planned). IfSome found (IsSound it)) c.in-Some.is c.in_ok-planned.ensures in
-    other it c.in_ok-compiled.compiled c.in-Some.planned c.in_ok-compiled.ensures sound c.if-cost-before.true c.if-cost-before-2.true
+    other it c.in_ok-compiled.compiled c.in-Some.planned c.in_ok-least.least c.in_ok-least.ensures c.in_ok-compiled.ensures sound c.if-cost-before.true c.if-cost-before-2.true
 
 pub returns : goal.returns
 returns c =
-    own (seen_accepted c.args.it.now) c.in_ok-compiled.compiled c.in_ok-compiled.ensures
+    own (seen_accepted c.args.it.now) c.in_ok-compiled.compiled c.in_ok-least.least c.in_ok-least.ensures c.in_ok-compiled.ensures
