@@ -1,7 +1,5 @@
 // The command `where`.
-ghost use Rattle.std.specs.Prelude.{◌≡◌, false, true, OnOk, OnErr};
-ghost use Rattle.ij_io.specs.Bytes.{Adds, AddsPart};
-ghost use Rattle.ij_io.specs.Causes.{HasCause};
+ghost use Rattle.std.specs.Prelude.{◌≡◌, false, true, IfOk};
 ghost use Rattle.ijtag_stages.specs.Follows.{Follows};
 ghost use Rattle.ijtag_work.specs.Using.{IsUsable, seen_accepted, there};
 ghost use Rattle.ijtag_work.specs.Seen.{differing};
@@ -9,50 +7,40 @@ ghost use Rattle.ijtag_tools.specs.Order.{answer_at, look_up, place_line};
 ghost use Rattle.ijtag_tools.specs.Words.{seen_where};
 
 use crate::words::WhereWords;
-use ij_io::{Shelf, Sink, StoreFault};
+use ij_io::{Shelf, Sink, SureSink};
 use ijtag_core::Effect;
 use ijtag_stages::{Stage, StageFault, refused_number};
 use ijtag_work::{Accepted, Stop, Texts, Verdict};
 use std::alloc::Global;
-use svf_notes::{BitAnswer, find_bit, put_bit};
+use svf_notes::{BitAnswer, find_bit};
 
-/// Whether the compare at a position of a scan differs; refused where there is no such scan or position.
-#[tactic(auto, unfolding(crate::specs::Order::answer_at))]
-fn look(alloc: Global, it: &Accepted, scan: u64, bit: u64) -> Result<Verdict, StageFault>
-    requires usable { IsUsable it.now }
-    requires models { there it.now.models ≡ true }
-    requires commands { there it.now.commands ≡ true }
-    ensures { Follows (answer_at scan bit (seen_accepted it.now)) differing result }
-{
-    let net = &it.network.net;
-    let models = it.models().models();
-    match find_bit(alloc, net, &it.device, models, it.commands(), scan, bit)? {
-        BitAnswer::Same => Ok(Verdict::Agrees),
-        BitAnswer::Differs => Ok(Verdict::Differs),
-        BitAnswer::NoScan => Err(refused_number(alloc, Stage::Where, b"NoScan", scan)),
-        BitAnswer::NoBit => Err(refused_number(alloc, Stage::Where, b"NoBit", bit)),
-    }
+/// What stands at a position of a scan: whether its compare differs, and the line that says so.
+#[derive(Drop)]
+struct Place {
+    verdict: Verdict,
+    line: SureSink,
 }
 
-/// Prints what stands at a position of a scan.
-#[tactic(auto, unfolding(crate::specs::Order::place_line))]
-fn put_line<O: Sink>(
-    alloc: Global,
-    it: &Accepted,
-    scan: u64,
-    bit: u64,
-    out: &mut O,
-) -> Result<(), StoreFault>
+/// What stands at a position of a scan; refused where there is no such scan or position.
+#[tactic(auto, unfolding(crate::specs::Order::answer_at, crate::specs::Order::place_line))]
+fn look(alloc: Global, it: &Accepted, scan: u64, bit: u64) -> Result<Place, StageFault>
     requires usable { IsUsable it.now }
     requires models { there it.now.models ≡ true }
     requires commands { there it.now.commands ≡ true }
-    ensures printed { OnOk result (Adds (O.taken out.old) (O.taken out.new) (place_line scan bit (seen_accepted it.now))) }
-    ensures part { OnErr result (AddsPart (O.taken out.old) (O.taken out.new) (place_line scan bit (seen_accepted it.now))) }
-    ensures cause { HasCause (O.faults out.old) (O.faults out.new) result StoreFault.Failed }
+    ensures answer { Follows (answer_at scan bit (seen_accepted it.now)) (λ place. differing place.verdict) result }
+    ensures line { IfOk result (λ place. place.line ≡ place_line scan bit (seen_accepted it.now)) }
 {
     let net = &it.network.net;
     let models = it.models().models();
-    put_bit(alloc, net, &it.device, models, it.commands(), scan, bit, out)
+    let found = find_bit(alloc, net, &it.device, models, it.commands(), scan, bit)?;
+    let verdict = match found.answer {
+        BitAnswer::Same => Verdict::Agrees,
+        BitAnswer::Differs => Verdict::Differs,
+        BitAnswer::NoScan => return Err(refused_number(alloc, Stage::Where, b"NoScan", scan)),
+        BitAnswer::NoBit => return Err(refused_number(alloc, Stage::Where, b"NoBit", bit)),
+    };
+    let line = found.line;
+    Ok(Place { verdict, line })
 }
 
 /// Prints what stands at one position of one scan, and ends as a play does where its compare differs. No file changes.
@@ -89,9 +77,9 @@ impl<'w> Effect for WhereWords<'w> {
         _shelf: &mut S,
         out: &mut O,
     ) -> Result<Verdict, Stop<'a>> {
-        let verdict = look(alloc, it, self.scan, self.bit)?;
-        match put_line(alloc, it, self.scan, self.bit, out) {
-            Ok(()) => Ok(verdict),
+        let place = look(alloc, it, self.scan, self.bit)?;
+        match out.write(place.line.bytes()) {
+            Ok(()) => Ok(place.verdict),
             Err(fault) => Err(Stop::of_output(fault)),
         }
     }
