@@ -227,7 +227,7 @@ def main():
             PAGE.write_text(before + BEGIN + made + END + after)
         elif drawn != made:
             wrong.append(f'the picture of {PAGE} is not that of crates.txt: run .ci/rings.py --write')
-        wrong.extend(f'{len(line)} columns: {line}' for line in made.splitlines() if len(line) > 100)
+        wrong.extend(f'{len(line)} columns: {line}' for line in made.splitlines() if len(line) > 110)
         claims = look_at_page(PAGE.read_text(), rings, stands_on)
     for line in wrong:
         print(f'rings: {line}')
