@@ -7,7 +7,7 @@ ghost use Rattle.net_graph.specs.declared.net.Net.{Net as ANet};
 ghost use Rattle.net_tree.specs.Form.{Items};
 ghost use Rattle.net_graph.specs.SeenSteps.{seen_group, seen_step};
 ghost use Rattle.net_graph.specs.Steps.{IsGroup, IsStep};
-ghost use Rattle.pdl_targets.specs.Laws.{round_count};
+ghost use Rattle.pdl_targets.specs.Laws.{rounds_of};
 ghost use Rattle.svf_audit.specs.Work.{Group as GroupWork, Cycle, Reset as ResetWork, work_of};
 ghost use Rattle.least_clocks.specs.Counting.{Counts, state_of};
 ghost use Rattle.least_clocks.specs.Least.{start, clocks_to_idle, clocks_to_link};
@@ -173,9 +173,9 @@ impl Count {
         requires net { IsNet net.now }
         requires step { IsStep net.now (seen_step step.now) }
         requires holds { AreHolds net.now self.old.holds }
-        requires room { self.old.clocks + 2 ^ 45 * round_count (seen_step step.now) + 2 ^ 33 < 2 ^ 63 }
+        requires room { self.old.clocks + 2 ^ 45 * length (rounds_of (Some (seen_step step.now))) + 2 ^ 33 < 2 ^ 63 }
         ensures counts { OnOk result (Counts net.now tree.now device.now (work_of (seen_step step.now)) self.old self.new) }
-        ensures few { OnOk result (self.new.clocks ≤ self.old.clocks + 2 ^ 45 * round_count (seen_step step.now) + 2 ^ 33) }
+        ensures few { OnOk result (self.new.clocks ≤ self.old.clocks + 2 ^ 45 * length (rounds_of (Some (seen_step step.now))) + 2 ^ 33) }
         ensures holds { OnOk result (AreHolds net.now self.new.holds) }
     {
         match step {
