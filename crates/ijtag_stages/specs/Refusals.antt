@@ -6,7 +6,7 @@ use Rattle.ij_io.specs.Bytes.{concat}
 use Rattle.ij_text.specs.declared.Place.{Place}
 use Rattle.ijtag_stages.specs.Work.{Work}
 use Rattle.ijtag_stages.specs.declared.refusal.Stage.{Stage}
-use Rattle.ijtag_stages.specs.declared.refusal.Stage.TheVariants.{File, Icl, Device, Tables, Svf, Elab, Connect, Nest, Fit, Pdl, Make, Muxtest}
+use Rattle.ijtag_stages.specs.declared.refusal.Stage.TheVariants.{File, Icl, Device, Tables, Svf, Elab, Connect, Nest, Fit, Pdl, Make, Muxtest, Explain, Where, Picture}
 
 -- what stands behind the cause: a place, a number, a text as it stands, or a bit by its register and index
 pub data Arg : Type 0 where
@@ -58,6 +58,9 @@ stage_name Fit = codes "fit"
 stage_name Pdl = codes "pdl"
 stage_name Make = codes "make"
 stage_name Muxtest = codes "muxtest"
+stage_name Explain = codes "explain"
+stage_name Where = codes "where"
+stage_name Picture = codes "picture"
 
 unfoldable pub arg_text : Arg → List ℕ
 arg_text (At place) = concat (codes " " ∷ decimal place.line ∷ codes ":" ∷ decimal place.col ∷ [])

@@ -40,6 +40,12 @@ pub enum Stage {
     Make,
     /// The test of the network's multiplexers is planned.
     Muxtest,
+    /// An SVF text is written once more, with notes.
+    Explain,
+    /// One bit of a scan is looked up.
+    Where,
+    /// The network is drawn.
+    Picture,
 }
 
 impl Stage {
@@ -61,6 +67,9 @@ impl Stage {
             Stage::Pdl => b"pdl",
             Stage::Make => b"make",
             Stage::Muxtest => b"muxtest",
+            Stage::Explain => b"explain",
+            Stage::Where => b"where",
+            Stage::Picture => b"picture",
         }
     }
 }
@@ -125,8 +134,8 @@ fn two(alloc: Global, first: Arg, second: Arg) -> Result<List<Arg>, OutOfMemory>
     Ok(args)
 }
 
-/// A refusal with nothing behind its cause. Takes no memory.
-pub(crate) fn refused(alloc: Global, stage: Stage, kind: &'static [u8]) -> StageFault
+/// A refusal with nothing after its cause. Takes no memory.
+pub fn refused(alloc: Global, stage: Stage, kind: &'static [u8]) -> StageFault
     ensures { IsToldAs (Some (refused stage kind.now)) result }
 {
     let args = List::new(alloc);

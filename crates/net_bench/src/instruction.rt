@@ -9,7 +9,7 @@ use net_graph::Device;
 
 /// The data register that an instruction selects (IEEE 1149.1-2013, clauses 9 to 12).
 #[derive(Clone, Copy)]
-pub(crate) enum DataRegister {
+pub enum DataRegister {
     /// The network, by the access link's instruction.
     Network,
     /// The identity register.
@@ -19,8 +19,8 @@ pub(crate) enum DataRegister {
 }
 
 /// What an instruction selects: the link's opcode the network, the identity opcode the identity register, every
-/// other one bypass.
-pub(crate) fn selected_by(device: &Device, ir: &Bits) -> DataRegister
+/// other one bypass (IEEE 1149.1-2013, clauses 8 to 12). Position 0 of the instruction is nearest TDO. It takes no memory.
+pub fn selected_by(device: &Device, ir: &Bits) -> DataRegister
     requires { length ir.now.items ≡ device.now.ir }
     ensures { seen_register result ≡ selected device.now ir.now.items }
 {

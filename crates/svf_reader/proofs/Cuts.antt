@@ -1,6 +1,6 @@
 -- A text and its first command.
 use Rattle.std.proofs.Common.{◌≡◌, ℕ, zero, suc, ◌<◌, Bool, true, false, not, cond, List, [], ◌∷◌, length, take, drop, refl, ap, sym, ◌∙◌, arith}
-use Rattle.std.specs.Prelude.{◌==◌, ◌||◌}
+use Rattle.std.specs.Prelude.{◌==◌, ◌||◌, ◌++◌}
 use Rattle.std.proofs.lemmas.Bool.Decides.{nat_tests}
 use Rattle.svf_reader.specs.declared.bytes.Class.TheVariants.{Gap, Command}
 use Rattle.ij_text.specs.Bytes.{is_blank}
@@ -75,6 +75,24 @@ pub cut_is : (inside : Bool) (text : List ℕ) (n : ℕ) → run_length Command 
 cut_is inside [] n e within = absurd (omega arith)
 cut_is inside (b ∷ bs) n e within =
     cut_at inside b bs (in_comment inside b (first bs)) (in_comment inside b (first bs) || not (b == 59)) n refl refl e within (λ m f w. cut_is (in_comment inside b (first bs)) bs m f w)
+
+-- what stands after it is a `;`
+whole_at : (b : ℕ) (bs : List ℕ) (h t : Bool) (n : ℕ) → (h || not (b == 59)) ≡ t → cond t (suc (run_length Command h bs)) 0 ≡ n → n < suc (length bs)
+    → ((m : ℕ) → run_length Command h bs ≡ m → m < length bs → bs ≡ take m bs ++ 59 ∷ drop (suc m) bs)
+    → (b ∷ bs) ≡ take n (b ∷ bs) ++ 59 ∷ drop (suc n) (b ∷ bs)
+whole_at b bs h false n et en within more =
+    let none = no_run h (not (b == 59)) 0 (ap (λ k. cond k 1 0) et) in
+    ap (λ k. k ∷ bs) (is_end b none.1) ∙ ap (λ k. take k (b ∷ bs) ++ 59 ∷ drop (suc k) (b ∷ bs)) en
+whole_at b bs h true zero et en within more = absurd (cc)
+whole_at b bs h true (suc m) et en within more =
+    let run : run_length Command h bs ≡ m = cc in
+    let short : m < length bs = omega arith in
+    ap (λ k. b ∷ k) (more m run short)
+
+pub whole_is : (inside : Bool) (text : List ℕ) (n : ℕ) → run_length Command inside text ≡ n → n < length text → text ≡ take n text ++ 59 ∷ drop (suc n) text
+whole_is inside [] n e within = absurd (omega arith)
+whole_is inside (b ∷ bs) n e within =
+    whole_at b bs (in_comment inside b (first bs)) (in_comment inside b (first bs) || not (b == 59)) n refl e within (λ m f w. whole_is (in_comment inside b (first bs)) bs m f w)
 
 last_at : (inside : Bool) (b : ℕ) (bs : List ℕ) (h t : Bool) → (h || not (b == 59)) ≡ t → cond t (suc (run_length Command h bs)) 0 ≡ suc (length bs)
     → (run_length Command h bs ≡ length bs → texts (plain_from h bs) ≡ plain_from h bs ∷ [])

@@ -164,6 +164,11 @@ unfoldable pub command_of_words : List (List ℕ) → Option SeenParsed
 command_of_words [] = None
 command_of_words (w ∷ ws) = parsed_by w ws
 
+-- whether it is a scan, by its first word
+abbrev pub is_scan : List (List ℕ) → Bool
+is_scan [] = false
+is_scan (w ∷ ws) = is_word (codes "SIR") w || is_word (codes "SDR") w
+
 -- ---- what is left out
 
 abbrev pub any_is_one_of : List (List ℕ) → List (List ℕ) → Bool

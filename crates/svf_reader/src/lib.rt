@@ -19,4 +19,5 @@ pub use laws::{
     commands_are_read_again, read_commands_are_within_limits, read_commands_fit,
     scripts_are_read_again,
 };
-pub use reading::read_svf;
+pub use pieces::Piece;
+pub use reading::{is_scan, next_text, read_svf};

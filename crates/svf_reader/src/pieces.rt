@@ -5,10 +5,12 @@ ghost use Rattle.svf_reader.specs.Texts.{plain, behind_word};
 
 use crate::bytes::{Class, byte_at, gap_len, is_mark, long_run_len, run_len};
 
-/// A piece of a text, and the text behind it.
+/// A piece of a text, and the text after it.
 #[derive(Clone, Copy)]
-pub(crate) struct Piece<'a> {
+pub struct Piece<'a> {
+    /// The piece.
     pub piece: &'a [u8],
+    /// All that comes after it.
     pub rest: &'a [u8],
 }
 

@@ -7,21 +7,25 @@ ghost use Rattle.svf_writer.specs.SeenCommands.{seen_command};
 ghost use Rattle.svf_reader.specs.Answers.{AtPlace, Refuses, IsRefused};
 ghost use Rattle.svf_reader.specs.Meaning.{Refusal, LeftOut, SvfSyntax, SvfLimit, HexWide, TdiMissing, listed, svf};
 ghost use Rattle.ij_text.specs.Places.{place_at};
-ghost use Rattle.svf_reader.specs.Texts.{plain, texts, blanks};
+ghost use Rattle.svf_reader.specs.Commands.{is_scan};
+ghost use Rattle.svf_reader.specs.Texts.{plain, texts, words, blanks};
 
 use crate::bytes::{Class, long_run_len, run_len};
 use crate::fault::{SvfCause, SvfFault};
 use crate::meaning::read_command;
 use crate::pieces::{Piece, next_word};
 use crate::so_far::ReadSoFar;
+use crate::words::is_word;
 use ij_bits::OutOfMemory;
 use ij_text::{Place, SVF_LIMIT, place_at};
 use std::alloc::Global;
 use svf_writer::{Command, Commands};
 
-/// The text in front of the next `;`, if there is one, and the text behind it.
-fn next_text<'a>(text: &'a [u8]) -> Option<Piece<'a>>
+/// The text before the next `;` that stands in no comment, if there is one, and the text after that `;`. So it cuts an SVF
+/// text into its commands, with the comments between them. It takes no memory.
+pub fn next_text<'a>(text: &'a [u8]) -> Option<Piece<'a>>
     ensures value { MatchOption result (texts (plain text.now) ≡ plain text.now ∷ []) (λ p. texts (plain text.now) ≡ plain p.piece.now ∷ texts (plain p.rest.now)) }
+    ensures whole { IfSome result (λ p. text.now ≡ p.piece.now ++ 59 ∷ p.rest.now) }
     ensures lengths { IfSome result (λ p. length p.piece.now + 1 + length p.rest.now ≡ length text.now) }
 {
     let (piece, behind) = text.split_at(long_run_len(text, Class::Command));
@@ -30,6 +34,18 @@ fn next_text<'a>(text: &'a [u8]) -> Option<Piece<'a>>
     }
     let (_, rest) = behind.split_at(1);
     Some(Piece { piece, rest })
+}
+
+/// Whether a command is a scan, an SIR or an SDR, of which this is the text before its `;` (Serial Vector Format, revision
+/// E). It takes no memory.
+#[tactic(auto, unfolding(crate::specs::Reading::words_of))]
+pub fn is_scan(text: &[u8]) -> bool
+    ensures { result ≡ is_scan (words (plain text.now)) }
+{
+    match next_word(text) {
+        None => false,
+        Some(word) => is_word(word.piece, b"SIR") || is_word(word.piece, b"SDR"),
+    }
 }
 
 /// A refusal at a place.
