@@ -1,5 +1,5 @@
 // Calls of files and streams. They have no clauses: a test looks at what comes, and needs none of those that stand at each call.
-use ij_io::{LoadFault, Shelf, Sink, StoreFault};
+use ij_io::{LoadFault, Shelf, Sink, StoreFault, Word, put_words};
 use std::alloc::Global;
 
 pub(crate) fn load<S: Shelf>(
@@ -29,4 +29,8 @@ pub(crate) fn write<S: Sink>(sink: &mut S, piece: &[u8]) -> Result<(), StoreFaul
 
 pub(crate) fn flush<S: Sink>(sink: &mut S) -> Result<(), StoreFault> {
     sink.flush()
+}
+
+pub(crate) fn write_words<S: Sink>(sink: &mut S, words: &[Word<'_>]) -> Result<(), StoreFault> {
+    put_words(sink, words)
 }

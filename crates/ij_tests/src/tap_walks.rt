@@ -1,5 +1,6 @@
 // The walk of a controller through its states, and the clocks of a play.
-ghost use Rattle.std.specs.Prelude.{◌≡◌, length, IfOk, IsSomeAnd};
+ghost use Rattle.std.specs.Prelude.{◌≡◌, ◌+◌, ◌<◌, ◌^◌, length, IfOk, IsSomeAnd};
+ghost use Rattle.tap_machine.specs.Play.{scans_in};
 
 use ij_bits::{Bits, OutOfMemory};
 use std::alloc::Global;
@@ -62,15 +63,18 @@ fn shifts(scan: u32, bit: u32, tms: bool, tdi: bool, expect: Option<bool>) -> Pi
     }
 }
 
-#[test]
-fn tdi_and_mask_hold_up_to_a_new_length(rt: HostRuntime) -> Result<(), Fail> {
-    let alloc = rt.alloc();
+/// Two scans of two bits, the second without TDI and MASK, one of one bit, a run of three cycles, and a reset.
+fn commands_to_play(alloc: Global) -> Result<Commands, OutOfMemory>
+    ensures { IfOk result (λ commands. scans_in commands ≡ 3) }
+{
+    let tdo = two(alloc, false, true)?;
+    let mask = two(alloc, false, true)?;
     let mut commands = Commands::new(alloc);
     commands.push(Command::Sdr(Scan {
         len: 2,
         tdi: Part::of_number(2, 0b01),
-        tdo: two(alloc, false, true)?,
-        mask: two(alloc, false, true)?,
+        tdo,
+        mask,
         smask: Part::absent(),
     }))?;
     commands.push(Command::Sdr(Scan {
@@ -89,8 +93,22 @@ fn tdi_and_mask_hold_up_to_a_new_length(rt: HostRuntime) -> Result<(), Fail> {
     }))?;
     commands.push(Command::Run(3))?;
     commands.push(Command::Reset)?;
+    Ok(commands)
+}
 
-    let mut player = Player::new(Stable::Reset, 7, &commands);
+// The clocks of a play from Test-Logic-Reset, after seven scans: the levels of TMS where no bit is shifted, the clocks that shift a
+// bit, and the state in which it ends.
+#[derive(Drop)]
+struct Clocks {
+    quiet: Vec<bool>,
+    shifted: Vec<Pins>,
+    ended: Stable,
+}
+
+fn played(alloc: Global, commands: &Commands) -> Result<Clocks, Fail>
+    requires { 7 + scans_in commands.now < 2 ^ 32 }
+{
+    let mut player = Player::new(Stable::Reset, 7, commands);
     let mut shifted = Vec::new(alloc);
     let mut quiet = Vec::new(alloc);
     while let Some(pins) = player.next() {
@@ -100,21 +118,32 @@ fn tdi_and_mask_hold_up_to_a_new_length(rt: HostRuntime) -> Result<(), Fail> {
             quiet.push(pins.tms)?;
         }
     }
-    assert_eq!(rt; player.ended(), Stable::Reset);
+    Ok(Clocks {
+        quiet,
+        shifted,
+        ended: player.ended(),
+    })
+}
+
+#[test]
+fn tdi_and_mask_hold_up_to_a_new_length(rt: HostRuntime) -> Result<(), Fail> {
+    let commands = commands_to_play(rt.alloc())?;
+    let clocks = played(rt.alloc(), &commands)?;
+    assert_eq!(rt; clocks.ended, Stable::Reset);
     // To Run-Test/Idle; three scans, each led in by three clocks and out by two; three clocks to run; five to reset.
     let (low, high) = (false, true);
-    let clocks = [
+    let quiet = [
         low, high, low, low, high, low, high, low, low, high, low, high, low, low, high, low, low,
         low, low, high, high, high, high, high,
     ];
-    assert_eq!(rt; quiet.as_slice(), clocks.as_slice());
-    let wanted = [
+    assert_eq!(rt; clocks.quiet.as_slice(), quiet.as_slice());
+    let shifted = [
         shifts(8, 0, false, true, None),
         shifts(8, 1, true, false, Some(true)),
         shifts(9, 0, false, true, None),
         shifts(9, 1, true, false, Some(false)),
         shifts(10, 0, true, true, Some(true)),
     ];
-    assert_eq!(rt; shifted.as_slice(), wanted.as_slice());
+    assert_eq!(rt; clocks.shifted.as_slice(), shifted.as_slice());
     Ok(())
 }
