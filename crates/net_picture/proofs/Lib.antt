@@ -1,1 +1,4 @@
 mod Walking
+mod Gathering
+mod Whole
+mod Areas

@@ -1,6 +1,6 @@
 -- What is left to draw, step by step.
 use Rattle.std.proofs.Common.{◌≡◌, ℕ, zero, suc, ◌+◌, ◌-◌, ◌<◌, ◌≤◌, Bool, List, [], ◌∷◌, ◌++◌, Option, length, take, drop, get_or, refl, sym, ap, ◌∙◌, subst, arith, append_assoc, append-nil, length-append}
-use Rattle.std.specs.Prelude.{◌&&◌, min}
+use Rattle.std.specs.Prelude.{◌&&◌, Result, Ok, Err, IfOk}
 use Rattle.std.proofs.lemmas.List.{drop_all}
 use Rattle.std.proofs.Math.Seq.{drop-cons, take-append_seam, drop-append_seam}
 use Rattle.net_tree.specs.declared.entry.Entry.{Entry}
@@ -8,13 +8,14 @@ use Rattle.net_tree.specs.declared.entry.Entry.TheVariants.{Reg, Mux, Row}
 use Rattle.net_tree.specs.Entries.{entries_of, row_entries, row_count, span}
 use Rattle.net_tree.specs.Form.{Items, Nothing, RegThen, MuxThen, Rows, NoRow, RowThen}
 use Rattle.net_tree.proofs.Reading.{length-entries}
+use Rattle.net_picture.specs.declared.plan.MuxPlan.{MuxPlan}
 use Rattle.net_picture.specs.declared.pen.Pen.{Pen}
 use Rattle.net_picture.specs.declared.pen.Fan.{Fan}
 use Rattle.net_picture.specs.declared.shape.Shape.{Shape}
 use Rattle.net_picture.specs.declared.shape.RowEnd.{RowEnd}
-use Rattle.net_picture.specs.Layout.{drawn, pen_after, fan_after, row_ends, rows_drawn, register_drawn, mux_drawn, pen_behind, row_wire, is_row}
-use Rattle.net_picture.specs.Pens.{start_at, ready, after_register, after_row}
-use Rattle.net_picture.specs.Plan.{Plan, box_of}
+use Rattle.net_picture.specs.Layout.{drawn, pen_after, fan_after, row_ends, rows_drawn, register_drawn, mux_drawn, mux_close, pen_behind, wire_to, row_wire, is_row}
+use Rattle.net_picture.specs.Pens.{start_at, ready, after_register, after_row, fan_at, after_mux}
+use Rattle.net_picture.specs.Plan.{Plan, box_of, mux_of}
 use Rattle.net_picture.specs.Walk.{ItemsAreLeft, RowsAreLeft}
 
 -- the entries from an index on
@@ -196,3 +197,34 @@ module _ (plan : Plan) (active : Bool) (row : Option ℕ) (from : Pen) where
       → (es ≡ after) × (f ≡ end) × (shapes ≡ all) × (ends ≡ all_ends)
   no_row_left q es after f end shapes all ends all_ends left =
       rows_end left.rows q es after f end shapes all ends all_ends left.entries_are left.count_is left.end_is left.shapes_are left.ends_are
+
+-- what holds of a value that there is
+pub if_ok : {T E : Type 0} (result : Result T E) (P Q : T → Type 0) → ((value : T) → P value → Q value) → IfOk result P → IfOk result Q
+if_ok (Ok value) P Q f p = f value p
+if_ok (Err e) P Q f p = tt
+
+-- the rows of a multiplexer are drawn, and then its funnel
+pub mux_done : (plan : Plan) (active : Bool) (p : Pen) (m : ℕ) (rows : Rows) (pen q : Pen) (part : MuxPlan) (f g : Fan) (s0 s1 s2 s3 : List Shape) (none ends now : List RowEnd)
+    → pen ≡ ready p → part ≡ mux_of plan m → s1 ≡ s0 ++ wire_to active p → f ≡ fan_at pen → none ≡ []
+    → g ≡ fan_after plan f rows → s2 ≡ s1 ++ rows_drawn plan active part.row pen 0 f rows → ends ≡ none ++ row_ends plan f rows → now ≡ ends
+    → s3 ≡ s2 ++ mux_close active part m pen g now → q ≡ after_mux pen g part.values part.name → (q ≡ pen_behind plan p m rows) × (s3 ≡ s0 ++ mux_drawn plan active p m rows)
+mux_done plan active p m rows pen q part f g s0 s1 s2 s3 none ends now pi ti wi fi ni gi ri ei wi2 ci qi =
+    let from : Pen = ready p in
+    let fan : Fan = fan_at from in
+    let last : Fan = fan_after plan fan rows in
+    let known : MuxPlan = mux_of plan m in
+    let W : List Shape = wire_to active p in
+    let R : List Shape = rows_drawn plan active known.row from 0 fan rows in
+    let E : List RowEnd = row_ends plan fan rows in
+    let C : List Shape = mux_close active known m from last E in
+    let fan_is : f ≡ fan = fi ∙ ap fan_at pi in
+    let last_is : g ≡ last = gi ∙ ap (λ (x : Fan). fan_after plan x rows) fan_is in
+    let ends_are : now ≡ E = wi2 ∙ ei ∙ ap (λ (xs : List RowEnd). xs ++ row_ends plan f rows) ni ∙ ap (λ (x : Fan). row_ends plan x rows) fan_is in
+    let rows_are : rows_drawn plan active part.row pen 0 f rows ≡ R =
+    ap (λ (x : MuxPlan). rows_drawn plan active x.row pen 0 f rows) ti ∙ ap (λ (x : Pen). rows_drawn plan active known.row x 0 f rows) pi ∙ ap (λ (x : Fan). rows_drawn plan active known.row from 0 x rows) fan_is in
+    let close_is : mux_close active part m pen g now ≡ C =
+    ap (λ (x : MuxPlan). mux_close active x m pen g now) ti ∙ ap (λ (x : Pen). mux_close active known m x g now) pi
+    ∙ ap (λ (x : Fan). mux_close active known m from x now) last_is ∙ ap (mux_close active known m from last) ends_are in
+    (qi ∙ ap (λ (x : MuxPlan). after_mux pen g x.values x.name) ti ∙ ap (λ (x : Pen). after_mux x g known.values known.name) pi ∙ ap (λ (x : Fan). after_mux from x known.values known.name) last_is,
+    ci ∙ ap (λ (xs : List Shape). s2 ++ xs) close_is ∙ ap (λ (xs : List Shape). xs ++ C) (ri ∙ ap (λ (xs : List Shape). s1 ++ xs) rows_are ∙ ap (λ (xs : List Shape). xs ++ R) wi)
+    ∙ append_assoc (s0 ++ W) R C ∙ append_assoc s0 W (R ++ C))
