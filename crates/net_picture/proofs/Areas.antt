@@ -98,31 +98,31 @@ parted p a b e s = elim e.before [
 ]
 
 -- lists of areas that are apart
-apart_both : (as bs : List Area) → AreApart as → AreApart bs → All (λ a. All (SharesNone a) bs) as → AreApart (as ++ bs)
+apart_both : (xs bs : List Area) → AreApart xs → AreApart bs → All (λ a. All (SharesNone a) bs) xs → AreApart (xs ++ bs)
 apart_both [] bs a b c = b
-apart_both (x ∷ as) bs a b c =
-    (All-append (SharesNone x) as bs a.0 (All-head (λ y. All (SharesNone y) bs) x as c), apart_both as bs a.1 b (All-tail (λ y. All (SharesNone y) bs) x as c))
+apart_both (x ∷ xs) bs a b c =
+    (All-append (SharesNone x) xs bs a.0 (All-head (λ y. All (SharesNone y) bs) x xs c), apart_both xs bs a.1 b (All-tail (λ y. All (SharesNone y) bs) x xs c))
 
 -- ---- what holds of items
 
-record Fits (p q : Pen) (as : List Area) : Type 0 where
+record Fits (p q : Pen) (xs : List Area) : Type 0 where
   goes : GoesOn p q
   pen : IsPen q
-  starts : All (StartsAt p) as
-  ends : All (EndsAt q) as
-  apart : AreApart as
+  starts : All (StartsAt p) xs
+  ends : All (EndsAt q) xs
+  apart : AreApart xs
 
 fits_none : (p : Pen) → IsPen p → Fits p p []
 fits_none p h =
     record { goes = goes_on_itself p; pen = h; starts = All-nil (StartsAt p); ends = All-nil (EndsAt p); apart = tt }
 
-fits_then : (p q r : Pen) (as bs : List Area) → Fits p q as → Fits q r bs → Fits p r (as ++ bs)
-fits_then p q r as bs a b = record {
+fits_then : (p q r : Pen) (xs bs : List Area) → Fits p q xs → Fits q r bs → Fits p r (xs ++ bs)
+fits_then p q r xs bs a b = record {
   goes = goes_on_then p q r a.goes b.goes;
   pen = b.pen;
-  starts = All-append (StartsAt p) as bs a.starts (All-weaker (StartsAt q) (StartsAt p) (starts_before p q a.goes) bs b.starts);
-  ends = All-append (EndsAt r) as bs (All-weaker (EndsAt q) (EndsAt r) (ends_after q r b.goes) as a.ends) b.ends;
-  apart = apart_both as bs a.apart b.apart (All-weaker (EndsAt q) (λ x. All (SharesNone x) bs) (λ x e. All-weaker (StartsAt q) (SharesNone x) (λ y s. parted q x y e s) bs b.starts) as a.ends);
+  starts = All-append (StartsAt p) xs bs a.starts (All-weaker (StartsAt q) (StartsAt p) (starts_before p q a.goes) bs b.starts);
+  ends = All-append (EndsAt r) xs bs (All-weaker (EndsAt q) (EndsAt r) (ends_after q r b.goes) xs a.ends) b.ends;
+  apart = apart_both xs bs a.apart b.apart (All-weaker (EndsAt q) (λ x. All (SharesNone x) bs) (λ x e. All-weaker (StartsAt q) (SharesNone x) (λ y s. parted q x y e s) bs b.starts) xs a.ends);
 }
 
 -- the next line
@@ -186,19 +186,19 @@ record FanGoesOn (f g : Fan) : Type 0 where
   right : f.right ≤ g.right
   bottom : f.bottom ≤ f.y + 16 → f.bottom ≤ g.bottom
 
-record RowsFit (f g : Fan) (as : List Area) : Type 0 where
+record RowsFit (f g : Fan) (xs : List Area) : Type 0 where
   goes : FanGoesOn f g
   fan : IsFan g
-  starts : All (StartsIn f) as
-  ends : All (EndsIn g) as
-  apart : AreApart as
+  starts : All (StartsIn f) xs
+  ends : All (EndsIn g) xs
+  apart : AreApart xs
 
 start_pen : (f : Fan) → IsFan f → IsPen (start_at f.x f.y)
 start_pen f h = record { below = h.below; line = omega arith; within = omega arith; deep = omega arith }
 
 -- a row, and then the others below it
-row_fits : (f g : Fan) (p : Pen) (as bs : List Area) → IsFan f → Fits (start_at f.x f.y) p as → RowsFit (after_row f p) g bs → RowsFit f g (as ++ bs)
-row_fits f g p as bs h a b =
+row_fits : (f g : Fan) (p : Pen) (xs bs : List Area) → IsFan f → Fits (start_at f.x f.y) p xs → RowsFit (after_row f p) g bs → RowsFit f g (xs ++ bs)
+row_fits f g p xs bs h a b =
     let next : Fan = after_row f p in
     let down : next.bottom ≤ g.bottom = b.goes.bottom (omega arith) in
     let upper : (x : Area) → EndsAt p x → EndsIn g x = λ x e. record { right = omega (arith, e.right, b.goes.right); bottom = omega (arith, e.bottom, down) } in
@@ -207,19 +207,19 @@ row_fits f g p as bs h a b =
     record {
       goes = record { x = b.goes.x; right = omega (arith, b.goes.right); bottom = λ small. omega (arith, small, a.goes.bottom, down) };
       fan = b.fan;
-      starts = All-append (StartsIn f) as bs (All-weaker (StartsAt (start_at f.x f.y)) (StartsIn f) first as a.starts) (All-weaker (StartsIn next) (StartsIn f) lower bs b.starts);
-      ends = All-append (EndsIn g) as bs (All-weaker (EndsAt p) (EndsIn g) upper as a.ends) b.ends;
-      apart = apart_both as bs a.apart b.apart (All-weaker (EndsAt p) (λ x. All (SharesNone x) bs) (λ x e. All-weaker (StartsIn next) (SharesNone x) (λ y s. above x y (omega (arith, e.bottom, s.top))) bs b.starts) as a.ends);
+      starts = All-append (StartsIn f) xs bs (All-weaker (StartsAt (start_at f.x f.y)) (StartsIn f) first xs a.starts) (All-weaker (StartsIn next) (StartsIn f) lower bs b.starts);
+      ends = All-append (EndsIn g) xs bs (All-weaker (EndsAt p) (EndsIn g) upper xs a.ends) b.ends;
+      apart = apart_both xs bs a.apart b.apart (All-weaker (EndsAt p) (λ x. All (SharesNone x) bs) (λ x e. All-weaker (StartsIn next) (SharesNone x) (λ y s. above x y (omega (arith, e.bottom, s.top))) bs b.starts) xs a.ends);
     }
 
-next_fan : (f : Fan) (p : Pen) (as : List Area) → IsFan f → Fits (start_at f.x f.y) p as → IsFan (after_row f p)
-next_fan f p as h a =
+next_fan : (f : Fan) (p : Pen) (xs : List Area) → IsFan f → Fits (start_at f.x f.y) p xs → IsFan (after_row f p)
+next_fan f p xs h a =
     record { below = omega arith; within = omega (arith, h.within); deep = a.pen.deep }
 
 -- a multiplexer: its rows, and then its funnel
-mux_fits : (p : Pen) (g : Fan) (values name : ℕ) (as : List Area) → IsPen p → RowsFit (fan_at p) g as
-    → Fits p (after_mux p g values name) (as ++ record { left = funnel_at g values; right = funnel_at g values + 14; top = p.y - 13; bottom = p.y + (g.last - p.y) + 13 } ∷ [])
-mux_fits p g values name as h r =
+mux_fits : (p : Pen) (g : Fan) (values name : ℕ) (xs : List Area) → IsPen p → RowsFit (fan_at p) g xs
+    → Fits p (after_mux p g values name) (xs ++ record { left = funnel_at g values; right = funnel_at g values + 14; top = p.y - 13; bottom = p.y + (g.last - p.y) + 13 } ∷ [])
+mux_fits p g values name xs h r =
     let x : ℕ = funnel_at g values in
     let end : ℕ = x + 14 + name in
     let q : Pen = after_mux p g values name in
@@ -233,10 +233,10 @@ mux_fits p g values name as h r =
     record {
       goes = moved_on p end g.bottom le;
       pen = moved_pen p end g.bottom h le;
-      starts = All-append (StartsAt p) as (a ∷ []) (All-weaker (StartsIn (fan_at p)) (StartsAt p) from as r.starts) (All-cons (StartsAt p) a [] starts (All-nil (StartsAt p)));
-      ends = All-append (EndsAt q) as (a ∷ []) (All-weaker (EndsIn g) (EndsAt q) upto as r.ends) (All-cons (EndsAt q) a [] ends (All-nil (EndsAt q)));
-      apart = apart_both as (a ∷ []) r.apart (All-nil (SharesNone a), tt)
-          (All-weaker (EndsIn g) (λ y. All (SharesNone y) (a ∷ [])) (λ y e. All-cons (SharesNone y) a [] (left_of y a (omega (arith, e.right))) (All-nil (SharesNone y))) as r.ends);
+      starts = All-append (StartsAt p) xs (a ∷ []) (All-weaker (StartsIn (fan_at p)) (StartsAt p) from xs r.starts) (All-cons (StartsAt p) a [] starts (All-nil (StartsAt p)));
+      ends = All-append (EndsAt q) xs (a ∷ []) (All-weaker (EndsIn g) (EndsAt q) upto xs r.ends) (All-cons (EndsAt q) a [] ends (All-nil (EndsAt q)));
+      apart = apart_both xs (a ∷ []) r.apart (All-nil (SharesNone a), tt)
+          (All-weaker (EndsIn g) (λ y. All (SharesNone y) (a ∷ [])) (λ y e. All-cons (SharesNone y) a [] (left_of y a (omega (arith, e.right))) (All-nil (SharesNone y))) xs r.ends);
     }
 
 -- ---- the form

@@ -2,3 +2,4 @@ mod Walking
 mod Gathering
 mod Whole
 mod Areas
+mod Named

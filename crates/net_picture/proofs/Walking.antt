@@ -19,10 +19,10 @@ use Rattle.net_picture.specs.Plan.{Plan, box_of, mux_of}
 use Rattle.net_picture.specs.Walk.{ItemsAreLeft, RowsAreLeft}
 
 -- the entries from an index on
-pub entry_at : (es : List Entry) (i s : ℕ) (x y : Entry) → i < length es → x ≡ get_or es i x → x ≡ y → s ≡ i + 1 → drop i es ≡ y ∷ drop s es
-entry_at es i s x y within is same next =
-    let after : suc i ≡ s = omega arith in
-    drop-cons es i x within ∙ ap (λ (z : Entry). z ∷ drop (suc i) es) (sym is ∙ same) ∙ ap (λ (n : ℕ). y ∷ drop n es) after
+pub entry_at : (es : List Entry) (i : ℕ) (e : Entry) → i < length es → get_or es i (Reg 0) ≡ e → drop i es ≡ e ∷ drop (i + 1) es
+entry_at es i e within is =
+    let after : suc i ≡ i + 1 = omega arith in
+    drop-cons es i (Reg 0) within ∙ ap (λ (z : Entry). z ∷ drop (suc i) es) is ∙ ap (λ (n : ℕ). e ∷ drop n es) after
 
 module _ (plan : Plan) (active : Bool) where
   -- no entry is left
@@ -94,13 +94,13 @@ module _ (plan : Plan) (active : Bool) where
       mux_step left.items m count rest next p q end shapes more all (sym e ∙ left.entries_are) left.end_is left.shapes_are d
 
   -- no row begins a list of items
-  row_step : (items : Items) (n : ℕ) (es : List Entry) (P : Type 0) → Row n ∷ es ≡ entries_of items → P
-  row_step Nothing n es P e = let no : ⊥ = cc in absurd no
-  row_step (RegThen r rest) n es P e = let no : ⊥ = cc in absurd no
-  row_step (MuxThen m rows rest) n es P e = let no : ⊥ = cc in absurd no
+  row_step : (items : Items) (n : ℕ) (es : List Entry) → Row n ∷ es ≡ entries_of items → ⊥
+  row_step Nothing n es e = let no : ⊥ = cc in no
+  row_step (RegThen r rest) n es e = let no : ⊥ = cc in no
+  row_step (MuxThen m rows rest) n es e = let no : ⊥ = cc in no
 
-  pub row_not_left : (es : List Entry) (n : ℕ) (rest : List Entry) (p end : Pen) (shapes all : List Shape) (P : Type 0) → es ≡ Row n ∷ rest → ItemsAreLeft plan active es p shapes end all → P
-  row_not_left es n rest p end shapes all P e left = row_step left.items n rest P (sym e ∙ left.entries_are)
+  pub row_not_left : (es : List Entry) (n : ℕ) (rest : List Entry) (p end : Pen) (shapes all : List Shape) → es ≡ Row n ∷ rest → ItemsAreLeft plan active es p shapes end all → ⊥
+  row_not_left es n rest p end shapes all e left = row_step left.items n rest (sym e ∙ left.entries_are)
 
 -- a row's entries, and those after it
 taken : (items : Items) (more : List Entry) (n : ℕ) → n ≡ span items → take n (entries_of items ++ more) ≡ entries_of items
@@ -175,6 +175,18 @@ module _ (plan : Plan) (active : Bool) (row : Option ℕ) (from : Pen) where
       → RowsAreLeft plan active row from q (suc k) es after f shapes ends end all all_ends → (n : ℕ) × (e ≡ Row n)
   row_is_next q k es e tail after f end shapes all ends all_ends h left =
       not_other left.rows k e tail after (sym h ∙ left.entries_are) left.count_is
+
+  pub no_register_next : (q k r : ℕ) (es tail after : List Entry) (f end : Fan) (shapes all : List Shape) (ends all_ends : List RowEnd) → es ≡ Reg r ∷ tail
+      → RowsAreLeft plan active row from q (suc k) es after f shapes ends end all all_ends → ⊥
+  no_register_next q k r es tail after f end shapes all ends all_ends h left =
+      let (n, e) = row_is_next q k es (Reg r) tail after f end shapes all ends all_ends h left in
+      let no : ⊥ = cc in no
+
+  pub no_mux_next : (q k m count : ℕ) (es tail after : List Entry) (f end : Fan) (shapes all : List Shape) (ends all_ends : List RowEnd) → es ≡ Mux m count ∷ tail
+      → RowsAreLeft plan active row from q (suc k) es after f shapes ends end all all_ends → ⊥
+  no_mux_next q k m count es tail after f end shapes all ends all_ends h left =
+      let (n, e) = row_is_next q k es (Mux m count) tail after f end shapes all ends all_ends h left in
+      let no : ⊥ = cc in no
 
   pub some_entry : (q k : ℕ) (es : List Entry) (i : ℕ) (after : List Entry) (f end : Fan) (shapes all : List Shape) (ends all_ends : List RowEnd) → length es ≤ i
       → RowsAreLeft plan active row from q (suc k) (drop i es) after f shapes ends end all all_ends → ⊥

@@ -38,7 +38,7 @@ SharesNone a b = (x y : ℕ) → Covers a x y → ¬ Covers b x y
 
 abbrev pub AreApart : List Area → Type 0
 AreApart [] = Unit {0}
-AreApart (a ∷ as) = All (SharesNone a) as × AreApart as
+AreApart (a ∷ others) = All (SharesNone a) others × AreApart others
 
 pub record IsWithin (width height : ℕ) (a : Area) : Type 0 where
   pub right : a.right ≤ width

@@ -9,20 +9,94 @@ use Rattle.net_picture.specs.declared.pen.Pen.{Pen}
 use Rattle.net_picture.specs.declared.pen.Fan.{Fan}
 use Rattle.net_picture.specs.declared.shape.Shape.{Shape}
 use Rattle.net_picture.specs.declared.shape.RowEnd.{RowEnd}
-use Rattle.net_picture.specs.Layout.{drawn, pen_after, fan_after, row_ends, rows_drawn, row_wire, is_row}
+use Rattle.net_picture.specs.Layout.{drawn, pen_after, fan_after, register_drawn, row_ends, rows_drawn, row_wire, is_row}
+use Rattle.net_picture.specs.Pens.{after_register, ready}
 use Rattle.net_picture.specs.Plan.{Plan, seen_plan}
 use Rattle.net_picture.specs.Walk.{ItemsAreLeft, RowsAreLeft}
-use Rattle.net_picture.proofs.Walking.{entry_at, none_left, all_left, register_left, mux_left, MuxIsDrawn, row_not_left, row_left, row_is_next, some_entry, all_rows, no_row_left, if_ok, mux_done}
+use Rattle.net_picture.proofs.Walking.{entry_at, none_left, all_left, register_left, mux_left, MuxIsDrawn, row_not_left, row_left, no_register_next, no_mux_next, some_entry, all_rows, no_row_left, if_ok, mux_done}
 use Rattle.net_picture.proofs.layout.+form.Goals as goal
 
 pub draw_item-returns-in_ok-pen-in-Reg-clause-left : goal.draw_item-returns-in_ok-pen-in-Reg-clause-left
-draw_item-returns-in_ok-pen-in-Reg-clause-left t c = let h = c.in-Reg.is in ?
+draw_item-returns-in_ok-pen-in-Reg-clause-left t c end all left =
+    let plan = seen_plan c.args.plan.now in
+    let es = c.args.entries.now in
+    let i = c.args.done.at in
+    let reg = c.in-Reg.reg in
+    let width = c.box_of.ensures in
+    register_left plan c.args.active (drop i es) reg (drop (i + 1) es) c.args.done.pen c.in_ok-pen-in-Reg.pen end c.args.shapes.now.items c.draw_register.new.shapes.items all
+    (entry_at es i (Reg reg) c.requires c.in-Reg.is)
+    (c.in_ok-pen-in-Reg.ensures.pen ∙ ap (after_register (ready c.args.done.pen)) width)
+    (c.in_ok-pen-in-Reg.ensures.shapes ∙ ap (λ (n : ℕ). c.args.shapes.now.items ++ register_drawn c.args.active c.args.done.pen reg n) width)
+    left
 
 pub draw_item-returns-in-Mux-clause-left : goal.draw_item-returns-in-Mux-clause-left
-draw_item-returns-in-Mux-clause-left t c = let h = c.in-Mux.is in ?
+draw_item-returns-in-Mux-clause-left t c =
+    let plan = seen_plan c.args.plan.now in
+    let es = c.args.entries.now in
+    let i = c.args.done.at in
+    let m = c.in-Mux.mux in
+    let count = c.in-Mux.rows in
+    let old = c.args.shapes.now.items in
+    let new = c.draw_mux.new.shapes.items in
+    let entry = entry_at es i (Mux m count) c.requires c.in-Mux.is in
+    if_ok c.draw_mux.result (λ (next : ItemsDrawn). MuxIsDrawn plan c.args.active m count (drop (i + 1) es) (drop next.at es) c.args.done.pen next.pen old new)
+    (λ (next : ItemsDrawn). (end : Pen) (all : List Shape) → ItemsAreLeft plan c.args.active (drop i es) c.args.done.pen old end all → ItemsAreLeft plan c.args.active (drop next.at es) next.pen new end all)
+    (λ next drew end all left. mux_left plan c.args.active (drop i es) m count (drop (i + 1) es) (drop next.at es) c.args.done.pen next.pen end old new all entry drew left)
+    c.draw_mux.ensures.drawn
 
 pub draw_item-returns-in-Row-clause-left : goal.draw_item-returns-in-Row-clause-left
-draw_item-returns-in-Row-clause-left t c = let h = c.in-Row.is in ?
+draw_item-returns-in-Row-clause-left t c end all left =
+    let plan = seen_plan c.args.plan.now in
+    let es = c.args.entries.now in
+    let i = c.args.done.at in
+    let n = c.in-Row.field-0 in
+    absurd (row_not_left plan c.args.active (drop i es) n (drop (i + 1) es) c.args.done.pen end c.args.shapes.now.items all (entry_at es i (Row n) c.requires c.in-Row.is) left)
+
+pub draw_row-returns-then-entries-done-clause-left : goal.draw_row-returns-then-entries-done-clause-left
+draw_row-returns-then-entries-done-clause-left t c k after end all all_ends left =
+    absurd (some_entry (seen_plan c.args.plan.now) c.args.parting.active c.args.parting.row c.args.parting.pen c.args.q k c.args.entries.now c.args.done.at after c.args.done.fan end c.args.shapes.now.items all c.args.ends.now.items all_ends c.if-entries-done.true left)
+
+pub draw_row-returns-in-Reg-clause-left : goal.draw_row-returns-in-Reg-clause-left
+draw_row-returns-in-Reg-clause-left t c k after end all all_ends left =
+    let es = c.args.entries.now in
+    let i = c.args.done.at in
+    let within : i < length es = omega (arith, c.if-entries-done.false) in
+    absurd (no_register_next (seen_plan c.args.plan.now) c.args.parting.active c.args.parting.row c.args.parting.pen c.args.q k c.in-Reg.field-0 (drop i es) (drop (i + 1) es) after c.args.done.fan end c.args.shapes.now.items all c.args.ends.now.items all_ends (entry_at es i (Reg c.in-Reg.field-0) within c.in-Reg.is) left)
+
+pub draw_row-returns-in-Mux-clause-left : goal.draw_row-returns-in-Mux-clause-left
+draw_row-returns-in-Mux-clause-left t c k after end all all_ends left =
+    let es = c.args.entries.now in
+    let i = c.args.done.at in
+    let within : i < length es = omega (arith, c.if-entries-done.false) in
+    absurd (no_mux_next (seen_plan c.args.plan.now) c.args.parting.active c.args.parting.row c.args.parting.pen c.args.q k c.in-Mux.mux c.in-Mux.rows (drop i es) (drop (i + 1) es) after c.args.done.fan end c.args.shapes.now.items all c.args.ends.now.items all_ends (entry_at es i (Mux c.in-Mux.mux c.in-Mux.rows) within c.in-Mux.is) left)
+
+pub draw_row-returns-in_ok-fan-in-Row-clause-left : goal.draw_row-returns-in_ok-fan-in-Row-clause-left
+draw_row-returns-in_ok-fan-in-Row-clause-left t c k after end all all_ends left =
+    let plan = seen_plan c.args.plan.now in
+    let parting = c.args.parting in
+    let es = c.args.entries.now in
+    let i = c.args.done.at in
+    let f = c.args.done.fan in
+    let span = c.in-Row.span in
+    let tail = drop (i + 1) es in
+    let on = c.shows-active.result in
+    let shown = c.shows-active.ensures in
+    let start = c.in_ok-start-in-Row.start in
+    let pen = c.in_ok-pen-in-Row.pen in
+    let part = take (c.span_end-end.result - (i + 1)) tail in
+    let shapes = c.args.shapes.now.items in
+    let wired = c.draw_row_wire.new.shapes.items in
+    let within : i < length es = omega (arith, c.if-entries-done.false) in
+    row_left plan parting.active parting.row parting.pen c.args.q k span (drop i es) tail after part (drop c.span_end-end.result es) f c.in_ok-fan-in-Row.fan end start pen shapes wired c.draw_items.new.shapes.items all c.args.ends.now.items c.push.new.self.items all_ends
+    (entry_at es i (Row span) within c.in-Row.is)
+    c.span_end-end.ensures.part
+    c.span_end-end.ensures.rest
+    c.in_ok-start-in-Row.ensures
+    (c.in_ok-draw_row_wire-in-Row.ensures ∙ ap (λ (b : Bool). shapes ++ row_wire b parting.pen f ∷ []) shown)
+    (λ form e. let drew = c.in_ok-pen-in-Row.ensures form e in (drew.0, drew.1 ∙ ap (λ (b : Bool). wired ++ drawn plan b start form) shown))
+    c.in_ok-push-in-Row.ensures.items
+    c.in_ok-fan-in-Row.ensures
+    left
 
 pub draw_items-returns : goal.draw_items-returns
 draw_items-returns t c form e =
