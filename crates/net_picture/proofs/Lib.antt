@@ -1,1 +1,5 @@
 mod Walking
+mod Gathering
+mod Whole
+mod Areas
+mod Named

@@ -1,6 +1,6 @@
 -- What is left to draw, step by step.
 use Rattle.std.proofs.Common.{◌≡◌, ℕ, zero, suc, ◌+◌, ◌-◌, ◌<◌, ◌≤◌, Bool, List, [], ◌∷◌, ◌++◌, Option, length, take, drop, get_or, refl, sym, ap, ◌∙◌, subst, arith, append_assoc, append-nil, length-append}
-use Rattle.std.specs.Prelude.{◌&&◌, min}
+use Rattle.std.specs.Prelude.{◌&&◌, Result, Ok, Err, IfOk}
 use Rattle.std.proofs.lemmas.List.{drop_all}
 use Rattle.std.proofs.Math.Seq.{drop-cons, take-append_seam, drop-append_seam}
 use Rattle.net_tree.specs.declared.entry.Entry.{Entry}
@@ -8,20 +8,21 @@ use Rattle.net_tree.specs.declared.entry.Entry.TheVariants.{Reg, Mux, Row}
 use Rattle.net_tree.specs.Entries.{entries_of, row_entries, row_count, span}
 use Rattle.net_tree.specs.Form.{Items, Nothing, RegThen, MuxThen, Rows, NoRow, RowThen}
 use Rattle.net_tree.proofs.Reading.{length-entries}
+use Rattle.net_picture.specs.declared.plan.MuxPlan.{MuxPlan}
 use Rattle.net_picture.specs.declared.pen.Pen.{Pen}
 use Rattle.net_picture.specs.declared.pen.Fan.{Fan}
 use Rattle.net_picture.specs.declared.shape.Shape.{Shape}
 use Rattle.net_picture.specs.declared.shape.RowEnd.{RowEnd}
-use Rattle.net_picture.specs.Layout.{drawn, pen_after, fan_after, row_ends, rows_drawn, register_drawn, mux_drawn, pen_behind, row_wire, is_row}
-use Rattle.net_picture.specs.Pens.{start_at, ready, after_register, after_row}
-use Rattle.net_picture.specs.Plan.{Plan, box_of}
+use Rattle.net_picture.specs.Layout.{drawn, pen_after, fan_after, row_ends, rows_drawn, register_drawn, mux_drawn, mux_close, pen_behind, wire_to, row_wire, is_row}
+use Rattle.net_picture.specs.Pens.{start_at, ready, after_register, after_row, fan_at, after_mux}
+use Rattle.net_picture.specs.Plan.{Plan, box_of, mux_of}
 use Rattle.net_picture.specs.Walk.{ItemsAreLeft, RowsAreLeft}
 
 -- the entries from an index on
-pub entry_at : (es : List Entry) (i s : ℕ) (x y : Entry) → i < length es → x ≡ get_or es i x → x ≡ y → s ≡ i + 1 → drop i es ≡ y ∷ drop s es
-entry_at es i s x y within is same next =
-    let after : suc i ≡ s = omega arith in
-    drop-cons es i x within ∙ ap (λ (z : Entry). z ∷ drop (suc i) es) (sym is ∙ same) ∙ ap (λ (n : ℕ). y ∷ drop n es) after
+pub entry_at : (es : List Entry) (i : ℕ) (e : Entry) → i < length es → get_or es i (Reg 0) ≡ e → drop i es ≡ e ∷ drop (i + 1) es
+entry_at es i e within is =
+    let after : suc i ≡ i + 1 = omega arith in
+    drop-cons es i (Reg 0) within ∙ ap (λ (z : Entry). z ∷ drop (suc i) es) is ∙ ap (λ (n : ℕ). e ∷ drop n es) after
 
 module _ (plan : Plan) (active : Bool) where
   -- no entry is left
@@ -93,13 +94,13 @@ module _ (plan : Plan) (active : Bool) where
       mux_step left.items m count rest next p q end shapes more all (sym e ∙ left.entries_are) left.end_is left.shapes_are d
 
   -- no row begins a list of items
-  row_step : (items : Items) (n : ℕ) (es : List Entry) (P : Type 0) → Row n ∷ es ≡ entries_of items → P
-  row_step Nothing n es P e = let no : ⊥ = cc in absurd no
-  row_step (RegThen r rest) n es P e = let no : ⊥ = cc in absurd no
-  row_step (MuxThen m rows rest) n es P e = let no : ⊥ = cc in absurd no
+  row_step : (items : Items) (n : ℕ) (es : List Entry) → Row n ∷ es ≡ entries_of items → ⊥
+  row_step Nothing n es e = let no : ⊥ = cc in no
+  row_step (RegThen r rest) n es e = let no : ⊥ = cc in no
+  row_step (MuxThen m rows rest) n es e = let no : ⊥ = cc in no
 
-  pub row_not_left : (es : List Entry) (n : ℕ) (rest : List Entry) (p end : Pen) (shapes all : List Shape) (P : Type 0) → es ≡ Row n ∷ rest → ItemsAreLeft plan active es p shapes end all → P
-  row_not_left es n rest p end shapes all P e left = row_step left.items n rest P (sym e ∙ left.entries_are)
+  pub row_not_left : (es : List Entry) (n : ℕ) (rest : List Entry) (p end : Pen) (shapes all : List Shape) → es ≡ Row n ∷ rest → ItemsAreLeft plan active es p shapes end all → ⊥
+  row_not_left es n rest p end shapes all e left = row_step left.items n rest (sym e ∙ left.entries_are)
 
 -- a row's entries, and those after it
 taken : (items : Items) (more : List Entry) (n : ℕ) → n ≡ span items → take n (entries_of items ++ more) ≡ entries_of items
@@ -175,6 +176,18 @@ module _ (plan : Plan) (active : Bool) (row : Option ℕ) (from : Pen) where
   row_is_next q k es e tail after f end shapes all ends all_ends h left =
       not_other left.rows k e tail after (sym h ∙ left.entries_are) left.count_is
 
+  pub no_register_next : (q k r : ℕ) (es tail after : List Entry) (f end : Fan) (shapes all : List Shape) (ends all_ends : List RowEnd) → es ≡ Reg r ∷ tail
+      → RowsAreLeft plan active row from q (suc k) es after f shapes ends end all all_ends → ⊥
+  no_register_next q k r es tail after f end shapes all ends all_ends h left =
+      let (n, e) = row_is_next q k es (Reg r) tail after f end shapes all ends all_ends h left in
+      let no : ⊥ = cc in no
+
+  pub no_mux_next : (q k m count : ℕ) (es tail after : List Entry) (f end : Fan) (shapes all : List Shape) (ends all_ends : List RowEnd) → es ≡ Mux m count ∷ tail
+      → RowsAreLeft plan active row from q (suc k) es after f shapes ends end all all_ends → ⊥
+  no_mux_next q k m count es tail after f end shapes all ends all_ends h left =
+      let (n, e) = row_is_next q k es (Mux m count) tail after f end shapes all ends all_ends h left in
+      let no : ⊥ = cc in no
+
   pub some_entry : (q k : ℕ) (es : List Entry) (i : ℕ) (after : List Entry) (f end : Fan) (shapes all : List Shape) (ends all_ends : List RowEnd) → length es ≤ i
       → RowsAreLeft plan active row from q (suc k) (drop i es) after f shapes ends end all all_ends → ⊥
   some_entry q k es i after f end shapes all ends all_ends past left =
@@ -196,3 +209,34 @@ module _ (plan : Plan) (active : Bool) (row : Option ℕ) (from : Pen) where
       → (es ≡ after) × (f ≡ end) × (shapes ≡ all) × (ends ≡ all_ends)
   no_row_left q es after f end shapes all ends all_ends left =
       rows_end left.rows q es after f end shapes all ends all_ends left.entries_are left.count_is left.end_is left.shapes_are left.ends_are
+
+-- what holds of a value that there is
+pub if_ok : {T E : Type 0} (result : Result T E) (P Q : T → Type 0) → ((value : T) → P value → Q value) → IfOk result P → IfOk result Q
+if_ok (Ok value) P Q f p = f value p
+if_ok (Err e) P Q f p = tt
+
+-- the rows of a multiplexer are drawn, and then its funnel
+pub mux_done : (plan : Plan) (active : Bool) (p : Pen) (m : ℕ) (rows : Rows) (pen q : Pen) (part : MuxPlan) (f g : Fan) (s0 s1 s2 s3 : List Shape) (none ends now : List RowEnd)
+    → pen ≡ ready p → part ≡ mux_of plan m → s1 ≡ s0 ++ wire_to active p → f ≡ fan_at pen → none ≡ []
+    → g ≡ fan_after plan f rows → s2 ≡ s1 ++ rows_drawn plan active part.row pen 0 f rows → ends ≡ none ++ row_ends plan f rows → now ≡ ends
+    → s3 ≡ s2 ++ mux_close active part m pen g now → q ≡ after_mux pen g part.values part.name → (q ≡ pen_behind plan p m rows) × (s3 ≡ s0 ++ mux_drawn plan active p m rows)
+mux_done plan active p m rows pen q part f g s0 s1 s2 s3 none ends now pi ti wi fi ni gi ri ei wi2 ci qi =
+    let from : Pen = ready p in
+    let fan : Fan = fan_at from in
+    let last : Fan = fan_after plan fan rows in
+    let known : MuxPlan = mux_of plan m in
+    let W : List Shape = wire_to active p in
+    let R : List Shape = rows_drawn plan active known.row from 0 fan rows in
+    let E : List RowEnd = row_ends plan fan rows in
+    let C : List Shape = mux_close active known m from last E in
+    let fan_is : f ≡ fan = fi ∙ ap fan_at pi in
+    let last_is : g ≡ last = gi ∙ ap (λ (x : Fan). fan_after plan x rows) fan_is in
+    let ends_are : now ≡ E = wi2 ∙ ei ∙ ap (λ (xs : List RowEnd). xs ++ row_ends plan f rows) ni ∙ ap (λ (x : Fan). row_ends plan x rows) fan_is in
+    let rows_are : rows_drawn plan active part.row pen 0 f rows ≡ R =
+    ap (λ (x : MuxPlan). rows_drawn plan active x.row pen 0 f rows) ti ∙ ap (λ (x : Pen). rows_drawn plan active known.row x 0 f rows) pi ∙ ap (λ (x : Fan). rows_drawn plan active known.row from 0 x rows) fan_is in
+    let close_is : mux_close active part m pen g now ≡ C =
+    ap (λ (x : MuxPlan). mux_close active x m pen g now) ti ∙ ap (λ (x : Pen). mux_close active known m x g now) pi
+    ∙ ap (λ (x : Fan). mux_close active known m from x now) last_is ∙ ap (mux_close active known m from last) ends_are in
+    (qi ∙ ap (λ (x : MuxPlan). after_mux pen g x.values x.name) ti ∙ ap (λ (x : Pen). after_mux x g known.values known.name) pi ∙ ap (λ (x : Fan). after_mux from x known.values known.name) last_is,
+    ci ∙ ap (λ (xs : List Shape). s2 ++ xs) close_is ∙ ap (λ (xs : List Shape). xs ++ C) (ri ∙ ap (λ (xs : List Shape). s1 ++ xs) rows_are ∙ ap (λ (xs : List Shape). xs ++ R) wi)
+    ∙ append_assoc (s0 ++ W) R C ∙ append_assoc s0 W (R ++ C))

@@ -5,5 +5,7 @@ pub mod Layout
 pub mod Walk
 pub mod Drawing
 pub mod There
+pub mod Whole
+pub mod Apart
 pub mod Svg
 pub mod Dot

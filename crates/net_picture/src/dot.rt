@@ -217,6 +217,14 @@ fn put_row_edge<K: Sink>(
     put_words(k, &words)
 }
 
+/// How many rows a multiplexer has.
+fn row_count(net: &Net, mux: u32) -> usize
+    requires { mux < length net.now.muxes.items }
+    ensures { result ≡ length (paths.rows_of net.now mux) }
+{
+    net.muxes.get(mux as usize).rows.len()
+}
+
 /// Writes the edges from the sources of rows.
 fn put_row_edges<K: Sink>(
     alloc: Global,
@@ -231,7 +239,7 @@ fn put_row_edges<K: Sink>(
     ensures part { OnErr result (AddsPart (K.taken k.old) (K.taken k.new) (lines_from (dot.row_line net.now active selected mux) 0 (length (paths.rows_of net.now mux)))) }
     ensures cause { HasCause (K.faults k.old) (K.faults k.new) result StoreFault.Failed }
 {
-    let count = net.muxes.get(mux as usize).rows.len();
+    let count = row_count(net, mux);
     for row in 0..count {
         let here = active && is_row(selected, row);
         put_row_edge(alloc, net, here, mux, row, k)?;

@@ -1,5 +1,5 @@
 // The shapes of a nested form, from the entries of its tree.
-ghost use Rattle.std.specs.Prelude.{◌≡◌, ◌+◌, ◌-◌, ◌<◌, ◌≤◌, ◌++◌, ◌∷◌, [], ℕ, List, suc, min, drop, take, length, IfOk, OnOk};
+ghost use Rattle.std.specs.Prelude.{◌≡◌, ◌+◌, ◌-◌, ◌<◌, ◌≤◌, ◌&&◌, ◌++◌, ◌∷◌, [], ℕ, List, suc, drop, take, length, IfOk, OnOk};
 ghost use Rattle.net_tree.specs.declared.entry.Entry.{Entry};
 ghost use Rattle.net_tree.specs.Entries.{entries_of, row_entries, row_count};
 ghost use Rattle.net_tree.specs.Form.{Items, Rows};
@@ -33,13 +33,21 @@ struct RowsDrawn {
     fan: Fan,
 }
 
-/// A multiplexer whose rows are drawn: its number, what is known of it, whether it is on the active path, and where its wire has come to
-/// before it.
+/// A multiplexer whose rows are drawn: whether it is on the active path, the row that it is in, and where its wire begins.
 #[derive(Clone, Copy, Drop)]
 struct Parting {
     active: bool,
     row: Option<u32>,
     pen: Pen,
+}
+
+impl Parting {
+    /// Whether row q is on the active path.
+    fn shows(self, q: usize) -> bool
+        ensures { result ≡ (self.active && layout.is_row self.row q) }
+    {
+        self.active && is_row(self.row, q)
+    }
 }
 
 /// Whether a row is the one that is selected.
@@ -182,22 +190,24 @@ fn draw_row(
     ensures within { IfOk result (λ next. next.at ≤ length entries.now) }
     ensures left { IfOk result (λ next. (k : ℕ) (after : List Entry) (end : Fan) (all : List Shape) (all_ends : List RowEnd) → RowsAreLeft (seen_plan plan.now) parting.active parting.row parting.pen q (suc k) (drop done.at entries.now) after done.fan shapes.old.items ends.old.items end all all_ends → RowsAreLeft (seen_plan plan.now) parting.active parting.row parting.pen (suc q) k (drop next.at entries.now) after next.fan shapes.new.items ends.new.items end all all_ends) }
 {
-    if done.at < entries.len()
-        && let Entry::Row(span) = entries[done.at]
-    {
-        let end = span_end(entries, done.at, span);
-        let active = parting.active && is_row(parting.row, q);
-        draw_row_wire(active, parting.pen, done.fan, shapes)?;
-        let start = Pen::start_at(done.fan.x, done.fan.y)?;
-        let items = &entries[done.at + 1..end];
-        let pen = draw_items(alloc, plan, active, items, start, shapes)?;
-        ends.push(RowEnd { x: pen.x, y: pen.y })?;
-        return Ok(RowsDrawn {
-            at: end,
-            fan: done.fan.after_row(pen)?,
-        });
+    if entries.len() <= done.at {
+        return Ok(done);
     }
-    Ok(done)
+    match entries[done.at] {
+        Entry::Row(span) => {
+            let end = span_end(entries, done.at, span);
+            let active = parting.shows(q);
+            draw_row_wire(active, parting.pen, done.fan, shapes)?;
+            let start = Pen::start_at(done.fan.x, done.fan.y)?;
+            let items = &entries[done.at + 1..end];
+            let pen = draw_items(alloc, plan, active, items, start, shapes)?;
+            ends.push(RowEnd { x: pen.x, y: pen.y })?;
+            let fan = done.fan.after_row(pen)?;
+            Ok(RowsDrawn { at: end, fan })
+        }
+        Entry::Reg(_) => Ok(done),
+        Entry::Mux { .. } => Ok(done),
+    }
 }
 
 /// Where a row ends that begins at an index and spans so many entries.
@@ -205,7 +215,8 @@ fn span_end(entries: &[Entry], at: usize, span: usize) -> usize
     requires { at < length entries.now }
     ensures after { at < result }
     ensures within { result ≤ length entries.now }
-    ensures end { result ≡ min (at + 1 + span) (length entries.now) }
+    ensures part { take (result - (at + 1)) (drop (at + 1) entries.now) ≡ take span (drop (at + 1) entries.now) }
+    ensures rest { drop result entries.now ≡ drop span (drop (at + 1) entries.now) }
 {
     let left = entries.len() - at - 1;
     at + 1 + span.min(left)

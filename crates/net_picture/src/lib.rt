@@ -5,6 +5,7 @@ mod dot;
 mod draw;
 mod drawing;
 mod labels;
+mod laws;
 mod layout;
 mod met;
 mod numbers;
@@ -15,4 +16,5 @@ mod svg;
 mod texts;
 
 pub use dot::put_dot;
+pub use laws::picture_laws;
 pub use svg::put_svg;
