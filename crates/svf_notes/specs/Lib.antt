@@ -4,3 +4,5 @@ pub mod Explained
 pub mod Targets
 pub mod Left
 pub mod Places
+pub mod Laws
+pub mod Examples

@@ -103,25 +103,26 @@ fn add_command(
     add_note(alloc, playing, is_scan(command), rest, piece)
 }
 
-/// Writes a text with the notes that are left to a file that has been begun, and finishes it. After a refusal the file holds
-/// some first bytes.
+/// Writes a text with the notes that are left after a piece of a file's text, and finishes the file. After a refusal the file
+/// holds some first bytes.
 fn put_text<S: Shelf>(
     alloc: Global,
     playing: &mut Playing,
     src: &[u8],
     name: &str,
+    piece: SureSink,
     shelf: &mut S,
 ) -> Result<(), StoreFault>
     requires playing { IsPlaying playing.old }
     requires there { IsThere (S.files shelf.old) name.now }
     ensures there { OnOk result (IsThere (S.files shelf.new) name.now) }
-    ensures whole { OnOk result (Adds (told_bytes (S.files shelf.old) name.now) (told_bytes (S.files shelf.new) name.now) (explained.explained (left_notes playing.old) src.now)) }
-    ensures part { OnErr result ((text : Option (List ℕ)) × AddsPart (told_bytes (S.files shelf.old) name.now) text (explained.explained (left_notes playing.old) src.now) × HoldsFront (S.files shelf.new) name.now text) }
+    ensures whole { OnOk result (Adds (with_piece (S.files shelf.old) name.now piece) (told_bytes (S.files shelf.new) name.now) (explained.explained (left_notes playing.old) src.now)) }
+    ensures part { OnErr result ((text : Option (List ℕ)) × AddsPart (with_piece (S.files shelf.old) name.now piece) text (explained.explained (left_notes playing.old) src.now) × HoldsFront (S.files shelf.new) name.now text) }
     ensures others { OthersStay (S.files shelf.old) (S.files shelf.new) name.now }
     ensures cause { HasCauseAt name.now (S.store_faults shelf.old) (S.store_faults shelf.new) result StoreFault.Failed }
     ensures loads { SameCounts (S.load_faults shelf.old) (S.load_faults shelf.new) }
 {
-    let mut piece = SureSink::new(alloc);
+    let mut piece = piece;
     let mut rest = src;
     while let Some(next) = next_text(rest) {
         add_command(alloc, playing, next.piece, next.rest, &mut piece)?;
@@ -229,6 +230,7 @@ pub fn put_explained_file<S: Shelf>(
     ensures loads { SameCounts (S.load_faults shelf.old) (S.load_faults shelf.new) }
 {
     let mut playing = Playing::new(alloc, net, device, models, commands)?;
+    let piece = SureSink::new(alloc);
     shelf.begin(name)?;
-    put_text(alloc, &mut playing, src, name, shelf)
+    put_text(alloc, &mut playing, src, name, piece, shelf)
 }

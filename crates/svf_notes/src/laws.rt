@@ -1,5 +1,6 @@
 // What holds of all texts with notes.
 ghost use Rattle.svf_notes.specs.Explained.{ExplainedIsSame, SameCommands};
+ghost use Rattle.svf_notes.specs.Laws.{ScansCompare, ScansKeepTheirPath};
 
 /// Notes change no command: whatever they are, as long as none of their lines has a line feed, an SVF text has the same
 /// commands with them as without them (Serial Vector Format, revision E: comments).
@@ -10,4 +11,16 @@ pub fn commands_stay()
 /// A text that is explained has the commands that it had: names in a network have no line feed, so no note ends early.
 pub fn explained_commands_stay()
     ensures { ExplainedIsSame }
+{}
+
+/// What a play compares is what stands at the bits of its scans: the k-th bit of a scan is the compare at position k of the
+/// scan of this number, if there is one (Serial Vector Format, revision E: TDO, MASK).
+pub fn scans_compare()
+    ensures { ScansCompare }
+{}
+
+/// A scan has the number and the bits of its command, and goes through the path, and is selected by the instruction, that
+/// hold when its command begins: nothing is updated before its last bit is shifted (IEEE 1149.1-2013, clause 6).
+pub fn scans_keep_their_path()
+    ensures { ScansKeepTheirPath }
 {}
