@@ -140,6 +140,9 @@ class Layout:
         for ring, its in self.mine.items():
             while self.room(ring, narrow) < self.least[ring]:
                 narrow[min(its, key=narrow.__getitem__)] += 1
+        for k in range(len(narrow)):
+            while narrow[k] > 2 and all(self.room(ring, [it - (k == at) for at, it in enumerate(narrow)]) >= least for ring, least in self.least.items()):
+                narrow[k] -= 1
         ends = []
         for wide in range(len(narrow)):
             end = self.cost([it + max(0, WIDTH - 1 - sum(narrow)) * (k == wide) for k, it in enumerate(narrow)])

@@ -103,18 +103,25 @@ write_each k (suc n) = write (2 * k) 8 (0xA1 + k) ∷ write_each (suc k) n
 abbrev sibs : ℕ → List SeenStep → ℕ
 sibs n steps = least_clocks (network (sib_regs 0 n) (sib_muxes 0 n) (before n)) (sib_form 0 n) dev steps
 
--- two SIBs, one segment: 2 + 8 bits in the scan
-one_segment : sibs 2 (write 0 8 0xA1 ∷ []) ≡ 1 + 14 + 15
+-- two SIBs, one segment: 2 + 5 clocks for the first scan, 2 + 8 + 5 for the round's
+one_segment : sibs 2 (write 0 8 0xA1 ∷ []) ≡ 1 + 14 + 7 + 15
 one_segment = refl
 
 -- both segments in one round
-both_segments : sibs 2 (Apply (record { writes = writes 0 0 (bits_of 8 0xA1) ++ writes 2 0 (bits_of 8 0xA2); reads = [] } ∷ []) ∷ []) ≡ 1 + 14 + 23
+both_segments : sibs 2 (Apply (record { writes = writes 0 0 (bits_of 8 0xA1) ++ writes 2 0 (bits_of 8 0xA2); reads = [] } ∷ []) ∷ []) ≡ 1 + 14 + 7 + 23
 both_segments = refl
 
 -- one after the other, read back
-each_read : sibs 2 (write 0 8 0xA1 ∷ write 2 8 0xA2 ∷ read_first 0 ∷ []) ≡ 1 + 14 + 15 + 15 + 15
+each_read : sibs 2 (write 0 8 0xA1 ∷ write 2 8 0xA2 ∷ read_first 0 ∷ []) ≡ 1 + 14 + 7 + 15 + 15 + 15
 each_read = refl
 
--- twelve of them, one write each: 1 + 14, and twelve scans of 12 + 8 bits
-twelve : sibs 12 (write_each 0 12) ≡ 315
+-- a reset before the first scan changes nothing but its own clocks
+reset_before : sibs 2 (Reset ∷ write 0 8 0xA1 ∷ []) ≡ 1 + 5 + (1 + 14 + 7 + 15)
+reset_before = refl
+
+-- twelve of them, one write each: 1 + 14, 12 + 5 for the first scan, and twelve scans of 12 + 8 bits
+twelve : sibs 12 (write_each 0 12) ≡ 1 + 14 + 17 + 12 * 25
 twelve = refl
+
+in_all : sibs 12 (write_each 0 12) ≡ 332
+in_all = refl

@@ -3,3 +3,4 @@ pub mod Moving
 pub mod Passing
 pub mod Bounded
 pub mod Counted
+pub mod Examples

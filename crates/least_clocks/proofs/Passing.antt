@@ -16,7 +16,7 @@ use Rattle.net_tree.specs.Places.{place_of}
 use Rattle.path_planner.proofs.Among.{Among, among-cases, among-flat_back, contains_among, on_true, true_all}
 use Rattle.path_planner.proofs.Inside.{open_path, path_open}
 use Rattle.svf_audit.proofs.Telling.{any_of}
-use Rattle.least_clocks.specs.Inside.{same_branch, is_one_of, is_inside, bits_inside, path_bits}
+use Rattle.least_clocks.specs.Inside.{same_branch, is_one_of, is_inside, bits_along, bits_inside, path_bits}
 use Rattle.least_clocks.specs.Least.{rows_around}
 
 or_sum : (a b : Bool) (w : ℕ) → cond (a || b) w 0 ≤ cond a w 0 + cond b w 0
@@ -57,6 +57,10 @@ module _ (net : Net) where
   all_on : (path : List ℕ) (k : ℕ) → bits_on path k ≤ total path (widths net)
   all_on [] k = omega (arith, none_on k)
   all_on (x ∷ path) k = omega (arith, first_on x path k, at_most_once x k, all_on path k)
+
+pub along_is : (net : Net) (path : List ℕ) → bits_along net path ≡ total path (widths net)
+along_is net [] = refl
+along_is net (r ∷ rs) = ap (λ n. width_of net r + n) (along_is net rs)
 
 module _ (net : Net) (form : Items) (d : Describes net form) (holds : Holds) (path : List ℕ) (e : active net holds ≡ Some path) where
   abbrev pub AreOpen : (Branch → Bool) → Type 0

@@ -9,7 +9,7 @@ use Rattle.least_clocks.specs.Least.{State, least_from}
 
 -- the state of the definition
 abbrev pub state_of : Count → State
-state_of c = record { linked = c.linked; rest = c.rest; holds = c.holds }
+state_of c = record { fresh = c.fresh; linked = c.linked; rest = c.rest; holds = c.holds }
 
 -- what is counted, and what the work that is left takes
 abbrev pub in_all : Net → Items → Device → Count → List Work → ℕ

@@ -1,6 +1,6 @@
 -- What stands on every active path through some rows of multiplexers
 -- (IEEE 1687-2014: scan segments, ScanMux, segment insertion bits).
-use Rattle.std.specs.Prelude.{ℕ, zero, suc, ◌+◌, ◌==◌, ◌&&◌, Bool, cond, List, length}
+use Rattle.std.specs.Prelude.{ℕ, zero, suc, ◌+◌, ◌==◌, ◌&&◌, Bool, cond, List, [], ◌∷◌, length}
 use Rattle.std.specs.List.{list_all, list_any}
 use Rattle.net_graph.specs.declared.branch.Branch.{Branch}
 use Rattle.net_graph.specs.declared.net.Net.{Net}
@@ -29,3 +29,8 @@ bits_inside net form passed (suc r) =
 -- of all registers
 abbrev pub path_bits : Net → Items → (Branch → Bool) → ℕ
 path_bits net form passed = bits_inside net form passed (length net.regs.items)
+
+-- the bits of the registers of a path
+abbrev pub bits_along : Net → List ℕ → ℕ
+bits_along net [] = 0
+bits_along net (r ∷ rs) = width_of net r + bits_along net rs

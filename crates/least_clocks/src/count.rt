@@ -12,6 +12,7 @@ ghost use Rattle.svf_audit.specs.Work.{Group as GroupWork, Cycle, Reset as Reset
 ghost use Rattle.least_clocks.specs.Counting.{Counts, state_of};
 ghost use Rattle.least_clocks.specs.Least.{start, clocks_to_idle, clocks_to_link};
 
+use crate::first::scan_clocks;
 use crate::inside::path_bits;
 use crate::rows::passed_rows;
 use crate::work::{is_redundant, write_group};
@@ -24,6 +25,8 @@ use tap_machine::Stable;
 /// How far a count has come.
 #[derive(Drop)]
 pub(crate) struct Count {
+    /// Whether no data scan reached the network yet.
+    pub fresh: bool,
     /// Whether the link's instruction is in force.
     pub linked: bool,
     /// Where the TAP controller rests.
@@ -41,6 +44,7 @@ impl Count {
         ensures clocks { IfOk result (λ count. count.clocks ≡ 0) }
     {
         Ok(Count {
+            fresh: true,
             linked: false,
             rest: Stable::Reset,
             holds: Holds::power_up(alloc, net)?,
@@ -72,16 +76,17 @@ impl Count {
         self.linked = true;
     }
 
-    /// Takes a data scan of so many bits.
-    fn scan(&mut self, device: &Device, bits: u64)
+    /// Takes data scans of so many clocks.
+    fn scan(&mut self, device: &Device, clocks: u64)
         requires room { self.old.clocks < 2 ^ 63 }
-        requires few { bits ≤ 4096 * 2 ^ 32 }
-        ensures state { self.new ≡ record self.old { linked = true; rest = Stable.Idle; clocks = self.old.clocks + (clocks_to_idle self.old.rest + (clocks_to_link device.now self.old.linked + (bits + 5))) } }
-        ensures few { self.new.clocks ≤ self.old.clocks + 2 ^ 45 }
+        requires few { clocks ≤ 2 ^ 46 }
+        ensures state { self.new ≡ record self.old { fresh = false; linked = true; rest = Stable.Idle; clocks = self.old.clocks + (clocks_to_idle self.old.rest + (clocks_to_link device.now self.old.linked + clocks)) } }
+        ensures few { self.new.clocks ≤ self.old.clocks + 2 ^ 47 }
     {
         self.leave();
         self.link(device);
-        self.clocks += bits + 5;
+        self.clocks += clocks;
+        self.fresh = false;
     }
 
     /// Does a round.
@@ -98,14 +103,16 @@ impl Count {
         requires holds { AreHolds net.now self.old.holds }
         requires room { self.old.clocks < 2 ^ 63 }
         ensures counts { OnOk result (Counts net.now tree.now device.now (GroupWork (seen_group group.now) ∷ []) self.old self.new) }
-        ensures few { OnOk result (self.new.clocks ≤ self.old.clocks + 2 ^ 45) }
+        ensures few { OnOk result (self.new.clocks ≤ self.old.clocks + 2 ^ 47) }
         ensures holds { OnOk result (AreHolds net.now self.new.holds) }
     {
         if is_redundant(&self.holds, group) {
             return Ok(());
         }
         let rows = passed_rows(alloc, tree, &self.holds, group)?;
-        self.scan(device, path_bits(net, tree, rows.as_slice()));
+        let own = path_bits(net, tree, rows.as_slice()) + 5;
+        let clocks = scan_clocks(alloc, net, self.fresh, &self.holds, group, own)?;
+        self.scan(device, clocks);
         write_group(&mut self.holds, group);
         Ok(())
     }
@@ -122,9 +129,9 @@ impl Count {
         requires net { IsNet net.now }
         requires groups { All (IsGroup net.now) (map seen_group rounds.now) }
         requires holds { AreHolds net.now self.old.holds }
-        requires room { self.old.clocks + 2 ^ 45 * length rounds.now < 2 ^ 63 }
+        requires room { self.old.clocks + 2 ^ 47 * length rounds.now < 2 ^ 63 }
         ensures counts { OnOk result (Counts net.now tree.now device.now (map GroupWork (map seen_group rounds.now)) self.old self.new) }
-        ensures few { OnOk result (self.new.clocks ≤ self.old.clocks + 2 ^ 45 * length rounds.now) }
+        ensures few { OnOk result (self.new.clocks ≤ self.old.clocks + 2 ^ 47 * length rounds.now) }
         ensures holds { OnOk result (AreHolds net.now self.new.holds) }
     {
         for group in rounds {
@@ -173,9 +180,9 @@ impl Count {
         requires net { IsNet net.now }
         requires step { IsStep net.now (seen_step step.now) }
         requires holds { AreHolds net.now self.old.holds }
-        requires room { self.old.clocks + 2 ^ 45 * length (rounds_of (Some (seen_step step.now))) + 2 ^ 33 < 2 ^ 63 }
+        requires room { self.old.clocks + 2 ^ 47 * length (rounds_of (Some (seen_step step.now))) + 2 ^ 33 < 2 ^ 63 }
         ensures counts { OnOk result (Counts net.now tree.now device.now (work_of (seen_step step.now)) self.old self.new) }
-        ensures few { OnOk result (self.new.clocks ≤ self.old.clocks + 2 ^ 45 * length (rounds_of (Some (seen_step step.now))) + 2 ^ 33) }
+        ensures few { OnOk result (self.new.clocks ≤ self.old.clocks + 2 ^ 47 * length (rounds_of (Some (seen_step step.now))) + 2 ^ 33) }
         ensures holds { OnOk result (AreHolds net.now self.new.holds) }
     {
         match step {

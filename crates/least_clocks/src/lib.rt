@@ -2,13 +2,14 @@
 //! IEEE 1687-2014, PDL level 0; Serial Vector Format, revision E).
 //!
 //! Each round that changes a bit or reads one takes a scan of its own. Its registers are on the path of that scan, and so is
-//! each register around which no other row of a multiplexer stands. Rounds that change and read nothing, the ways between the
-//! others, and the rows that other multiplexers are in don't count.
+//! each register around which no other row of a multiplexer stands. The first scan since power-up goes along the path at
+//! power-up. What else opens the way to a round, and the rows that other multiplexers are in, don't count.
 #![tactic(auto)]
 
 ghost use Rattle.least_clocks.specs.Law.{NoneTakesFewer};
 
 mod count;
+mod first;
 mod inside;
 mod least;
 mod rows;

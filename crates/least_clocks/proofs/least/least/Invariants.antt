@@ -15,7 +15,7 @@ invariant-loop-count l = record {
   fault : l.steps.fault ≡ None;
   valid : All (IsStep l.net) l.steps.steps;
   holds : AreHolds l.net l.count.holds;
-  room : l.count.clocks + 2 ^ 45 * rounds_in l.steps.steps + 2 ^ 33 * length l.steps.steps ≤ 2 ^ 45 * 4096 + 2 ^ 33 * 100000;
+  room : l.count.clocks + 2 ^ 47 * rounds_in l.steps.steps + 2 ^ 33 * length l.steps.steps ≤ 2 ^ 47 * 4096 + 2 ^ 33 * 100000;
 }
 
 abbrev pub decreases-loop-count : goal.decreases-loop-count

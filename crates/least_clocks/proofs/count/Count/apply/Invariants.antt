@@ -11,6 +11,6 @@ invariant-loop-group l = record {
   counts : (left : List Work) →
       in_all l.net l.tree l.device l.self (map Group (map seen_group (drop l.group-index l.rounds)) ++ left)
       ≡ in_all l.net l.tree l.device l.fn.self (map Group (map seen_group l.rounds) ++ left);
-  few : l.self.clocks ≤ l.fn.self.clocks + 2 ^ 45 * l.group-index;
+  few : l.self.clocks ≤ l.fn.self.clocks + 2 ^ 47 * l.group-index;
   holds : AreHolds l.net l.self.holds;
 }
