@@ -47,7 +47,7 @@ pub fn ijtag_tools<S: Shelf, O: Sink, E: Sink>(
     ensures tightened { result ≡ Status.Good → IfSome (command_in words.now.items) (λ command.
         IfTightens command (λ t. IsTightened (S.files shelf.old) t (file_at (S.files shelf.new) t.svf))) }
 
-    // No SVF to which the audit says yes for the procedure takes fewer clocks than a tighten prints.
+    // No SVF to which the audit says yes for the procedure takes fewer clocks than its bound, which a tighten prints (by `done`).
     ensures bounded { result ≡ Status.Good → IfSome (command_in words.now.items) (λ command.
         IfTightens command (λ t. IsBounded (S.files shelf.old) t)) }
 
