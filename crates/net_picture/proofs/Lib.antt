@@ -3,3 +3,5 @@ mod Gathering
 mod Whole
 mod Areas
 mod Named
+mod Marking
+mod Lining
