@@ -1,4 +1,5 @@
 mod Walking
+mod Rooms
 mod Gathering
 mod Whole
 mod Areas

@@ -187,8 +187,8 @@ module _ (plan : Plan) where
         let ends : List RowEnd = row_ends plan f rows in
         let x : ℕ = funnel_at g part.values in
         let selected : ℕ = h.0.0 in
-        let row_is : Some selected ≡ part.row = sym h.0.1.0 in
-        let within : selected < row_count rows = h.0.1.1 in
+        let row_is : Some selected ≡ part.row = sym h.0.1 in
+        let within : selected < row_count rows = h.0.2 in
         let low : 0 ≤ selected = omega arith in
         let high : selected < 0 + row_count rows = omega (arith, within) in
         let t : Through selected here 0 f rows = rows_lead selected here 0 f rows low high h.1 in
@@ -238,13 +238,17 @@ module _ (plan : Plan) where
 
 -- ---- each multiplexer is in one of its rows
 
+within_of : (b : Bool) (k : ℕ) (rs : List Row) (bits : List Bool) (from p : Point) → (row_point rs bits ≡ Some p → (q : ℕ) × (row_from (suc k) rs bits ≡ Some q) × (q < suc k + length rs))
+    → elim b [ true ↦ Some from | false ↦ row_point rs bits ] ≡ Some p → (q : ℕ) × (elim b [ true ↦ Some k | false ↦ row_from (suc k) rs bits ] ≡ Some q) × (q < k + suc (length rs))
+within_of true k rs bits from p later e = (k, refl, omega arith)
+within_of false k rs bits from p later e =
+    let (q, is, less) = later e in
+    (q, is, omega (arith, less))
+
 row_within : (k : ℕ) (rs : List Row) (bits : List Bool) (p : Point) → row_point rs bits ≡ Some p → (q : ℕ) × (row_from k rs bits ≡ Some q) × (q < k + length rs)
 row_within k [] bits p e = absurd (none-some p e)
-row_within k (r ∷ rs) bits p e = tells (some_matches r.values.items bits) e
-  where
-    tells : (b : Bool) → elim b [ true ↦ Some r.from | false ↦ row_point rs bits ] ≡ Some p → (q : ℕ) × (elim b [ true ↦ Some k | false ↦ row_from (suc k) rs bits ] ≡ Some q) × (q < k + suc (length rs))
-    tells true h = (k, refl, omega arith)
-    tells false h = let (q, is, less) = row_within (suc k) rs bits p h in (q, is, omega (arith, less))
+row_within k (r ∷ rs) bits p e =
+    within_of (some_matches r.values.items bits) k rs bits r.from p (λ h. row_within (suc k) rs bits p h) e
 
 same_count : (net : Net) (p : Point) (rs : List Row) (rows : Rows) → AreWired net p rs rows → length rs ≡ row_count rows
 same_count net p [] NoRow w = refl

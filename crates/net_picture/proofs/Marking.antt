@@ -37,13 +37,16 @@ same_row q = ⊎_elim (λ same. same.0) (λ differ. absurd (differ.1 refl)) (eqb
 pub other_row : (k q : ℕ) → k < q → is_row (Some k) q ≡ false
 other_row k q less = ne_eqb k q (λ e. omega (arith, less, e))
 
+least_of : (b : Bool) (k : ℕ) (rs : List Row) (bits : List Bool) (q : ℕ) → (row_from (suc k) rs bits ≡ Some q → suc k ≤ q) → elim b [ true ↦ Some k | false ↦ row_from (suc k) rs bits ] ≡ Some q → k ≤ q
+least_of true k rs bits q later e =
+    let same : k ≡ q = same_Some k q e in
+    omega (arith, same)
+least_of false k rs bits q later e = omega (arith, later e)
+
 row_from_least : (k : ℕ) (rs : List Row) (bits : List Bool) (q : ℕ) → row_from k rs bits ≡ Some q → k ≤ q
 row_from_least k [] bits q e = absurd (none-some q e)
-row_from_least k (r ∷ rs) bits q e = tells (some_matches r.values.items bits) e
-  where
-    tells : (b : Bool) → elim b [ true ↦ Some k | false ↦ row_from (suc k) rs bits ] ≡ Some q → k ≤ q
-    tells true h = let same : k ≡ q = same_Some k q h in omega (arith, same)
-    tells false h = let later = row_from_least (suc k) rs bits q h in omega (arith, later)
+row_from_least k (r ∷ rs) bits q e =
+    least_of (some_matches r.values.items bits) k rs bits q (λ h. row_from_least (suc k) rs bits q h) e
 
 later_row : (k : ℕ) (rs : List Row) (bits : List Bool) (o : Option ℕ) → o ≡ row_from (suc k) rs bits → is_row o k ≡ false
 later_row k rs bits None e = refl
