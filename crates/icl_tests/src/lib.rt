@@ -18,6 +18,8 @@ mod mux_tests;
 mod nested_forms;
 #[cfg(test)]
 mod network_lists;
+#[cfg(test)]
+mod network_pictures;
 mod network_texts;
 #[cfg(test)]
 mod texts;

@@ -31,19 +31,22 @@ use Rattle.net_picture.proofs.Gathering.{IsOfThings, picked_register, picked_mux
 of_boxes : IsOfThings active_box_of
 of_boxes = record { values = λ m q x y. refl; wire = λ x y turn to_x to_y active. refl }
 
-same_row : (q : ℕ) → is_row (Some q) q ≡ true
+pub same_row : (q : ℕ) → is_row (Some q) q ≡ true
 same_row q = ⊎_elim (λ same. same.0) (λ differ. absurd (differ.1 refl)) (eqb_tells q q)
 
-other_row : (k q : ℕ) → k < q → is_row (Some k) q ≡ false
+pub other_row : (k q : ℕ) → k < q → is_row (Some k) q ≡ false
 other_row k q less = ne_eqb k q (λ e. omega (arith, less, e))
+
+least_of : (b : Bool) (k : ℕ) (rs : List Row) (bits : List Bool) (q : ℕ) → (row_from (suc k) rs bits ≡ Some q → suc k ≤ q) → elim b [ true ↦ Some k | false ↦ row_from (suc k) rs bits ] ≡ Some q → k ≤ q
+least_of true k rs bits q later e =
+    let same : k ≡ q = same_Some k q e in
+    omega (arith, same)
+least_of false k rs bits q later e = omega (arith, later e)
 
 row_from_least : (k : ℕ) (rs : List Row) (bits : List Bool) (q : ℕ) → row_from k rs bits ≡ Some q → k ≤ q
 row_from_least k [] bits q e = absurd (none-some q e)
-row_from_least k (r ∷ rs) bits q e = tells (some_matches r.values.items bits) e
-  where
-    tells : (b : Bool) → elim b [ true ↦ Some k | false ↦ row_from (suc k) rs bits ] ≡ Some q → k ≤ q
-    tells true h = let same : k ≡ q = same_Some k q h in omega (arith, same)
-    tells false h = let later = row_from_least (suc k) rs bits q h in omega (arith, later)
+row_from_least k (r ∷ rs) bits q e =
+    least_of (some_matches r.values.items bits) k rs bits q (λ h. row_from_least (suc k) rs bits q h) e
 
 later_row : (k : ℕ) (rs : List Row) (bits : List Bool) (o : Option ℕ) → o ≡ row_from (suc k) rs bits → is_row o k ≡ false
 later_row k rs bits None e = refl
@@ -102,6 +105,33 @@ module _ (plan : Plan) where
     meets_as : (xs ys met now : List ℕ) → xs ≡ ys → Meets ys met now → Meets xs met now
     meets_as xs ys met now e m = m ∙ ap (λ (zs : List ℕ). reverse zs ++ met) (sym e)
 
+    -- the first of some rows is selected, or one of the others is
+    on_row : (b : Bool) (row : Option ℕ) (p : Pen) (q : ℕ) (f : Fan) (rs : List Row) (bits : List Bool) (items : Items) (rest : Rows) (met now : List ℕ)
+        → (walk net holds items met ≡ Some now → Meets (active_boxes_in (drawn plan true (start_at f.x f.y) items)) met now)
+        → (row ≡ row_from (suc q) rs bits → walk_rows net holds bits rs rest met ≡ Some now → Meets (active_boxes_in (rows_drawn plan true row p (suc q) (after_row f (pen_after plan (start_at f.x f.y) items)) rest)) met now)
+        → row ≡ elim b [ true ↦ Some q | false ↦ row_from (suc q) rs bits ]
+        → elim b [ true ↦ walk net holds items met | false ↦ walk_rows net holds bits rs rest met ] ≡ Some now → Meets (active_boxes_in (rows_drawn plan true row p q f (RowThen items rest))) met now
+    on_row true row p q f rs bits items rest met now here there r e =
+        let start : Pen = start_at f.x f.y in
+        let next : Fan = after_row f (pen_after plan start items) in
+        let mine : List ℕ = active_boxes_in (drawn plan true start items) in
+        let less : q < suc q = omega arith in
+        let is_on : is_row row q ≡ true = ap (λ (o : Option ℕ). is_row o q) r ∙ same_row q in
+        let first : active_boxes_in (row_wire (is_row row q) p f ∷ drawn plan (is_row row q) start items) ≡ mine =
+        ap (λ (b : Bool). active_boxes_in (row_wire b p f ∷ drawn plan b start items)) is_on ∙ picked_row active_box_of of_boxes true p f (drawn plan true start items) in
+        let others : active_boxes_in (rows_drawn plan true row p (suc q) next rest) ≡ [] =
+        ap (λ (o : Option ℕ). active_boxes_in (rows_drawn plan true o p (suc q) next rest)) r ∙ off_after q p (suc q) next rest less in
+        meets_as (active_boxes_in (rows_drawn plan true row p q f (RowThen items rest))) mine met now
+        (picked_both active_box_of of_boxes (row_wire (is_row row q) p f ∷ drawn plan (is_row row q) start items) (rows_drawn plan true row p (suc q) next rest) mine [] first others ∙ append-nil mine)
+        (here e)
+    on_row false row p q f rs bits items rest met now here there r e =
+        let start : Pen = start_at f.x f.y in
+        let next : Fan = after_row f (pen_after plan start items) in
+        let others : List ℕ = active_boxes_in (rows_drawn plan true row p (suc q) next rest) in
+        meets_as (active_boxes_in (rows_drawn plan true row p q f (RowThen items rest))) others met now
+        (picked_both active_box_of of_boxes (row_wire (is_row row q) p f ∷ drawn plan (is_row row q) start items) (rows_drawn plan true row p (suc q) next rest) [] others (unselected row p q f items (later_row q rs bits row r)) refl)
+        (there r e)
+
     mutual
       on : (p : Pen) (items : Items) (met now : List ℕ) → IsRoute (length net.muxes.items) (muxes_in items) → walk net holds items met ≡ Some now → Meets (active_boxes_in (drawn plan true p items)) met now
       on p Nothing met now ms e = sym (same_Some met now e)
@@ -128,34 +158,15 @@ module _ (plan : Plan) where
       on_rows row p q f rs bits NoRow met now ms r e = absurd (none-some now e)
       on_rows row p q f [] bits (RowThen items rest) met now ms r e = absurd (none-some now e)
       on_rows row p q f (x ∷ rs) bits (RowThen items rest) met now ms r e =
-          on_row (some_matches x.values.items bits) row p q f rs bits items rest met now (IsRoute-front (length net.muxes.items) (muxes_in items) (muxes_in_rows rest) ms) (IsRoute-back (length net.muxes.items) (muxes_in items) (muxes_in_rows rest) ms) r e
-
-      on_row : (b : Bool) (row : Option ℕ) (p : Pen) (q : ℕ) (f : Fan) (rs : List Row) (bits : List Bool) (items : Items) (rest : Rows) (met now : List ℕ)
-          → IsRoute (length net.muxes.items) (muxes_in items) → IsRoute (length net.muxes.items) (muxes_in_rows rest) → row ≡ elim b [ true ↦ Some q | false ↦ row_from (suc q) rs bits ]
-          → elim b [ true ↦ walk net holds items met | false ↦ walk_rows net holds bits rs rest met ] ≡ Some now → Meets (active_boxes_in (rows_drawn plan true row p q f (RowThen items rest))) met now
-      on_row true row p q f rs bits items rest met now here there r e =
           let start : Pen = start_at f.x f.y in
           let next : Fan = after_row f (pen_after plan start items) in
-          let mine : List ℕ = active_boxes_in (drawn plan true start items) in
-          let less : q < suc q = omega arith in
-          let is_on : is_row row q ≡ true = ap (λ (o : Option ℕ). is_row o q) r ∙ same_row q in
-          let first : active_boxes_in (row_wire (is_row row q) p f ∷ drawn plan (is_row row q) start items) ≡ mine =
-          ap (λ (b : Bool). active_boxes_in (row_wire b p f ∷ drawn plan b start items)) is_on ∙ picked_row active_box_of of_boxes true p f (drawn plan true start items) in
-          let others : active_boxes_in (rows_drawn plan true row p (suc q) next rest) ≡ [] =
-          ap (λ (o : Option ℕ). active_boxes_in (rows_drawn plan true o p (suc q) next rest)) r ∙ off_after q p (suc q) next rest less in
-          meets_as (active_boxes_in (rows_drawn plan true row p q f (RowThen items rest))) mine met now
-          (picked_both active_box_of of_boxes (row_wire (is_row row q) p f ∷ drawn plan (is_row row q) start items) (rows_drawn plan true row p (suc q) next rest) mine [] first others ∙ append-nil mine)
-          (on start items met now here e)
-      on_row false row p q f rs bits items rest met now here there r e =
-          let start : Pen = start_at f.x f.y in
-          let next : Fan = after_row f (pen_after plan start items) in
-          let others : List ℕ = active_boxes_in (rows_drawn plan true row p (suc q) next rest) in
-          meets_as (active_boxes_in (rows_drawn plan true row p q f (RowThen items rest))) others met now
-          (picked_both active_box_of of_boxes (row_wire (is_row row q) p f ∷ drawn plan (is_row row q) start items) (rows_drawn plan true row p (suc q) next rest) [] others (unselected row p q f items (later_row q rs bits row r)) refl)
-          (on_rows row p (suc q) next rs bits rest met now there r e)
+          let inner = muxes_in items in
+          on_row (some_matches x.values.items bits) row p q f rs bits items rest met now
+          (λ w. on start items met now (IsRoute-front (length net.muxes.items) inner (muxes_in_rows rest) ms) w)
+          (λ o w. on_rows row p (suc q) next rs bits rest met now (IsRoute-back (length net.muxes.items) inner (muxes_in_rows rest) ms) o w) r e
 
 -- what a plan knows of a multiplexer
-row_known : (net : Net) (holds : Holds) (m : ℕ) → m < length net.muxes.items → (mux_of (plan_of net holds) m).row ≡ row_of net holds m
+pub row_known : (net : Net) (holds : Holds) (m : ℕ) → m < length net.muxes.items → (mux_of (plan_of net holds) m).row ≡ row_of net holds m
 row_known net holds m there =
     let at : 0 + m ≡ m = omega arith in
     ap (λ (x : MuxPlan). x.row) (get_or-map-range_with_len (mux_plan net holds) 0 (length net.muxes.items) m m (record { values = 0; name = 0; row = None }) there at)

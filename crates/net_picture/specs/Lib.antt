@@ -7,5 +7,7 @@ pub mod Drawing
 pub mod There
 pub mod Whole
 pub mod Apart
+pub mod Marked
+pub mod Line
 pub mod Svg
 pub mod Dot

@@ -195,7 +195,8 @@ pub(crate) fn values_room(alloc: Global, rows: &[Row]) -> Result<u64, OutOfMemor
 {
     let mut room = 10;
     for i in (0..rows.len()).rev() {
-        room = greater(row_room(alloc, &rows[i])?, room);
+        let here = row_room(alloc, &rows[i])?;
+        room = greater(here, room);
     }
     Ok(room)
 }

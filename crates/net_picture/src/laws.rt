@@ -1,12 +1,19 @@
 // What is proved of the definitions.
 ghost use Rattle.net_picture.specs.Apart.{DrawingsAreApart};
+ghost use Rattle.net_picture.specs.Line.{DrawingsAreLines};
+ghost use Rattle.net_picture.specs.Marked.{DrawingsAreMarked};
 ghost use Rattle.net_picture.specs.Whole.{DrawingsAreWhole};
 
 /// What is proved of every drawing: it carries no code, its clauses say what holds of the definitions.
 ///
 /// Each register has one box and each multiplexer one funnel (IEEE 1687-2014, ICL: `ScanRegister`, `ScanMux`). No two boxes or funnels
 /// share a point, and all lie in the view.
+///
+/// Where each multiplexer is in one of its rows, the boxes in colour are the registers of the active path, from scan-in to scan-out, and
+/// what is in colour is one line from TDI to TDO (IEEE 1687-2014: active scan path).
 pub fn picture_laws()
     ensures whole { DrawingsAreWhole }
     ensures apart { DrawingsAreApart }
+    ensures marked { DrawingsAreMarked }
+    ensures line { DrawingsAreLines }
 {}

@@ -59,7 +59,8 @@ fn boxes_of(alloc: Global, net: &Net) -> Result<Vec<u64>, OutOfMemory>
     let mut boxes = Vec::new(alloc);
     let count = register_count(net);
     for reg in 0..count {
-        boxes.push(box_width(alloc, net, reg)?)?;
+        let width = box_width(alloc, net, reg)?;
+        boxes.push(width)?;
     }
     Ok(boxes)
 }
@@ -89,7 +90,8 @@ fn mux_plans(alloc: Global, net: &Net, holds: &Holds) -> Result<Vec<MuxPlan>, Ou
 {
     let mut muxes = Vec::new(alloc);
     for mux in 0..net.muxes.len() {
-        muxes.push(mux_plan(alloc, net, holds, mux as u32)?)?;
+        let part = mux_plan(alloc, net, holds, mux as u32)?;
+        muxes.push(part)?;
     }
     Ok(muxes)
 }

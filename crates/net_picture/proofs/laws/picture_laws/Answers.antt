@@ -1,5 +1,7 @@
 use Rattle.net_picture.specs.Plan.{plan_of}
 use Rattle.net_picture.proofs.Areas.{form_apart}
+use Rattle.net_picture.proofs.Lining.{lines}
+use Rattle.net_picture.proofs.Marking.{marked}
 use Rattle.net_picture.proofs.Whole.{whole}
 use Rattle.net_picture.proofs.laws.picture_laws.Goals as goal
 
@@ -8,3 +10,9 @@ returns-clause-whole c net form holds d = whole net form holds d
 
 pub returns-clause-apart : goal.returns-clause-apart
 returns-clause-apart c net form holds = form_apart (plan_of net holds) form
+
+pub returns-clause-marked : goal.returns-clause-marked
+returns-clause-marked c net form holds d listed = marked net form holds d listed
+
+pub returns-clause-line : goal.returns-clause-line
+returns-clause-line c net form holds d listed = lines net form holds d listed

@@ -1,0 +1,42 @@
+-- Rooms of rows, and what stands before a point, one after the other.
+use Rattle.std.proofs.Common.{◌≡◌, ℕ, zero, suc, ◌+◌, ◌-◌, ◌<◌, List, [], ◌∷◌, ◌++◌, Option, Some, None, length, drop, get_or, refl, sym, ap, ◌∙◌, arith, append_assoc, append-nil}
+use Rattle.std.specs.Prelude.{max}
+use Rattle.std.proofs.Math.Seq.{drop-cons}
+use Rattle.net_graph.specs.declared.net.Net.{Net}
+use Rattle.net_graph.specs.declared.net.Point.{Point}
+use Rattle.net_graph.specs.declared.net.Row.{Row}
+use Rattle.net_graph.specs.Signals.{Holds}
+use Rattle.net_picture.specs.Dot.{before, met_from}
+use Rattle.net_picture.specs.Labels.{row_room, values_room}
+
+pub room_next : (rows : List Row) (j i : ℕ) (row : Row) (here room new : ℕ) → j < length rows → row ≡ get_or rows j row → i ≡ j + 1 → room ≡ values_room (drop i rows)
+    → here ≡ row_room row → new ≡ max here room → new ≡ values_room (drop j rows)
+room_next rows j i row here room new within is next before hi ni =
+    let after : i ≡ suc j = omega arith in
+    ni ∙ ap (λ (n : ℕ). max n room) hi ∙ ap (max (row_room row)) (before ∙ ap (λ (n : ℕ). values_room (drop n rows)) after)
+    ∙ ap (λ (x : Row). max (row_room x) (values_room (drop (suc j) rows))) is
+    ∙ sym (ap values_room (drop-cons rows j row within))
+
+-- a point is met
+pub met_next : (net : Net) (holds : Holds) (n m : ℕ) (p : Point) (now next : Option Point) (old new all : List Point) → n ≡ suc m → now ≡ Some p → next ≡ before net holds p → new ≡ old ++ p ∷ []
+    → old ++ met_from net holds n now ≡ all → new ++ met_from net holds m next ≡ all
+met_next net holds n m p now next old new all more is ni added left =
+    ap (λ (xs : List Point). xs ++ met_from net holds m next) added
+    ∙ append_assoc old (p ∷ []) (met_from net holds m next)
+    ∙ ap (λ (o : Option Point). old ++ (p ∷ met_from net holds m o)) ni
+    ∙ sym (ap (λ (o : Option Point). old ++ met_from net holds (suc m) o) is)
+    ∙ sym (ap (λ (k : ℕ). old ++ met_from net holds k now) more) ∙ left
+
+-- nothing more is met
+none_met : (net : Net) (holds : Holds) (n : ℕ) → met_from net holds n None ≡ []
+none_met net holds zero = refl
+none_met net holds (suc n) = refl
+
+pub met_none : (net : Net) (holds : Holds) (n m : ℕ) (now : Option Point) (old all : List Point) → now ≡ None → old ++ met_from net holds n now ≡ all → old ++ met_from net holds m now ≡ all
+met_none net holds n m now old all is left =
+    ap (λ (o : Option Point). old ++ met_from net holds m o) is ∙ ap (λ (xs : List Point). old ++ xs) (none_met net holds m ∙ sym (none_met net holds n))
+    ∙ sym (ap (λ (o : Option Point). old ++ met_from net holds n o) is) ∙ left
+
+pub met_done : (net : Net) (holds : Holds) (n : ℕ) (now : Option Point) (old all : List Point) → n ≡ 0 → old ++ met_from net holds n now ≡ all → old ≡ all
+met_done net holds n now old all none left =
+    sym (append-nil old) ∙ sym (ap (λ (k : ℕ). old ++ met_from net holds k now) none) ∙ left
