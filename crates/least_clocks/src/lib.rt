@@ -19,7 +19,7 @@ pub use least::least;
 
 /// The law of fewest clocks: it carries no code, its clause says what is proved of the definitions.
 ///
-/// On any well formed network with its nested form: whatever commands can be played and are such that the audit says yes of
+/// On any network with its nested form: whatever commands can be played and are such that the audit says yes of
 /// them for a procedure's bit steps, whoever wrote them, they take as many clocks of TCK as [`least`] answers, or more. So
 /// commands that take no more than that can't be bettered.
 ///
