@@ -8,14 +8,14 @@
 
 ghost use Rattle.least_clocks.specs.Law.{NoneTakesFewer};
 
+mod bound;
 mod count;
 mod first;
 mod inside;
-mod least;
 mod rows;
 mod work;
 
-pub use least::least;
+pub use bound::least;
 
 /// The law of fewest clocks: it carries no code, its clause says what is proved of the definitions.
 ///
