@@ -1,9 +1,9 @@
 -- No commands of which an audit says yes take fewer clocks, command by command.
-use Rattle.std.proofs.Common.{◌≡◌, ⊎_elim, ℕ, zero, suc, ◌+◌, ◌<◌, ◌≤◌, Bool, true, false, List, [], ◌∷◌, ◌++◌, length, Option, Some, None, refl, sym, ap, ◌∙◌, subst, arith}
-use Rattle.std.specs.Prelude.{All, Contains, map, cond, filter, not, ◌&&◌, ◌==◌, Result, Ok, Err, unwrap_or}
+use Rattle.std.proofs.Common.{◌≡◌, ⊎_elim, ℕ, suc, ◌+◌, ◌≤◌, Bool, true, false, List, [], ◌∷◌, ◌++◌, length, Option, Some, None, refl, sym, ap, ◌∙◌, subst, arith}
+use Rattle.std.specs.Prelude.{All, Contains, cond, filter, not, ◌&&◌, ◌==◌, Result, Ok, Err, unwrap_or}
 use Rattle.std.specs.Option.{is_some}
 use Rattle.std.specs.List.{list_all, list_any}
-use Rattle.std.proofs.lemmas.Bool.{true≢false, cases_Bool, and_parts, eqb-true, not-true}
+use Rattle.std.proofs.lemmas.Bool.{true≢false, and_parts, eqb-true, not-true}
 use Rattle.std.proofs.lemmas.List.Elements.{All-head, All-tail}
 use Rattle.std.proofs.lemmas.Option.{none-some}
 use Rattle.ij_bits.specs.BitLists.{bit, bits_eq, bits_of, same_bit}
@@ -16,11 +16,10 @@ use Rattle.net_graph.specs.Chain.{NotIn, chain, put_chain}
 use Rattle.net_graph.specs.Path.{active, route_of, is_in}
 use Rattle.net_graph.specs.Resets.{reset_holds, start_holds, zero_holds}
 use Rattle.net_graph.specs.SeenSteps.{SeenGroup, SeenStep}
-use Rattle.net_graph.specs.Signals.{Holds, bits_at, hold_at}
+use Rattle.net_graph.specs.Signals.{Holds, bits_at}
 use Rattle.net_graph.specs.Steps.{IsStep}
 use Rattle.net_graph.specs.Writes.{write_all}
 use Rattle.net_graph.proofs.Chains.{put_chain_off}
-use Rattle.net_graph.proofs.DataBits.{SameData}
 use Rattle.net_graph.proofs.Resetting.{reset_twice}
 use Rattle.net_graph.proofs.Shapes.{shape, widths, total, length-chain, put_chain-shape, reset-shape}
 use Rattle.net_graph.proofs.Widths.{started_held}
@@ -37,7 +36,7 @@ use Rattle.tap_machine.specs.Play.{after_scan, played, is_empty, scans_in}
 use Rattle.tap_machine.proofs.Clocks.{pins_are_clocks}
 use Rattle.svf_audit.specs.declared.answer.Cause.{Cause}
 use Rattle.svf_audit.specs.declared.answer.Cause.TheVariants.{End}
-use Rattle.svf_audit.specs.Audit.{State as AuditState, Reading, Yes, No, at_end, audit_from, changed as changed_on, does_writes, does_reads, is_written, note, scanned, was_reset as audit_reset, reset, step, has_row, load, pass, scan, do_group, start as audit_start}
+use Rattle.svf_audit.specs.Audit.{State as AuditState, Reading, Yes, No, audit_from, changed as changed_on, does_writes, does_reads, is_written, note, scanned, was_reset as audit_reset, reset, step, has_row, load, pass, scan, do_group, start as audit_start}
 use Rattle.svf_audit.specs.Auditing.{FitsNext, last_dr, last_ir}
 use Rattle.svf_audit.specs.Work.{Work, Group, Cycle, Reset, due, group_first, behind_reset, behind_cycles, has_value}
 use Rattle.svf_audit.proofs.Changing.{none_changed, writes_done}
@@ -376,5 +375,5 @@ module _ (net : Net) (form : Items) (device : Device) (d : Describes net form) w
       bounded cs (audit_start net device steps) true None None readings (record { fits = started_held net (start_holds net) refl; work = steps_work net steps valid; stays = λ r. reset_twice net (zero_holds net); first = λ z. refl }) (λ m q. absurd (true≢false (sym (ap is_some q)))) (λ m q. absurd (true≢false (sym (ap is_some q)))) fit e
 
 pub none_takes_fewer : NoneTakesFewer
-none_takes_fewer net form device steps commands readings w d valid fit e =
+none_takes_fewer net form device steps commands readings d valid fit e =
     omega (arith, from_start net form device d steps commands readings valid fit e, pins_are_clocks commands InReset 0 fit)

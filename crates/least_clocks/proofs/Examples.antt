@@ -10,10 +10,9 @@ use Rattle.net_graph.specs.declared.net.Point.{Point}
 use Rattle.net_graph.specs.declared.net.Point.TheVariants.{Entry, Reg as FromReg, Mux as FromMux}
 use Rattle.net_graph.specs.declared.net.Reg.{Reg}
 use Rattle.net_graph.specs.declared.net.Row.{Row}
-use Rattle.net_graph.specs.declared.step.ReadBit.{ReadBit}
 use Rattle.net_graph.specs.declared.step.WriteBit.{WriteBit}
 use Rattle.net_graph.specs.OneRegister.{plain_register}
-use Rattle.net_graph.specs.SeenSteps.{SeenGroup, SeenStep, Apply, Run, Reset}
+use Rattle.net_graph.specs.SeenSteps.{SeenStep, Apply, Run, Reset}
 use Rattle.net_tree.specs.Form.{Items, Nothing, RegThen, MuxThen, NoRow, RowThen}
 use Rattle.least_clocks.specs.Least.{least_clocks}
 

@@ -1,9 +1,9 @@
 -- The clocks of work from a state on: what the state and the work have to do with them.
-use Rattle.std.proofs.Common.{◌≡◌, ⊎_elim, ℕ, zero, suc, ◌+◌, ◌≤◌, Bool, true, false, List, [], ◌∷◌, ◌++◌, Option, Some, None, refl, sym, ap, ◌∙◌, subst, arith}
+use Rattle.std.proofs.Common.{◌≡◌, ⊎_elim, ℕ, zero, suc, ◌+◌, ◌≤◌, Bool, true, false, List, [], ◌∷◌, ◌++◌, Some, None, refl, sym, ap, ◌∙◌, subst, arith}
 use Rattle.std.specs.Prelude.{All, map, not, ◌&&◌, filter, cond}
 use Rattle.std.specs.List.{list_all}
-use Rattle.std.proofs.lemmas.Bool.{true≢false, cases_Bool}
-use Rattle.std.proofs.lemmas.List.Elements.{All-nil, All-cons, All-head, All-tail, All-weaker}
+use Rattle.std.proofs.lemmas.Bool.{cases_Bool}
+use Rattle.std.proofs.lemmas.List.Elements.{All-head, All-tail, All-weaker}
 use Rattle.std.proofs.lemmas.Option.{none-some}
 use Rattle.ij_bits.specs.BitLists.{same_bit}
 use Rattle.ij_bits.proofs.Lists.{then_some}
@@ -14,7 +14,7 @@ use Rattle.net_graph.specs.declared.step.WriteBit.{WriteBit}
 use Rattle.net_graph.specs.Path.{is_in}
 use Rattle.net_graph.specs.Resets.{reset_holds}
 use Rattle.net_graph.specs.SeenSteps.{SeenGroup}
-use Rattle.net_graph.specs.Signals.{Holds, hold_at}
+use Rattle.net_graph.specs.Signals.{Holds}
 use Rattle.net_graph.specs.Steps.{IsDataBit, IsGroup}
 use Rattle.net_graph.specs.Writes.{write_all}
 use Rattle.net_graph.proofs.DataBits.{SameData, write_same, reset_same}

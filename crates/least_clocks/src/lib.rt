@@ -8,18 +8,18 @@
 
 ghost use Rattle.least_clocks.specs.Law.{NoneTakesFewer};
 
+mod bound;
 mod count;
 mod first;
 mod inside;
-mod least;
 mod rows;
 mod work;
 
-pub use least::least;
+pub use bound::least;
 
 /// The law of fewest clocks: it carries no code, its clause says what is proved of the definitions.
 ///
-/// On any well formed network with its nested form: whatever commands can be played and are such that the audit says yes of
+/// On any network with its nested form: whatever commands can be played and are such that the audit says yes of
 /// them for a procedure's bit steps, whoever wrote them, they take as many clocks of TCK as [`least`] answers, or more. So
 /// commands that take no more than that can't be bettered.
 ///

@@ -1,5 +1,5 @@
-use Rattle.std.proofs.Common.{◌≡◌, drop, map}
-use Rattle.std.specs.Prelude.{◌||◌, not, filter}
+use Rattle.std.proofs.Common.{◌≡◌, drop}
+use Rattle.std.specs.Prelude.{◌||◌}
 use Rattle.net_graph.specs.declared.branch.Branch.{Branch}
 use Rattle.least_clocks.specs.Inside.{is_one_of}
 use Rattle.least_clocks.proofs.Adding.{changed_rows}

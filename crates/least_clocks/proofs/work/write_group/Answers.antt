@@ -1,6 +1,5 @@
 use Rattle.std.proofs.Common.{◌+◌, ◌∙◌, ap, subst, sym}
 use Rattle.std.specs.Prelude.{All, drop}
-use Rattle.net_graph.specs.declared.step.WriteBit.{WriteBit}
 use Rattle.net_graph.specs.Held.{IsHeld}
 use Rattle.net_graph.specs.Writes.{write_all}
 use Rattle.net_graph.proofs.Widths.{held_same, next_widths}

@@ -1,4 +1,4 @@
-use Rattle.std.proofs.Common.{◌≡◌, ◌+◌, List, ap, sym, ◌∙◌}
+use Rattle.std.proofs.Common.{◌+◌, List, ap, sym, ◌∙◌}
 use Rattle.net_graph.specs.declared.branch.Branch.{Branch}
 use Rattle.net_graph.specs.SeenSteps.{seen_group}
 use Rattle.net_graph.proofs.Shapes.{shape}

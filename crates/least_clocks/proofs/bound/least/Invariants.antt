@@ -7,7 +7,7 @@ use Rattle.pdl_targets.specs.Laws.{rounds_in}
 use Rattle.svf_audit.specs.Work.{all_work}
 use Rattle.least_clocks.specs.Counting.{in_all}
 use Rattle.least_clocks.specs.Least.{least_clocks}
-use Rattle.least_clocks.proofs.least.least.Given as goal
+use Rattle.least_clocks.proofs.bound.least.Given as goal
 
 abbrev pub invariant-loop-count : goal.invariant-loop-count
 invariant-loop-count l = record {
