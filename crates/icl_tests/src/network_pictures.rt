@@ -86,7 +86,8 @@ fn a_drawing_has_the_active_path_on_top(rt: HostRuntime) -> Result<(), Fail> {
     Ok(())
 }
 
-const GRAPH: &str = "digraph net {\n  rankdir=LR;\n  node [shape=box, fontname=\"monospace\", fontsize=10];\n  edge [fontname=\"monospace\", fontsize=9];\n  tdi [label=\"TDI\", shape=cds];\n  tdo [label=\"TDO\", shape=cds];\n  r0 [label=\"net.R\", style=filled, fillcolor=\"#ffb3b3\", color=\"#e00000\", penwidth=3];\n  r1 [label=\"net.S\", color=\"#d55e00\", penwidth=3];\n  m0 [label=\"net.m\", shape=trapezium, orientation=270, color=\"#d55e00\", penwidth=3];\n  tdi -> r0 [color=\"#868e96\"];\n  m0 -> r1 [color=\"#d55e00\", penwidth=3];\n  tdi -> m0 [label=\"0\", color=\"#d55e00\", penwidth=3];\n  r0 -> m0 [label=\"1\", color=\"#868e96\"];\n  r1 -> m0 [style=dashed, color=\"#868e96\", constraint=false];\n  r1 -> tdo [color=\"#d55e00\", penwidth=3];\n}\n";
+const GRAPH: &str =
+    "digraph net {\n  rankdir=LR;\n  node [shape=box, fontname=\"monospace\", fontsize=10];\n  edge [fontname=\"monospace\", fontsize=9];\n  tdi [label=\"TDI\", shape=cds];\n  tdo [label=\"TDO\", shape=cds];\n  r0 [label=\"net.R\", style=filled, fillcolor=\"#ffb3b3\", color=\"#e00000\", penwidth=3];\n  r1 [label=\"net.S\", color=\"#d55e00\", penwidth=3];\n  m0 [label=\"net.m\", shape=trapezium, orientation=270, color=\"#d55e00\", penwidth=3];\n  tdi -> r0 [color=\"#868e96\"];\n  m0 -> r1 [color=\"#d55e00\", penwidth=3];\n  tdi -> m0 [label=\"0\", color=\"#d55e00\", penwidth=3];\n  r0 -> m0 [label=\"1\", color=\"#868e96\"];\n  r1 -> m0 [style=dashed, color=\"#868e96\", constraint=false];\n  r1 -> tdo [color=\"#d55e00\", penwidth=3];\n}\n";
 
 #[test]
 fn a_graph_has_each_source_and_what_is_marked(rt: HostRuntime) -> Result<(), Fail> {

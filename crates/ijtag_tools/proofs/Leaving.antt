@@ -31,8 +31,8 @@ module _ (name : List ℕ) (it : SeenAccepted) (t : Tightened) (is : Found it t)
     t.svf,
     is.tight,
     ap (λ (c : Cost). left_of name t.svf c (seen_cost t.before) t.least) is.takes
-    ∙ ap (λ (c : Cost). left_of name t.svf (cost_of is.tight.commands) c t.least) is.took
-    ∙ ap (left_of name t.svf (cost_of is.tight.commands) (cost_of is.tight.before)) is.least,
+        ∙ ap (λ (c : Cost). left_of name t.svf (cost_of is.tight.commands) c t.least) is.took
+        ∙ ap (left_of name t.svf (cost_of is.tight.commands) (cost_of is.tight.before)) is.least,
   )
 
   pub can : (leaves : Leaves) × (tightened name it).gives leaves

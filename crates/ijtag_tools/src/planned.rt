@@ -162,13 +162,7 @@ fn least_of(alloc: Global, it: &Accepted) -> Result<u64, OutOfMemory>
     bit_steps_are_few();
     let network = &it.network;
     let mut steps = steps_again(alloc, network, it.procedure())?;
-    let told = least(
-        alloc,
-        &network.net,
-        &network.form,
-        &it.device,
-        &mut steps,
-    );
+    let told = least(alloc, &network.net, &network.form, &it.device, &mut steps);
     drop(steps);
     told
 }

@@ -17,12 +17,7 @@ use std::alloc::Global;
 
 /// Prints what commands take, what those of a compile take, and the clocks that any take at least.
 #[tactic(auto, unfolding(ij_io::specs::Words::words_text, crate::specs::Order::cost_line))]
-fn put_costs<O: Sink>(
-    now: Cost,
-    before: Cost,
-    least: u64,
-    out: &mut O,
-) -> Result<(), StoreFault>
+fn put_costs<O: Sink>(now: Cost, before: Cost, least: u64, out: &mut O) -> Result<(), StoreFault>
     ensures printed { OnOk result (Adds (O.taken out.old) (O.taken out.new) (cost_line (seen_cost now) (seen_cost before) least)) }
     ensures part { OnErr result (AddsPart (O.taken out.old) (O.taken out.new) (cost_line (seen_cost now) (seen_cost before) least)) }
     ensures cause { HasCause (O.faults out.old) (O.faults out.new) result StoreFault.Failed }

@@ -166,7 +166,12 @@ fn put_row_list<K: Sink>(
 
 /// Writes the select values of the rows of a mux, each row on a line in text. The refusals are those of the sink, which then took
 /// some first bytes.
-pub fn put_rows<K: Sink>(format: ListFormat, net: &Net, mux: u32, k: &mut K) -> Result<(), StoreFault>
+pub fn put_rows<K: Sink>(
+    format: ListFormat,
+    net: &Net,
+    mux: u32,
+    k: &mut K,
+) -> Result<(), StoreFault>
     requires well_formed { IsNet net.now }
     requires there { mux < length net.now.muxes.items }
     ensures whole { OnOk result (Adds (K.taken k.old) (K.taken k.new) (lines.rows_text format net.now mux)) }

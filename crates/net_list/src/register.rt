@@ -116,7 +116,12 @@ pub fn put_selected<K: Sink>(
 }
 
 /// Writes how many bits a register has. The refusals are those of the sink, which then took some first bytes.
-pub fn put_width<K: Sink>(format: ListFormat, net: &Net, reg: u32, k: &mut K) -> Result<(), StoreFault>
+pub fn put_width<K: Sink>(
+    format: ListFormat,
+    net: &Net,
+    reg: u32,
+    k: &mut K,
+) -> Result<(), StoreFault>
     requires { reg < length net.now.regs.items }
     ensures whole { OnOk result (Adds (K.taken k.old) (K.taken k.new) (lines.width_text format net.now reg)) }
     ensures part { OnErr result (AddsPart (K.taken k.old) (K.taken k.new) (lines.width_text format net.now reg)) }

@@ -46,7 +46,7 @@ goes_on_then p q r a b = record {
   down = omega (arith, a.down, b.down);
   bottom = omega (arith, a.bottom, b.bottom);
   on = elim a.on [
-    inl s ↦ elim b.on [ inl t ↦ inl (s.0 ∙ t.0, omega (arith, s.1, t.1)) | inr t ↦ inr (omega (arith, a.bottom, t)) ]
+    | inl s ↦ elim b.on [ inl t ↦ inl (s.0 ∙ t.0, omega (arith, s.1, t.1)) | inr t ↦ inr (omega (arith, a.bottom, t)) ]
     | inr s ↦ inr (omega (arith, s, b.down))
   ];
 }
@@ -69,7 +69,7 @@ starts_before p q g a s = record {
   left = omega (arith, g.left, s.left);
   top = omega (arith, g.down, s.top);
   after = elim g.on [
-    inl same ↦ elim s.after [ inl x ↦ inl (omega (arith, same.1, x)) | inr y ↦ inr (omega (arith, g.bottom, y)) ]
+    | inl same ↦ elim s.after [ inl x ↦ inl (omega (arith, same.1, x)) | inr y ↦ inr (omega (arith, g.bottom, y)) ]
     | inr below ↦ inr (omega (arith, below, s.top))
   ];
 }
@@ -79,7 +79,7 @@ ends_after p q g a e = record {
   right = omega (arith, g.right, e.right);
   bottom = omega (arith, g.bottom, e.bottom);
   before = elim g.on [
-    inl same ↦ elim e.before [ inl x ↦ inl (omega (arith, same.1, x)) | inr y ↦ inr (omega (arith, same.0, y)) ]
+    | inl same ↦ elim e.before [ inl x ↦ inl (omega (arith, same.1, x)) | inr y ↦ inr (omega (arith, same.0, y)) ]
     | inr below ↦ inr (omega (arith, below, e.bottom))
   ];
 }
@@ -93,7 +93,7 @@ above a b h x y s t = omega (arith, h, s.to_bottom, t.from_top)
 
 parted : (p : Pen) (a b : Area) → EndsAt p a → StartsAt p b → SharesNone a b
 parted p a b e s = elim e.before [
-  inl x ↦ elim s.after [ inl z ↦ left_of a b (omega (arith, x, z)) | inr z ↦ above a b (omega (arith, e.bottom, z)) ]
+  | inl x ↦ elim s.after [ inl z ↦ left_of a b (omega (arith, x, z)) | inr z ↦ above a b (omega (arith, e.bottom, z)) ]
   | inr y ↦ above a b (omega (arith, y, s.top))
 ]
 
@@ -128,7 +128,7 @@ fits_then p q r xs bs a b = record {
 -- the next line
 ready_fits : (p : Pen) → IsPen p → Fits p (ready p) []
 ready_fits p h = elim (is_full p) as (λ (b : Bool). Fits p (cond b (next_line p) p) []) [
-  true ↦ record {
+  | true ↦ record {
     goes = record { left = refl; right = omega arith; down = omega (arith, h.deep); bottom = omega arith; on = inr (omega arith) };
     pen = record { below = omega (arith, h.below, h.deep); line = omega arith; within = omega (arith, h.line, h.within); deep = omega arith };
     starts = All-nil (StartsAt p);

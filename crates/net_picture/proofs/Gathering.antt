@@ -36,7 +36,7 @@ module _ {T : Type 0} (f : Shape → List T) (k : IsOfThings f) where
 
   turn : (active : Bool) (p : Pen) → flat_map f (turn_back active p) ≡ []
   turn active p = elim (is_full p) as (λ (b : Bool). flat_map f (cond b (Wire p.x p.y (p.x + 9) p.left (p.bottom + 4) active ∷ Wire p.left (p.bottom + 4) p.left p.left (p.bottom + 30) active ∷ []) []) ≡ []) [
-    true ↦ first (Wire p.x p.y (p.x + 9) p.left (p.bottom + 4) active) (Wire p.left (p.bottom + 4) p.left p.left (p.bottom + 30) active ∷ []) (k.wire p.x p.y (p.x + 9) p.left (p.bottom + 4) active)
+    | true ↦ first (Wire p.x p.y (p.x + 9) p.left (p.bottom + 4) active) (Wire p.left (p.bottom + 4) p.left p.left (p.bottom + 30) active ∷ []) (k.wire p.x p.y (p.x + 9) p.left (p.bottom + 4) active)
         ∙ first (Wire p.left (p.bottom + 4) p.left p.left (p.bottom + 30) active) [] (k.wire p.left (p.bottom + 4) p.left p.left (p.bottom + 30) active)
     | false ↦ refl
   ]

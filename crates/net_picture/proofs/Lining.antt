@@ -62,7 +62,7 @@ none_after x y to_x to_y xs ys none a =
 
 off_turn : (p : Pen) → leads_in (turn_back false p) ≡ []
 off_turn p = elim (is_full p) as (λ (b : Bool). leads_in (cond b (Wire p.x p.y (p.x + 9) p.left (p.bottom + 4) false ∷ Wire p.left (p.bottom + 4) p.left p.left (p.bottom + 30) false ∷ []) []) ≡ []) [
-  true ↦ refl
+  | true ↦ refl
   | false ↦ refl
 ]
 
@@ -140,7 +140,7 @@ closes_after k m q x y (e ∷ es) less =
 
 turn_leads : (p : Pen) → Leads p.x p.y (turn_back true p) (ready p).x (ready p).y
 turn_leads p = elim (is_full p) as (λ (b : Bool). Leads p.x p.y (cond b (Wire p.x p.y (p.x + 9) p.left (p.bottom + 4) true ∷ Wire p.left (p.bottom + 4) p.left p.left (p.bottom + 30) true ∷ []) []) (cond b (next_line p) p).x (cond b (next_line p) p).y) [
-  true ↦ (refl, refl, (refl, refl, (refl, refl)))
+  | true ↦ (refl, refl, (refl, refl, (refl, refl)))
   | false ↦ (refl, refl)
 ]
 
@@ -215,25 +215,25 @@ module _ (plan : Plan) where
         let first : List Shape = row_wire on p f ∷ drawn plan on start items in
         ⊎_elim
         (λ same.
-            let is_on : true ≡ on = sym same.0 in
-            let less : k < suc q = omega (arith, same.1) in
-            let mine : Leads (p.x + 18) p.y (row_wire true p f ∷ drawn plan true start items) e.x e.y = (refl, refl, items_lead start items h.0) in
-            record {
-              end = spot;
-              inside = none_after (p.x + 18) p.y e.x e.y first others (off_after plan k p (suc q) next rest less)
-                  (subst (λ (b : Bool). Leads (p.x + 18) p.y (row_wire b p f ∷ drawn plan b start items) e.x e.y) is_on mine);
-              out = λ m x y. none_after e.x e.y (x + 14) y (row_close on true m q x y spot) (row_closes true (Some k) m (suc q) x y (row_ends plan next rest)) (closes_after k m (suc q) x y (row_ends plan next rest) less)
-                  (subst (λ (b : Bool). Leads e.x e.y (row_close b true m q x y spot) (x + 14) y) is_on (refl, refl, (refl, refl, (refl, refl))));
-            })
+        let is_on : true ≡ on = sym same.0 in
+        let less : k < suc q = omega (arith, same.1) in
+        let mine : Leads (p.x + 18) p.y (row_wire true p f ∷ drawn plan true start items) e.x e.y = (refl, refl, items_lead start items h.0) in
+        record {
+          end = spot;
+          inside = none_after (p.x + 18) p.y e.x e.y first others (off_after plan k p (suc q) next rest less)
+              (subst (λ (b : Bool). Leads (p.x + 18) p.y (row_wire b p f ∷ drawn plan b start items) e.x e.y) is_on mine);
+          out = λ m x y. none_after e.x e.y (x + 14) y (row_close on true m q x y spot) (row_closes true (Some k) m (suc q) x y (row_ends plan next rest)) (closes_after k m (suc q) x y (row_ends plan next rest) less)
+              (subst (λ (b : Bool). Leads e.x e.y (row_close b true m q x y spot) (x + 14) y) is_on (refl, refl, (refl, refl, (refl, refl))));
+        })
         (λ differ.
-            let more : suc q ≤ k = omega (arith, low, differ.1) in
-            let most : k < suc q + row_count rest = omega (arith, high) in
-            let t : Through k p (suc q) next rest = rows_lead k p (suc q) next rest more most h.1 in
-            record {
-              end = t.end;
-              inside = none_before (p.x + 18) p.y t.end.x t.end.y first others (off_row plan on p f items differ.0) t.inside;
-              out = λ m x y. none_before t.end.x t.end.y (x + 14) y (row_close on true m q x y spot) (row_closes true (Some k) m (suc q) x y (row_ends plan next rest)) (close_off on m q x y spot differ.0) (t.out m x y);
-            })
+        let more : suc q ≤ k = omega (arith, low, differ.1) in
+        let most : k < suc q + row_count rest = omega (arith, high) in
+        let t : Through k p (suc q) next rest = rows_lead k p (suc q) next rest more most h.1 in
+        record {
+          end = t.end;
+          inside = none_before (p.x + 18) p.y t.end.x t.end.y first others (off_row plan on p f items differ.0) t.inside;
+          out = λ m x y. none_before t.end.x t.end.y (x + 14) y (row_close on true m q x y spot) (row_closes true (Some k) m (suc q) x y (row_ends plan next rest)) (close_off on m q x y spot differ.0) (t.out m x y);
+        })
         (eqb_tells k q)
 
 -- ---- each multiplexer is in one of its rows

@@ -29,7 +29,7 @@ module _ (net : Net) where
 
   turns : (active : Bool) (p : Pen) → All P (turn_back active p)
   turns active p = elim (is_full p) as (λ (b : Bool). All P (cond b (Wire p.x p.y (p.x + 9) p.left (p.bottom + 4) active ∷ Wire p.left (p.bottom + 4) p.left p.left (p.bottom + 30) active ∷ []) [])) [
-    true ↦ All-cons P (Wire p.x p.y (p.x + 9) p.left (p.bottom + 4) active) (Wire p.left (p.bottom + 4) p.left p.left (p.bottom + 30) active ∷ []) tt (one_wire p.left (p.bottom + 4) p.left p.left (p.bottom + 30) active)
+    | true ↦ All-cons P (Wire p.x p.y (p.x + 9) p.left (p.bottom + 4) active) (Wire p.left (p.bottom + 4) p.left p.left (p.bottom + 30) active ∷ []) tt (one_wire p.left (p.bottom + 4) p.left p.left (p.bottom + 30) active)
     | false ↦ All-nil P
   ]
 

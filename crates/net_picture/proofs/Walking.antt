@@ -139,7 +139,7 @@ module _ (plan : Plan) (active : Bool) (row : Option ℕ) (from : Pen) where
       let goes : g ≡ after_row f last = gi ∙ ap (after_row f) here in
       let new : List Shape = row_wire on from f ∷ drawn plan on first items in
       let added : more ≡ shapes ++ new = drew.1 ∙ ap (λ (x : Pen). wired ++ drawn plan on x items) si ∙ ap (λ (xs : List Shape). xs ++ drawn plan on first items) wi
-          ∙ append_assoc shapes (row_wire on from f ∷ []) (drawn plan on first items) in
+      ∙ append_assoc shapes (row_wire on from f ∷ []) (drawn plan on first items) in
       let spot : RowEnd = record { x = last.x; y = last.y } in
       let noted : ended ≡ ends ++ spot ∷ [] = ei ∙ ap (λ (x : Pen). ends ++ record { x = x.x; y = x.y } ∷ []) here in
       record {
@@ -236,7 +236,8 @@ mux_done plan active p m rows pen q part f g s0 s1 s2 s3 none ends now pi ti wi 
     ap (λ (x : MuxPlan). rows_drawn plan active x.row pen 0 f rows) ti ∙ ap (λ (x : Pen). rows_drawn plan active known.row x 0 f rows) pi ∙ ap (λ (x : Fan). rows_drawn plan active known.row from 0 x rows) fan_is in
     let close_is : mux_close active part m pen g now ≡ C =
     ap (λ (x : MuxPlan). mux_close active x m pen g now) ti ∙ ap (λ (x : Pen). mux_close active known m x g now) pi
-    ∙ ap (λ (x : Fan). mux_close active known m from x now) last_is ∙ ap (mux_close active known m from last) ends_are in
-    (qi ∙ ap (λ (x : MuxPlan). after_mux pen g x.values x.name) ti ∙ ap (λ (x : Pen). after_mux x g known.values known.name) pi ∙ ap (λ (x : Fan). after_mux from x known.values known.name) last_is,
-    ci ∙ ap (λ (xs : List Shape). s2 ++ xs) close_is ∙ ap (λ (xs : List Shape). xs ++ C) (ri ∙ ap (λ (xs : List Shape). s1 ++ xs) rows_are ∙ ap (λ (xs : List Shape). xs ++ R) wi)
-    ∙ append_assoc (s0 ++ W) R C ∙ append_assoc s0 W (R ++ C))
+    ∙ ap (λ (x : Fan). mux_close active known m from x now) last_is ∙ ap (mux_close active known m from last) ends_are in (
+      qi ∙ ap (λ (x : MuxPlan). after_mux pen g x.values x.name) ti ∙ ap (λ (x : Pen). after_mux x g known.values known.name) pi ∙ ap (λ (x : Fan). after_mux from x known.values known.name) last_is,
+      ci ∙ ap (λ (xs : List Shape). s2 ++ xs) close_is ∙ ap (λ (xs : List Shape). xs ++ C) (ri ∙ ap (λ (xs : List Shape). s1 ++ xs) rows_are ∙ ap (λ (xs : List Shape). xs ++ R) wi)
+          ∙ append_assoc (s0 ++ W) R C ∙ append_assoc s0 W (R ++ C),
+    )

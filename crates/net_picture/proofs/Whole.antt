@@ -181,6 +181,7 @@ pub whole : (net : Net) (form : Items) (holds : Holds) → Describes net form
 whole net form holds d =
     let plan = plan_of net holds in
     let boxes : registers_in form ≡ boxes_in (drawing_of net holds form).shapes = sym (whole_form box_of_shape one none boxes_pick plan form ∙ boxes_are form) in
-    let funnels : after form ≡ funnels_in (drawing_of net holds form).shapes = sym (whole_form funnel_of_shape none one funnels_pick plan form) in
-    (subst (IsEachOnce (length net.regs.items)) boxes d.registers,
-    subst (IsEachOnce (length net.muxes.items)) funnels (record { different = route (length net.muxes.items) form d.muxes.different; count = count form ∙ d.muxes.count }))
+    let funnels : after form ≡ funnels_in (drawing_of net holds form).shapes = sym (whole_form funnel_of_shape none one funnels_pick plan form) in (
+      subst (IsEachOnce (length net.regs.items)) boxes d.registers,
+      subst (IsEachOnce (length net.muxes.items)) funnels (record { different = route (length net.muxes.items) form d.muxes.different; count = count form ∙ d.muxes.count }),
+    )

@@ -398,7 +398,9 @@ fn put_head<K: Sink>(k: &mut K) -> Result<(), StoreFault>
     ensures part { OnErr result (AddsPart (K.taken k.old) (K.taken k.new) (dot.dot_head)) }
     ensures cause { HasCause (K.faults k.old) (K.faults k.new) result StoreFault.Failed }
 {
-    k.write(b"digraph net {\n  rankdir=LR;\n  node [shape=box, fontname=\"monospace\", fontsize=10];\n  edge [fontname=\"monospace\", fontsize=9];\n  tdi [label=\"TDI\", shape=cds];\n  tdo [label=\"TDO\", shape=cds];\n")
+    k.write(
+        b"digraph net {\n  rankdir=LR;\n  node [shape=box, fontname=\"monospace\", fontsize=10];\n  edge [fontname=\"monospace\", fontsize=9];\n  tdi [label=\"TDI\", shape=cds];\n  tdo [label=\"TDO\", shape=cds];\n",
+    )
 }
 
 /// Writes a network as a graph, with what is met and what is marked.

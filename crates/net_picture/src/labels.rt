@@ -88,11 +88,7 @@ fn put_range_if<K: Sink>(net: &Net, reg: u32, k: &mut K) -> Result<(), StoreFaul
 }
 
 /// Writes the path of a register, with its range.
-pub(crate) fn put_register_label<K: Sink>(
-    net: &Net,
-    reg: u32,
-    k: &mut K,
-) -> Result<(), StoreFault>
+pub(crate) fn put_register_label<K: Sink>(net: &Net, reg: u32, k: &mut K) -> Result<(), StoreFault>
     requires well_formed { IsNet net.now }
     requires there { reg < length net.now.regs.items }
     ensures whole { OnOk result (Adds (K.taken k.old) (K.taken k.new) (labels.register_label net.now reg)) }

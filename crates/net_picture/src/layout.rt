@@ -141,7 +141,9 @@ fn draw_mux(
         at: done.at + 1,
         fan: pen.fan()?,
     };
-    let drawn = draw_rows(alloc, plan, parting, count, entries, begun, shapes, &mut ends)?;
+    let drawn = draw_rows(
+        alloc, plan, parting, count, entries, begun, shapes, &mut ends,
+    )?;
     close_mux(part, active, mux, pen, drawn.fan, &ends, shapes)?;
     Ok(ItemsDrawn {
         at: drawn.at,

@@ -234,12 +234,7 @@ fn put_wire<K: Sink>(
 }
 
 /// Writes a shape.
-fn put_shape<K: Sink>(
-    alloc: Global,
-    net: &Net,
-    shape: Shape,
-    k: &mut K,
-) -> Result<(), StoreFault>
+fn put_shape<K: Sink>(alloc: Global, net: &Net, shape: Shape, k: &mut K) -> Result<(), StoreFault>
     requires well_formed { IsNet net.now }
     requires there { IsShapeOf net.now shape }
     ensures whole { OnOk result (Adds (K.taken k.old) (K.taken k.new) (svg.shape_text net.now shape)) }
@@ -321,7 +316,9 @@ fn put_style<K: Sink>(k: &mut K) -> Result<(), StoreFault>
     ensures part { OnErr result (AddsPart (K.taken k.old) (K.taken k.new) svg.style_text) }
     ensures cause { HasCause (K.faults k.old) (K.faults k.new) result StoreFault.Failed }
 {
-    k.write(b"<style>text{fill:#212529}.p{fill:#fff}.w{fill:none;stroke-linecap:square}.w,.b,.f{stroke:#868e96;stroke-width:1.5}.b{fill:#f8f9fa}.f{fill:#e7f0f8}.w.a,.b.a,.f.a{stroke:#d55e00;stroke-width:3}.b.a{fill:#fff1e0}.n{text-anchor:middle}.v{font-size:9px;text-anchor:end}.m{font-size:9px}@media(prefers-color-scheme:dark){text{fill:#e6edf3}.p{fill:#0d1117}.w,.b,.f{stroke:#8b949e}.b{fill:#161b22}.f{fill:#10263d}.w.a,.b.a,.f.a{stroke:#ff9e4a}.b.a{fill:#3d2410}}</style>\n")
+    k.write(
+        b"<style>text{fill:#212529}.p{fill:#fff}.w{fill:none;stroke-linecap:square}.w,.b,.f{stroke:#868e96;stroke-width:1.5}.b{fill:#f8f9fa}.f{fill:#e7f0f8}.w.a,.b.a,.f.a{stroke:#d55e00;stroke-width:3}.b.a{fill:#fff1e0}.n{text-anchor:middle}.v{font-size:9px;text-anchor:end}.m{font-size:9px}@media(prefers-color-scheme:dark){text{fill:#e6edf3}.p{fill:#0d1117}.w,.b,.f{stroke:#8b949e}.b{fill:#161b22}.f{fill:#10263d}.w.a,.b.a,.f.a{stroke:#ff9e4a}.b.a{fill:#3d2410}}</style>\n",
+    )
 }
 
 /// Writes the size of the view.
@@ -353,7 +350,9 @@ fn put_ends<K: Sink>(x: u64, y: u64, k: &mut K) -> Result<(), StoreFault>
     ensures cause { HasCause (K.faults k.old) (K.faults k.new) result StoreFault.Failed }
 {
     let words = [
-        Word::Text(b"<rect class=\"p\" width=\"100%\" height=\"100%\"/>\n<text x=\"20\" y=\"40\">TDI</text>\n<text x=\""),
+        Word::Text(
+            b"<rect class=\"p\" width=\"100%\" height=\"100%\"/>\n<text x=\"20\" y=\"40\">TDI</text>\n<text x=\"",
+        ),
         Word::Number(x),
         Word::Text(b"\" y=\""),
         Word::Number(y),

@@ -29,6 +29,7 @@ next_is notes text command rest cut whole = cases (texts_some (plain rest)).0 (t
   where
     scans = is_scan (words (plain command))
     left = notes_left scans notes
+
     cases : (u : List ℕ) (us : List (List ℕ)) → texts (plain rest) ≡ u ∷ us → with_notes (texts (plain text)) notes text ≡ (command ++ 59 ∷ [] ++ note_at scans notes rest) ++ with_notes (texts (plain rest)) left rest
     cases u us is =
         let n = suc (length command) in

@@ -115,10 +115,10 @@ draw_mux-returns-clause-drawn t c rows after e count =
     let shapes = c.draw_wire_to.new.shapes.items in
     let none = c.new-ends.result.items in
     let done = no_row_left plan c.args.active part.row pen c.args.count (drop c.in_ok-drawn.drawn.at c.args.entries.now) after c.in_ok-drawn.drawn.fan (fan_after plan f rows) c.draw_rows.new.shapes.items (shapes ++ rows_drawn plan c.args.active part.row pen 0 f rows) c.draw_rows.new.ends.items (none ++ row_ends plan f rows)
-        (c.in_ok-drawn.ensures.left after (fan_after plan f rows) (shapes ++ rows_drawn plan c.args.active part.row pen 0 f rows) (none ++ row_ends plan f rows)
-        (all_rows plan c.args.active part.row pen rows c.args.count (drop (c.args.done.at + 1) c.args.entries.now) after f shapes none e count)) in
+    (c.in_ok-drawn.ensures.left after (fan_after plan f rows) (shapes ++ rows_drawn plan c.args.active part.row pen 0 f rows) (none ++ row_ends plan f rows)
+    (all_rows plan c.args.active part.row pen rows c.args.count (drop (c.args.done.at + 1) c.args.entries.now) after f shapes none e count)) in
     let both = mux_done plan c.args.active c.args.done.pen c.args.mux rows pen c.in_ok-after_mux.field-0 part f c.in_ok-drawn.drawn.fan c.args.shapes.now.items shapes c.draw_rows.new.shapes.items c.close_mux.new.shapes.items none c.draw_rows.new.ends.items c.deref.result.now
-        c.in_ok-pen.ensures.pen c.mux_of-part.ensures c.in_ok-pen.ensures.shapes c.in_ok-fan.ensures c.new-ends.ensures.items done.1 done.2 done.3 c.deref.ensures.value c.in_ok-close_mux.ensures c.in_ok-after_mux.ensures in
+    c.in_ok-pen.ensures.pen c.mux_of-part.ensures c.in_ok-pen.ensures.shapes c.in_ok-fan.ensures c.new-ends.ensures.items done.1 done.2 done.3 c.deref.ensures.value c.in_ok-close_mux.ensures c.in_ok-after_mux.ensures in
     (done.0, both.0, both.1)
 
 pub draw_rows-loop-q-preserved : goal.draw_rows-loop-q-preserved
