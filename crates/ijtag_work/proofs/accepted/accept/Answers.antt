@@ -1,9 +1,9 @@
 use Rattle.std.specs.Prelude.{Err}
-use Rattle.std.proofs.Common.{◌≡◌, rules, sym, subst}
+use Rattle.std.proofs.Common.{◌≡◌, ◌∙◌, rules, sym, subst}
 use Rattle.ijtag_stages.specs.Follows.{Follows}
 use Rattle.ijtag_work.specs.Accepted.{Texts, accepted}
-use Rattle.ijtag_work.specs.Using.{seen_accepted, seen_named}
-use Rattle.ijtag_work.proofs.Accepting.{svf_refused, network_refused, fit_refused, procedure_refused}
+use Rattle.ijtag_work.specs.Using.{IsShort, seen_accepted, seen_named}
+use Rattle.ijtag_work.proofs.Accepting.{all_given, if_mapped, there_mapped, svf_refused, network_refused, fit_refused, procedure_refused}
 use Rattle.ijtag_work.proofs.accepted.accept.Goals as goal
 
 pub returns-in_err-commands-clause-follows : goal.returns-in_err-commands-clause-follows
@@ -36,3 +36,27 @@ returns-in_err-procedure-clause-follows c =
     subst (Follows (accepted t) seen_accepted) (sym is)
     (procedure_refused t _ c.in_ok-modules.ensures.follows _ c.in_ok-device.ensures.follows _ c.in_ok-tables.ensures.follows
     _ c.in_ok-commands.ensures.follows _ c.in_ok-network.ensures.follows _ c.in_ok-models.ensures.follows c.in_err-procedure.field-0.0 c.in_err-procedure.ensures.follows)
+
+pub returns-clause-follows : goal.returns-clause-follows
+returns-clause-follows c =
+    all_given (seen_named c.args.texts.now) _ c.in_ok-modules.ensures.follows _ c.in_ok-device.ensures.follows _ c.in_ok-tables.ensures.follows
+    _ c.in_ok-commands.ensures.follows _ c.in_ok-network.ensures.follows _ c.in_ok-models.ensures.follows _ c.in_ok-procedure.ensures.follows
+
+pub returns-clause-can : goal.returns-clause-can
+returns-clause-can c =
+    let texts = c.args.texts.now in
+    record {
+      usable = record {
+        nested = c.in_ok-network.ensures.nested;
+        device = c.in_ok-device.ensures.valid;
+        models = c.in_ok-models.ensures.models;
+        short = if_mapped _ IsShort texts.svf c.requires.svf;
+        read = c.in_ok-commands.ensures.read;
+        commands = c.in_ok-commands.ensures.playable;
+        procedure = c.in_ok-procedure.ensures.ends;
+      };
+      models = c.in_ok-models.ensures.given ∙ (c.in_ok-tables.ensures.given ∙ sym (there_mapped _ texts.tables));
+      svf = sym (there_mapped _ texts.svf);
+      commands = c.in_ok-commands.ensures.given ∙ sym (there_mapped _ texts.svf);
+      procedure = c.in_ok-procedure.ensures.given ∙ sym (there_mapped _ texts.pdl);
+    }
