@@ -1,6 +1,7 @@
 -- What a play compares, scan by scan; and what stays while a scan is shifted.
 use Rattle.std.proofs.Common.{◌≡◌, ℕ, zero, suc, ◌+◌, ◌<◌, Bool, true, false, cond, Option, Some, None, List, [], ◌∷◌, ◌++◌, length, take, drop, map, get_or, refl, ap, sym, ◌∙◌, subst, arith, append_assoc, append-nil}
-use Rattle.std.specs.Prelude.{replicate}
+use Rattle.std.specs.Prelude.{◌==◌, replicate}
+use Rattle.std.proofs.lemmas.Bool.Decides.{nat_tests}
 use Rattle.std.specs.List.{flat_map}
 use Rattle.instruments.specs.declared.Counts.{Counts}
 use Rattle.svf_writer.specs.SeenCommands.{SeenCommand, SeenScan, SIR, SDR, Reset, Idle, Run}
@@ -9,9 +10,9 @@ use Rattle.tap_machine.specs.declared.Stable.{Stable}
 use Rattle.tap_machine.specs.declared.Stable.TheVariants.{Reset as InReset, Idle as InIdle}
 use Rattle.tap_machine.specs.Play.{LastScan, Played, after_scan, is_empty, no_shift, no_scan, pins_with, played, sdr_pins, shifts, sir_pins, to_idle}
 use Rattle.net_bench.specs.Bench.{Chip, State, clock, tdo}
-use Rattle.net_bench.specs.Playing.{after_pins, compares, resting}
+use Rattle.net_bench.specs.Playing.{after_pins, compare_of, compares, resting}
 use Rattle.svf_notes.specs.declared.scan.Shifted.{Shifted}
-use Rattle.svf_notes.specs.Scans.{Scan, scans_of}
+use Rattle.svf_notes.specs.Scans.{Scan, led_by, scans_of}
 use Rattle.svf_notes.specs.Laws.{bit_compares, compares_in, ScansCompare}
 
 -- pins that shift nothing
@@ -40,6 +41,9 @@ module _ (chip : Chip Counts) where
   quiet_compares [] ps s quiet = refl
   quiet_compares (q ∷ qs) ps s quiet = rw quiet.1 (quiet_compares qs ps (clock chip q.tms q.tdi s) quiet.2)
 
+  not_none : (n : ℕ) → (suc n == 0) ≡ false
+  not_none n = grind (arith, nat_tests)
+
   -- the bits of the shift clocks
   abbrev pub shifted_bits : List Bool → List (Option Bool) → State Counts → List Shifted
   shifted_bits [] es s = []
@@ -48,14 +52,26 @@ module _ (chip : Chip Counts) where
 
   pub shifts_scan : (n k : ℕ) (t : Bool) (ts : List Bool) (es : List (Option Bool)) (ps : List Pins) (s : State Counts)
       → scans_of chip (shifts (suc n) k (t ∷ ts) es ++ ps) s ≡ record { number = suc n; bits = shifted_bits (t ∷ ts) es s; state = after_pins chip (shifts (suc n) k (t ∷ ts) es) s } ∷ scans_of chip ps (after_pins chip (shifts (suc n) k (t ∷ ts) es) s)
-  shifts_scan n k t [] es ps s = refl
-  shifts_scan n k t (u ∷ us) es ps s = rw (shifts_scan n (suc k) u us (drop 1 es) ps (clock chip false t s)) refl
+  shifts_scan n k t [] es ps s =
+      let after = clock chip true t s in
+      let b : Shifted = record { tdi = t; expect = get_or es 0 None; found = tdo chip s } in
+      ap (λ (i : Bool). cond i (scans_of chip ps after) (let x : Scan Counts = record { number = suc n; bits = b ∷ []; state = after } in x ∷ scans_of chip ps after)) (not_none n)
+  shifts_scan n k t (u ∷ us) es ps s =
+      let after = clock chip false t s in
+      let b : Shifted = record { tdi = t; expect = get_or es 0 None; found = tdo chip s } in
+      let later = scans_of chip (shifts (suc n) (suc k) (u ∷ us) (drop 1 es) ++ ps) after in
+      ap (λ (i : Bool). cond i later (led_by b later)) (not_none n)
+      ∙ ap (led_by b) (shifts_scan n (suc k) u us (drop 1 es) ps after)
 
   shifts_compare : (n k : ℕ) (ts : List Bool) (es : List (Option Bool)) (ps : List Pins) (s : State Counts)
       → compares chip (shifts n k ts es ++ ps) s ≡ bit_compares n k (shifted_bits ts es s) ++ compares chip ps (after_pins chip (shifts n k ts es) s)
   shifts_compare n k [] es ps s = refl
   shifts_compare n k (t ∷ ts) es ps s =
-      rw (shifts_compare n (suc k) ts (drop 1 es) ps (clock chip (is_empty ts) t s)) (sym (append_assoc _ _ _))
+      let after = clock chip (is_empty ts) t s in
+      let here = compare_of (get_or es 0 None) n k (tdo chip s) in
+      let bits = bit_compares n (suc k) (shifted_bits ts (drop 1 es) after) in
+      let rest = compares chip ps (after_pins chip (shifts n (suc k) ts (drop 1 es)) after) in
+      ap (λ l. here ++ l) (shifts_compare n (suc k) ts (drop 1 es) ps after) ∙ sym (append_assoc here bits rest)
 
   -- the scans of some pins compare what these compare
   abbrev Compared : List Pins → Type 0
@@ -82,7 +98,7 @@ module _ (chip : Chip Counts) where
       (after_quiet (map no_shift front) (middle ++ (last ++ ps)) (quiet_map front) (after_shifts n p.tdi p.expects (last ++ ps) (after_quiet last ps (quiet_map (true ∷ false ∷ [])) is)))
 
   commands_compare : (cs : List SeenCommand) (ir dr : LastScan) (from : Stable) (scans : ℕ) → Compared (pins_with ir dr from scans cs)
-  commands_compare [] ir dr from scans s = refl
+  commands_compare [] ir dr from scans = λ s. refl
   commands_compare (SIR x ∷ cs) ir dr from scans =
       let rest = pins_with (after_scan ir x) dr InIdle (suc scans) cs in
       after_quiet (to_idle from) (sir_pins (suc scans) (played ir x) ++ rest) (quiet_idle from)

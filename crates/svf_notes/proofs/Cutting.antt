@@ -79,11 +79,11 @@ cut_after inside b bs t u us h eh e more = elim (no_end h b) [ inl other ↦ wit
         }
 
     at_end : h ≡ false → b ≡ 59 → IsCut inside (b ∷ bs) t (u ∷ us)
-    at_end no is =
-        let whole : [] ∷ texts (plain bs) ≡ t ∷ u ∷ us = sym (ap (λ (x : ℕ). texts (x ∷ plain bs)) is) ∙ ap (λ (k : Bool). texts (cond k 32 b ∷ plain_from k bs)) (sym no) ∙ e in
+    at_end shown_here is =
+        let whole : [] ∷ texts (plain bs) ≡ t ∷ u ∷ us = sym (ap (λ (x : ℕ). texts (x ∷ plain bs)) is) ∙ ap (λ (k : Bool). texts (cond k 32 b ∷ plain_from k bs)) (sym shown_here) ∙ e in
         let none : t ≡ [] = cc in
         let later : texts (plain bs) ≡ u ∷ us = cc in
-        let outside : in_comment inside 59 (first bs) ≡ false = ap (λ (x : ℕ). in_comment inside x (first bs)) (sym is) ∙ eh ∙ no in
+        let outside : in_comment inside 59 (first bs) ≡ false = ap (λ (x : ℕ). in_comment inside x (first bs)) (sym is) ∙ eh ∙ shown_here in
         record {
           rest = ap (λ (v : List ℕ). texts (plain (drop (suc (length v)) (b ∷ bs)))) none ∙ later;
           any = λ xs.

@@ -1,5 +1,6 @@
 pub mod Compared
 pub mod Cutting
+pub mod Filing
 pub mod Kept
 pub mod OnLine
 pub mod Same

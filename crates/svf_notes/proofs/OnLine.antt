@@ -18,6 +18,7 @@ use Rattle.net_graph.specs.declared.net.Node.{Node}
 use Rattle.net_graph.specs.declared.net.Thing.{Thing}
 use Rattle.net_graph.specs.Named.{thing_of}
 use Rattle.net_graph.specs.Nets.{IsNet, IsThing}
+use Rattle.net_graph.specs.Path.{route_of}
 use Rattle.net_graph.specs.PathNames.{node_names, thing_path, with_dot}
 use Rattle.net_graph.specs.Signals.{Holds, bits_at}
 use Rattle.report.specs.Paths.{register_path}
@@ -28,7 +29,7 @@ use Rattle.svf_notes.specs.declared.scan.Shifted.{Shifted}
 use Rattle.svf_notes.specs.declared.scan.Shown.{Shown}
 use Rattle.svf_notes.specs.declared.scan.Shown.TheVariants.{Written, Expected, Found}
 use Rattle.svf_notes.specs.Scans.{Scan}
-use Rattle.svf_notes.specs.Notes.{Target, Instruction, Data, digit_of, digits, differs, first_line, hex_digits, instruction_text, is_compared, if_compared, expected_digit, note_of, number_text, other_length, path_text, path_length, positions_text, range_text, row, rows, rows_if, selected_name, target, target_rows, target_text, tdi_bits, values_text}
+use Rattle.svf_notes.specs.Notes.{Target, Instruction, Data, digit_of, digits, differs, first_line, hex_digits, instruction_text, opcode_text, is_compared, if_compared, expected_digit, note_of, number_text, other_length, path_text, path_length, positions_text, range_text, row, rows, rows_if, selected_name, target, target_rows, target_text, tdi_bits, values_text}
 
 -- ---- bytes
 
@@ -215,12 +216,16 @@ other_on register bits len on =
     both_on_line (codes " has ") (decimal bits ++ (codes " bits, the " ++ (register ++ decimal len))) (by_test (codes " has ") refl)
     (both_on_line (decimal bits) (codes " bits, the " ++ (register ++ decimal len)) (decimal_on bits) the)
 
-instruction_on : (device : Device) (bits : List Bool) → IsOnLine (instruction_text device bits)
-instruction_on device bits =
+opcode_on : (device : Device) (bits : List Bool) → IsOnLine (opcode_text device bits)
+opcode_on device bits =
     let n = (length bits + 3) / 4 in
     let s = selected_name (selected device bits) in
-    either_on (length bits == device.ir) (codes " instruction " ++ (hex_digits bits n ++ s)) (other_length (codes "instruction register ") (length bits) device.ir)
-    (both_on_line (codes " instruction ") (hex_digits bits n ++ s) (by_test (codes " instruction ") refl) (both_on_line (hex_digits bits n) s (hex_on bits n) (selected_on (selected device bits))))
+    both_on_line (codes " instruction ") (hex_digits bits n ++ s) (by_test (codes " instruction ") refl) (both_on_line (hex_digits bits n) s (hex_on bits n) (selected_on (selected device bits)))
+
+instruction_on : (device : Device) (bits : List Shifted) → IsOnLine (instruction_text device bits)
+instruction_on device bits =
+    either_on (length bits == device.ir) (opcode_text device (tdi_bits bits)) (other_length (codes "instruction register ") (length bits) device.ir)
+    (opcode_on device (tdi_bits bits))
     (other_on (codes "instruction register ") (length bits) device.ir (by_test (codes "instruction register ") refl))
 
 path_on : (bits len : ℕ) → IsOnLine (path_text bits len)
@@ -230,14 +235,14 @@ path_on bits len =
     (other_on (codes "path ") bits len (by_test (codes "path ") refl))
 
 target_on : (net : Net) (device : Device) (x : Scan Counts) (t : Target) → IsOnLine (target_text net device x t)
-target_on net device x Instruction = instruction_on device (tdi_bits x.bits)
+target_on net device x Instruction = instruction_on device x.bits
 target_on net device x (Data Network) = path_on (length x.bits) (path_length net x.state.holds)
 target_on net device x (Data Identity) = by_test (codes " identity") refl
 target_on net device x (Data Bypass) = by_test (codes " bypass") refl
 
 rows_if_on : (k : Bool) (net : Net) (holds : Holds) (bits : List Shifted) → IsNet net → AllByRecursion IsOnLine (rows_if k net holds bits)
 rows_if_on false net holds bits is = tt
-rows_if_on true net holds bits is = rows_on net is holds 0 _ bits
+rows_if_on true net holds bits is = rows_on net is holds 0 (route_of net holds) bits
 
 target_rows_on : (net : Net) (x : Scan Counts) (t : Target) → IsNet net → AllByRecursion IsOnLine (target_rows net x t)
 target_rows_on net x Instruction is = tt

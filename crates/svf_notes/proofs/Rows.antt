@@ -2,10 +2,11 @@
 use Rattle.std.proofs.Common.{◌≡◌, ℕ, zero, suc, ◌+◌, ◌-◌, ◌<◌, ◌≤◌, Bool, true, false, Option, Some, List, [], ◌∷◌, ◌++◌, length, take, drop, map, get_or, refl, ap, sym, ◌∙◌, subst, arith, append_assoc, append-nil, length-append}
 use Rattle.std.specs.Prelude.{codes, sum}
 use Rattle.std.proofs.Math.Seq.{drop-cons, take-suc}
-use Rattle.std.proofs.lemmas.List.{drop-drop}
+use Rattle.std.proofs.lemmas.List.{drop-drop, take-append-drop, get_or-map}
 use Rattle.ij_io.specs.Bytes.{Adds}
 use Rattle.ij_io.proofs.Adding.{adds_both}
 use Rattle.net_graph.specs.declared.net.Net.{Net}
+use Rattle.net_graph.specs.declared.net.Reg.{Reg}
 use Rattle.net_graph.specs.Chain.{chain, IsRoute}
 use Rattle.net_graph.specs.Held.{AreHolds}
 use Rattle.net_graph.specs.Nets.{IsNet}
@@ -76,3 +77,23 @@ rows_next net holds path bits i r end at part old between new h is ends parts be
 pub path_short : (net : Net) (holds : Holds) → IsNet net → AreHolds net holds → path_length net holds ≤ 4096
 path_short net holds is held =
     omega (arith, chain_fits net (route_of net holds) holds held (route_in net holds holds is held), is.bits_within_limit)
+
+pub width_at : (regs : List Reg) (r : ℕ) (reg : Reg) → r < length regs → reg ≡ get_or regs r reg → get_or (map (λ x. x.width) regs) r 0 ≡ reg.width
+width_at regs r reg there is = get_or-map (λ (x : Reg). x.width) regs r reg 0 there ∙ ap (λ (x : Reg). x.width) (sym is)
+
+-- the registers before a place have no more bits than all
+pub front_short : (holds : Holds) (path : List ℕ) (i : ℕ) → length (chain (take i path) holds) ≤ length (chain path holds)
+front_short holds path i =
+    let all : length (chain path holds) ≡ length (chain (take i path) holds) + length (chain (drop i path) holds) =
+    ap (λ (p : List ℕ). length (chain p holds)) (sym (take-append-drop i path)) ∙ ap length (chain_both (take i path) (drop i path) holds) ∙ length-append (chain (take i path) holds) (chain (drop i path) holds) in
+    omega (arith, all)
+
+-- the register at a place from the far end on: where it ends and where it begins
+pub turn_is : (holds : Holds) (path : List ℕ) (j k end : ℕ) → j < length path → k ≡ length path - 1 - j → end ≡ length (chain (take (length path - j) path) holds) → end ≡ length (chain (take (length path - (j + 1)) path) holds) + length (bits_at holds (get_or path k 0))
+turn_is holds path j k end h place is =
+    let i = length path - (j + 1) in
+    let more : length path - j ≡ suc i = omega arith in
+    let same : k ≡ i = omega arith in
+    is
+    ∙ ap (λ (n : ℕ). length (chain (take n path) holds)) more
+    ∙ turn_end holds path i (get_or path k 0) (omega arith) (ap (λ (n : ℕ). get_or path n 0) same)

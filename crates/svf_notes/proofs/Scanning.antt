@@ -1,6 +1,7 @@
 -- Scans clock by clock.
-use Rattle.std.proofs.Common.{◌≡◌, ℕ, Bool, true, false, cond, List, [], ◌∷◌, ◌++◌, refl, ap, sym, ◌∙◌, append_assoc, append-nil}
-use Rattle.std.specs.Prelude.{◌==◌}
+use Rattle.std.proofs.Common.{◌≡◌, ℕ, Bool, true, false, cond, Option, Some, None, Result, Ok, Err, List, [], ◌∷◌, ◌++◌, drop, map, refl, ap, sym, ◌∙◌}
+use Rattle.std.specs.Prelude.{◌==◌, IfOk, MatchOption}
+use Rattle.instruments.specs.declared.Counts.{Counts}
 use Rattle.net_bench.specs.Bench.{Chip, State, clock, tdo}
 use Rattle.tap_machine.specs.declared.Pins.{Pins}
 use Rattle.svf_notes.specs.declared.scan.Shifted.{Shifted}
@@ -63,3 +64,25 @@ module _ {L : Type 0} (chip : Chip L) (p : Pins) (ps qs : List Pins) (s t : Stat
 pub no_clock : {L : Type 0} (chip : Chip L) (qs : List Pins) (s : State L) (bs : List Shifted) (all : List (Scan L)) → qs ≡ [] → led bs (scans_of chip qs s) ≡ all → all ≡ []
 no_clock {L} chip qs s bs all none left =
     sym left ∙ ap (λ (l : List Pins). led bs (scans_of chip l s)) none ∙ led_none bs
+
+-- what is left after a scan, on the same chip
+pub scan_left : {E : Type 0} (r : Result (Option ℕ) E) (chip now : Chip Counts) (qs ps : List Pins) (s t : State Counts) (bits : List Shifted) → now ≡ chip
+    → IfOk r (λ number. MatchOption number ((scans_of chip qs s ≡ []) × (ps ≡ [])) (λ n. scans_of chip qs s ≡ record { number = n; bits = bits; state = t } ∷ scans_of chip ps t))
+    → IfOk r (λ number. MatchOption number ((scans_of chip qs s ≡ []) × (scans_of now ps t ≡ [])) (λ n. scans_of chip qs s ≡ record { number = n; bits = bits; state = t } ∷ scans_of now ps t))
+scan_left (Ok None) chip now qs ps s t bits same is = (is.0, ap (λ (l : List Pins). scans_of now l t) is.1)
+scan_left (Ok (Some n)) chip now qs ps s t bits same is =
+    is ∙ ap (λ (c : Chip Counts). let x : Scan Counts = record { number = n; bits = bits; state = t } in x ∷ scans_of c ps t) (sym same)
+scan_left (Err e) chip now qs ps s t bits same is = is
+
+-- ---- notes of scans
+
+module _ (f : Scan Counts → List ℕ) (old new : List (Scan Counts)) where
+  pub no_notes : old ≡ [] → new ≡ [] → (map f old ≡ []) × (map f new ≡ drop 1 (map f old))
+  no_notes none left =
+      let one : map f old ≡ [] = ap (map f) none in
+      (one, ap (map f) left ∙ sym (ap (drop 1) one))
+
+  pub one_note : (x : Scan Counts) (text : List ℕ) → old ≡ x ∷ new → text ≡ f x → (map f old ≡ text ∷ map f new) × (map f new ≡ drop 1 (map f old))
+  one_note x text is here =
+      let one : map f old ≡ f x ∷ map f new = ap (map f) is in
+      (one ∙ ap (λ (l : List ℕ). l ∷ map f new) (sym here), sym (ap (drop 1) one))

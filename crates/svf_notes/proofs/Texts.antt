@@ -1,5 +1,5 @@
 -- A text with notes, command by command.
-use Rattle.std.proofs.Common.{◌≡◌, ℕ, zero, suc, ◌+◌, ◌-◌, ◌^◌, ◌≤◌, false, Option, Some, List, [], ◌∷◌, ◌++◌, length, take, drop, refl, ap, sym, ◌∙◌, subst, arith, append_assoc, length-append}
+use Rattle.std.proofs.Common.{◌≡◌, ℕ, zero, suc, ◌+◌, ◌-◌, ◌^◌, ◌≤◌, Bool, false, Option, Some, List, [], ◌∷◌, ◌++◌, length, take, drop, refl, ap, sym, ◌∙◌, subst, arith, append_assoc, length-append}
 use Rattle.std.specs.Prelude.{min}
 use Rattle.ij_io.specs.Bytes.{Adds, AddsPart}
 use Rattle.ij_io.specs.Files.{Files, file_at, told_bytes}
@@ -27,7 +27,10 @@ pub next_is : (notes : List (List ℕ)) (text command rest : List ℕ) → texts
 unfolding explained
 next_is notes text command rest cut whole = cases (texts_some (plain rest)).0 (texts_some (plain rest)).1 (texts_some (plain rest)).2
   where
+    scans : Bool
     scans = is_scan (words (plain command))
+
+    left : List (List ℕ)
     left = notes_left scans notes
 
     cases : (u : List ℕ) (us : List (List ℕ)) → texts (plain rest) ≡ u ∷ us → with_notes (texts (plain text)) notes text ≡ (command ++ 59 ∷ [] ++ note_at scans notes rest) ++ with_notes (texts (plain rest)) left rest

@@ -1,5 +1,9 @@
 -- An SVF text once more, with a note after each scan (Serial Vector Format, revision E: comments; SIR, SDR).
-use Rattle.std.specs.Prelude.{◌≡◌, ℕ, suc, ◌==◌, Bool, true, false, cond, List, [], ◌∷◌, ◌++◌, codes, drop, length, map, take, Ok}
+use Rattle.std.specs.Prelude.{◌≡◌, ℕ, suc, ◌==◌, Bool, true, false, cond, List, [], ◌∷◌, ◌++◌, codes, drop, length, map, take, Ok, Option}
+use Rattle.std.specs.List.{AllByRecursion}
+use Rattle.ij_io.specs.Bytes.{AddsPart}
+use Rattle.ij_io.specs.Files.{Files}
+use Rattle.ij_io.specs.Pieces.{HoldsFront}
 use Rattle.net_graph.specs.declared.device.Device.{Device}
 use Rattle.net_graph.specs.declared.net.Net.{Net}
 use Rattle.net_graph.specs.Nets.{IsNet}
@@ -40,6 +44,10 @@ explained notes src = with_notes (texts (plain src)) notes src
 -- the notes are those of the scans of a play from power-up
 unfoldable pub explained_text : Net → Device → List SeenModel → List SeenCommand → List ℕ → List ℕ
 explained_text net device models commands src = explained (notes net device models commands) src
+
+-- a file holds some first bytes of these old ones with the text after them
+abbrev pub HoldsSome : Option Files → List ℕ → Option (List ℕ) → List ℕ → Type 0
+HoldsSome files name old text = (held : Option (List ℕ)) × AddsPart old held text × HoldsFront files name held
 
 -- Whatever the notes are, as long as no line of them has a line feed, an SVF text has the same commands with them as without them.
 abbrev pub SameCommands : Type 0

@@ -127,16 +127,20 @@ abbrev pub other_length : List ℕ → ℕ → ℕ → List ℕ
 other_length register bits len = codes " has " ++ (decimal bits ++ (codes " bits, the " ++ (register ++ decimal len)))
 
 -- an instruction in hexadecimal digits, and what it selects
-abbrev pub instruction_text : Device → List Bool → List ℕ
+abbrev pub opcode_text : Device → List Bool → List ℕ
+opcode_text device bits =
+    codes " instruction " ++ (hex_digits bits ((length bits + 3) / 4) ++ selected_name (selected device bits))
+
+abbrev pub instruction_text : Device → List Shifted → List ℕ
 instruction_text device bits =
-    cond (length bits == device.ir) (codes " instruction " ++ (hex_digits bits ((length bits + 3) / 4) ++ selected_name (selected device bits))) (other_length (codes "instruction register ") (length bits) device.ir)
+    cond (length bits == device.ir) (opcode_text device (tdi_bits bits)) (other_length (codes "instruction register ") (length bits) device.ir)
 
 abbrev pub path_text : ℕ → ℕ → List ℕ
 path_text bits len = cond (bits == len) (codes " path " ++ decimal len) (other_length (codes "path ") bits len)
 
 -- what a scan's first line says of its target
 abbrev pub target_text : Net → Device → Scan Counts → Target → List ℕ
-target_text net device x Instruction = instruction_text device (tdi_bits x.bits)
+target_text net device x Instruction = instruction_text device x.bits
 target_text net device x (Data Network) = path_text (length x.bits) (path_length net x.state.holds)
 target_text net device x (Data Identity) = codes " identity"
 target_text net device x (Data Bypass) = codes " bypass"

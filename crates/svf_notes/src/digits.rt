@@ -101,8 +101,8 @@ pub(crate) fn is_held(bits: &[Shifted], held: &Bits) -> bool
     requires { length bits.now ≡ length held.now.items }
     ensures { result ≡ bits_eq (notes.tdi_bits bits.now) held.now.items }
 {
-    for i in 0..bits.len() {
-        if bits[i].tdi != held.get(i as u32) {
+    for i in 0..held.len() {
+        if bits[i as usize].tdi != held.get(i) {
             return false;
         }
     }

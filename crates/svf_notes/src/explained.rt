@@ -1,10 +1,10 @@
 // SVF texts with notes.
-ghost use Rattle.std.specs.Prelude.{◌≡◌, ◌≤◌, ◌+◌, ◌-◌, ◌^◌, ◌++◌, ◌∷◌, [], drop, length, map, min, true, IfOk, List, OnOk, OnErr, Option, Some, ℕ};
+ghost use Rattle.std.specs.Prelude.{◌≡◌, ◌≤◌, ◌+◌, ◌-◌, ◌^◌, ◌++◌, ◌∷◌, [], drop, length, map, min, true, IfOk, OnOk, OnErr, Some};
 ghost use Rattle.std.specs.Option.{option_map};
-ghost use Rattle.ij_io.specs.Bytes.{Adds, AddsPart};
+ghost use Rattle.ij_io.specs.Bytes.{Adds};
 ghost use Rattle.ij_io.specs.Causes.{HasCauseAt, SameCounts};
 ghost use Rattle.ij_io.specs.Files.{OthersStay, file_at, told_bytes};
-ghost use Rattle.ij_io.specs.Pieces.{HoldsFront, HoldsPart, IsThere, with_piece};
+ghost use Rattle.ij_io.specs.Pieces.{HoldsPart, IsThere, with_piece};
 ghost use Rattle.instruments.specs.Runners.{AreModels};
 ghost use Rattle.instruments.specs.Seen.{seen_model};
 ghost use Rattle.net_graph.specs.Nets.{IsNet};
@@ -117,7 +117,7 @@ fn put_text<S: Shelf>(
     requires there { IsThere (S.files shelf.old) name.now }
     ensures there { OnOk result (IsThere (S.files shelf.new) name.now) }
     ensures whole { OnOk result (Adds (with_piece (S.files shelf.old) name.now piece) (told_bytes (S.files shelf.new) name.now) (explained.explained (left_notes playing.old) src.now)) }
-    ensures part { OnErr result ((text : Option (List ℕ)) × AddsPart (with_piece (S.files shelf.old) name.now piece) text (explained.explained (left_notes playing.old) src.now) × HoldsFront (S.files shelf.new) name.now text) }
+    ensures part { OnErr result (explained.HoldsSome (S.files shelf.new) name.now (with_piece (S.files shelf.old) name.now piece) (explained.explained (left_notes playing.old) src.now)) }
     ensures others { OthersStay (S.files shelf.old) (S.files shelf.new) name.now }
     ensures cause { HasCauseAt name.now (S.store_faults shelf.old) (S.store_faults shelf.new) result StoreFault.Failed }
     ensures loads { SameCounts (S.load_faults shelf.old) (S.load_faults shelf.new) }

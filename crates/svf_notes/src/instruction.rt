@@ -11,9 +11,9 @@ use net_bench::{DataRegister, selected_by};
 use net_graph::Device;
 use std::alloc::Global;
 
-/// The bits at TDI.
-fn tdi_bits(alloc: Global, bits: &[Shifted]) -> Result<Bits, OutOfMemory>
-    requires { length bits.now < 2 ^ 32 }
+/// The bits at TDI, of which there are this many.
+fn tdi_bits(alloc: Global, count: u32, bits: &[Shifted]) -> Result<Bits, OutOfMemory>
+    requires { length bits.now ≡ count }
     ensures { IfOk result (λ tdi. tdi.items ≡ notes.tdi_bits bits.now) }
 {
     let mut tdi = Bits::zeros(alloc, 0)?;
@@ -67,27 +67,51 @@ pub(crate) fn put_other_length(
     )
 }
 
-/// Writes an instruction and what it selects.
+/// Writes an opcode and what it selects.
+fn put_opcode(device: &Device, opcode: &Bits, note: &mut SureSink) -> Result<(), StoreFault>
+    requires { length opcode.now.items ≡ device.now.ir }
+    ensures { OnOk result (Adds (Some note.old) (Some note.new) (notes.opcode_text device.now opcode.now.items)) }
+{
+    note.write(b" instruction ")?;
+    put_hex_digits(opcode, opcode.len().div_ceil(4), note)?;
+    note.write(register_name(selected_by(device, opcode)))?;
+    Ok(())
+}
+
+/// Writes an instruction, which has this many bits, and what it selects.
+fn put_selected(
+    alloc: Global,
+    device: &Device,
+    count: u32,
+    bits: &[Shifted],
+    note: &mut SureSink,
+) -> Result<(), StoreFault>
+    requires count { length bits.now ≡ count }
+    requires ir { count ≡ device.now.ir }
+    ensures { OnOk result (Adds (Some note.old) (Some note.new) (notes.opcode_text device.now (notes.tdi_bits bits.now))) }
+{
+    let opcode = tdi_bits(alloc, count, bits)?;
+    put_opcode(device, &opcode, note)
+}
+
+/// Writes an instruction and what it selects, or that it hasn't the length of the instruction register.
 pub(crate) fn put_instruction(
     alloc: Global,
     device: &Device,
     bits: &[Shifted],
     note: &mut SureSink,
 ) -> Result<(), StoreFault>
-    requires { length bits.now < 2 ^ 32 }
-    ensures { OnOk result (Adds (Some note.old) (Some note.new) (notes.instruction_text device.now (notes.tdi_bits bits.now))) }
+    ensures { OnOk result (Adds (Some note.old) (Some note.new) (notes.instruction_text device.now bits.now)) }
 {
-    let tdi = tdi_bits(alloc, bits)?;
-    if tdi.len() != device.ir {
-        return put_other_length(
+    let ir = device.ir;
+    if bits.len() as u64 == u64::from(ir) {
+        put_selected(alloc, device, ir, bits, note)
+    } else {
+        put_other_length(
             b"instruction register ",
-            u64::from(tdi.len()),
-            u64::from(device.ir),
+            bits.len() as u64,
+            u64::from(ir),
             note,
-        );
+        )
     }
-    note.write(b" instruction ")?;
-    put_hex_digits(&tdi, tdi.len().div_ceil(4), note)?;
-    note.write(register_name(selected_by(device, &tdi)))?;
-    Ok(())
 }

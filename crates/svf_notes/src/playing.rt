@@ -46,11 +46,12 @@ impl<'a> Playing<'a> {
         ensures scans { IfOk result (λ playing. left_scans playing ≡ played_scans net.now device.now (map seen_model models.now.items) commands.now) }
     {
         let bench = Bench::new(alloc, net, device, models)?;
+        let player = Player::new(Stable::Reset, 0, commands);
         Ok(Playing {
             net,
             device,
             bench,
-            player: Player::new(Stable::Reset, 0, commands),
+            player,
             bits: List::new(alloc),
         })
     }
@@ -61,8 +62,7 @@ impl<'a> Playing<'a> {
         ensures net { self.new.net.now ≡ self.old.net.now }
         ensures device { self.new.device.now ≡ self.old.device.now }
         ensures playing { IsPlaying self.new }
-        ensures scan { IfOk result (λ number. MatchOption number (left_scans self.old ≡ []) (λ n. left_scans self.old ≡ record { number = n; bits = self.new.bits.items; state = self.new.bench.state } ∷ left_scans self.new)) }
-        ensures rest { IfOk result (λ _. left_scans self.new ≡ drop 1 (left_scans self.old)) }
+        ensures scan { IfOk result (λ number. MatchOption number ((left_scans self.old ≡ []) × (left_scans self.new ≡ [])) (λ n. left_scans self.old ≡ record { number = n; bits = self.new.bits.items; state = self.new.bench.state } ∷ left_scans self.new)) }
     {
         next_scan(&mut self.player, &mut self.bench, &mut self.bits)
     }

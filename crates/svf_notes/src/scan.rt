@@ -45,7 +45,7 @@ pub(crate) fn next_scan(
     bits: &mut List<Shifted>,
 ) -> Result<Option<u32>, OutOfMemory>
     ensures bench { bench.new ≡ record bench.old { state = bench.new.state } }
-    ensures scan { IfOk result (λ number. MatchOption number (scans_of (chip_of bench.old) player.old.pins bench.old.state ≡ []) (λ n. scans_of (chip_of bench.old) player.old.pins bench.old.state ≡ record { number = n; bits = bits.new.items; state = bench.new.state } ∷ scans_of (chip_of bench.old) player.new.pins bench.new.state)) }
+    ensures scan { IfOk result (λ number. MatchOption number ((scans_of (chip_of bench.old) player.old.pins bench.old.state ≡ []) × (player.new.pins ≡ [])) (λ n. scans_of (chip_of bench.old) player.old.pins bench.old.state ≡ record { number = n; bits = bits.new.items; state = bench.new.state } ∷ scans_of (chip_of bench.old) player.new.pins bench.new.state)) }
 {
     bits.clear();
     while let Some(pins) = player.next() {
