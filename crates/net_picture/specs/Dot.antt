@@ -78,10 +78,15 @@ register_edge net points r =
 abbrev pub row_source : Net → ℕ → ℕ → Point
 row_source net m q = get_or (map (λ row. row.from) (rows_of net m)) q Entry
 
+-- an edge to a multiplexer: the letters and the number of its source, its select values and its style
+unfoldable pub labelled_edge : List ℕ → List ℕ → ℕ → List ℕ → List ℕ → List ℕ
+labelled_edge letters number m values style =
+    codes "  " ++ (letters ++ (number ++ (codes " -> m" ++ (decimal m ++ (codes " [label=\"" ++ (values ++ (codes "\", " ++ (style ++ (codes "];\n" ++ [])))))))))
+
 -- an edge from the source of row q to its multiplexer
-unfoldable pub row_edge : Net → Bool → ℕ → ℕ → List ℕ
+abbrev pub row_edge : Net → Bool → ℕ → ℕ → List ℕ
 row_edge net active m q =
-    codes "  " ++ (node_letters (row_source net m q) ++ (node_number (row_source net m q) ++ (codes " -> m" ++ (decimal m ++ (codes " [label=\"" ++ (short_values net m q ++ (codes "\", " ++ (edge_style active ++ (codes "];\n" ++ [])))))))))
+    labelled_edge (node_letters (row_source net m q)) (node_number (row_source net m q)) m (short_values net m q) (edge_style active)
 
 -- the edge of the row that is selected is on the active path where its multiplexer is
 abbrev pub row_line : Net → Bool → Option ℕ → ℕ → ℕ → List ℕ

@@ -11,3 +11,4 @@ pub mod Marked
 pub mod Line
 pub mod Svg
 pub mod Dot
+pub mod Examples

@@ -84,8 +84,8 @@ fn put_register_node<K: Sink>(
 ) -> Result<(), StoreFault>
     requires well_formed { IsNet net.now }
     requires there { reg < length net.now.regs.items }
-    ensures whole { OnOk result (Adds (K.taken k.old) (K.taken k.new) (dot.register_node net.now marks.marked marks.met.now reg)) }
-    ensures part { OnErr result (AddsPart (K.taken k.old) (K.taken k.new) (dot.register_node net.now marks.marked marks.met.now reg)) }
+    ensures whole { OnOk result (Adds (K.taken k.old) (K.taken k.new) (dot.register_node net.now marks.entry.marked marks.entry.met.now reg)) }
+    ensures part { OnErr result (AddsPart (K.taken k.old) (K.taken k.new) (dot.register_node net.now marks.entry.marked marks.entry.met.now reg)) }
     ensures cause { HasCause (K.faults k.old) (K.faults k.new) result StoreFault.Failed }
 {
     let point = Point::Reg(reg);
@@ -104,8 +104,8 @@ fn put_mux_node<K: Sink>(
 ) -> Result<(), StoreFault>
     requires well_formed { IsNet net.now }
     requires there { mux < length net.now.muxes.items }
-    ensures whole { OnOk result (Adds (K.taken k.old) (K.taken k.new) (dot.mux_node net.now marks.marked marks.met.now mux)) }
-    ensures part { OnErr result (AddsPart (K.taken k.old) (K.taken k.new) (dot.mux_node net.now marks.marked marks.met.now mux)) }
+    ensures whole { OnOk result (Adds (K.taken k.old) (K.taken k.new) (dot.mux_node net.now marks.entry.marked marks.entry.met.now mux)) }
+    ensures part { OnErr result (AddsPart (K.taken k.old) (K.taken k.new) (dot.mux_node net.now marks.entry.marked marks.entry.met.now mux)) }
     ensures cause { HasCause (K.faults k.old) (K.faults k.new) result StoreFault.Failed }
 {
     let point = Point::Mux(mux);
@@ -184,8 +184,36 @@ fn row_source(net: &Net, mux: u32, row: usize) -> Point
     net.muxes.get(mux as usize).rows.get(row).from
 }
 
+/// Writes an edge to a multiplexer: the letters and the number of its source, its select values and its style.
+#[tactic(auto, unfolding(crate::specs::Dot::labelled_edge, ij_io::specs::Words::words_text))]
+fn put_labelled_edge<'a, K: Sink>(
+    letters: &'a [u8],
+    number: Word<'a>,
+    mux: u32,
+    values: &'a [u8],
+    style: &'a [u8],
+    k: &mut K,
+) -> Result<(), StoreFault>
+    ensures whole { OnOk result (Adds (K.taken k.old) (K.taken k.new) (dot.labelled_edge letters.now (word_text number.entry) mux values.now style.now)) }
+    ensures part { OnErr result (AddsPart (K.taken k.old) (K.taken k.new) (dot.labelled_edge letters.now (word_text number.entry) mux values.now style.now)) }
+    ensures cause { HasCause (K.faults k.old) (K.faults k.new) result StoreFault.Failed }
+{
+    let words = [
+        Word::Text(b"  "),
+        Word::Text(letters),
+        number,
+        Word::Text(b" -> m"),
+        Word::Number(u64::from(mux)),
+        Word::Text(b" [label=\""),
+        Word::Text(values),
+        Word::Text(b"\", "),
+        Word::Text(style),
+        Word::Text(b"];\n"),
+    ];
+    put_words(k, &words)
+}
+
 /// Writes the edge from the source of a row to its multiplexer.
-#[tactic(auto, unfolding(crate::specs::Dot::row_edge, ij_io::specs::Words::words_text))]
 fn put_row_edge<K: Sink>(
     alloc: Global,
     net: &Net,
@@ -202,19 +230,14 @@ fn put_row_edge<K: Sink>(
 {
     let source = row_source(net, mux, row);
     let values = short_values(alloc, net, mux, row)?;
-    let words = [
-        Word::Text(b"  "),
-        Word::Text(node_letters(source)),
+    put_labelled_edge(
+        node_letters(source),
         node_number(source),
-        Word::Text(b" -> m"),
-        Word::Number(u64::from(mux)),
-        Word::Text(b" [label=\""),
-        Word::Text(values.bytes()),
-        Word::Text(b"\", "),
-        Word::Text(edge_style(active)),
-        Word::Text(b"];\n"),
-    ];
-    put_words(k, &words)
+        mux,
+        values.bytes(),
+        edge_style(active),
+        k,
+    )
 }
 
 /// How many rows a multiplexer has.
@@ -308,8 +331,8 @@ fn put_register_nodes<K: Sink>(
     k: &mut K,
 ) -> Result<(), StoreFault>
     requires well_formed { IsNet net.now }
-    ensures whole { OnOk result (Adds (K.taken k.old) (K.taken k.new) (lines_from (dot.register_node net.now marks.marked marks.met.now) 0 (length net.now.regs.items))) }
-    ensures part { OnErr result (AddsPart (K.taken k.old) (K.taken k.new) (lines_from (dot.register_node net.now marks.marked marks.met.now) 0 (length net.now.regs.items))) }
+    ensures whole { OnOk result (Adds (K.taken k.old) (K.taken k.new) (lines_from (dot.register_node net.now marks.entry.marked marks.entry.met.now) 0 (length net.now.regs.items))) }
+    ensures part { OnErr result (AddsPart (K.taken k.old) (K.taken k.new) (lines_from (dot.register_node net.now marks.entry.marked marks.entry.met.now) 0 (length net.now.regs.items))) }
     ensures cause { HasCause (K.faults k.old) (K.faults k.new) result StoreFault.Failed }
 {
     let count = register_count(net);
@@ -327,8 +350,8 @@ fn put_mux_nodes<K: Sink>(
     k: &mut K,
 ) -> Result<(), StoreFault>
     requires well_formed { IsNet net.now }
-    ensures whole { OnOk result (Adds (K.taken k.old) (K.taken k.new) (lines_from (dot.mux_node net.now marks.marked marks.met.now) 0 (length net.now.muxes.items))) }
-    ensures part { OnErr result (AddsPart (K.taken k.old) (K.taken k.new) (lines_from (dot.mux_node net.now marks.marked marks.met.now) 0 (length net.now.muxes.items))) }
+    ensures whole { OnOk result (Adds (K.taken k.old) (K.taken k.new) (lines_from (dot.mux_node net.now marks.entry.marked marks.entry.met.now) 0 (length net.now.muxes.items))) }
+    ensures part { OnErr result (AddsPart (K.taken k.old) (K.taken k.new) (lines_from (dot.mux_node net.now marks.entry.marked marks.entry.met.now) 0 (length net.now.muxes.items))) }
     ensures cause { HasCause (K.faults k.old) (K.faults k.new) result StoreFault.Failed }
 {
     let count = mux_count(net);
@@ -413,8 +436,8 @@ fn put_graph<K: Sink>(
 ) -> Result<(), StoreFault>
     requires well_formed { IsNet net.now }
     requires holds { AreHolds net.now holds.now }
-    ensures whole { OnOk result (Adds (K.taken k.old) (K.taken k.new) (dot.graph_text net.now holds.now marks.marked marks.met.now)) }
-    ensures part { OnErr result (AddsPart (K.taken k.old) (K.taken k.new) (dot.graph_text net.now holds.now marks.marked marks.met.now)) }
+    ensures whole { OnOk result (Adds (K.taken k.old) (K.taken k.new) (dot.graph_text net.now holds.now marks.entry.marked marks.entry.met.now)) }
+    ensures part { OnErr result (AddsPart (K.taken k.old) (K.taken k.new) (dot.graph_text net.now holds.now marks.entry.marked marks.entry.met.now)) }
     ensures cause { HasCause (K.faults k.old) (K.faults k.new) result StoreFault.Failed }
 {
     put_head(k)?;

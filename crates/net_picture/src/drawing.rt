@@ -44,6 +44,8 @@ pub(crate) fn drawing_of(
     let start = Pen::start_at(48, 36)?;
     let end = draw_items(alloc, &plan, true, tree.entries(), start, &mut shapes)?;
     let x = plus(end.x, 18)?;
+    let width = plus(end.right, 66)?;
+    let height = plus(end.bottom, 20)?;
     shapes.push(Shape::Wire {
         x: end.x,
         y: end.y,
@@ -54,8 +56,8 @@ pub(crate) fn drawing_of(
     })?;
     Ok(Drawing {
         shapes,
-        width: plus(end.right, 66)?,
-        height: plus(end.bottom, 20)?,
+        width,
+        height,
         x,
         y: end.y,
     })

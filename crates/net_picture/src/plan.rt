@@ -1,5 +1,5 @@
 // What has to be known of a network and its state before it is drawn.
-ghost use Rattle.std.specs.Prelude.{◌≡◌, length, OnOk, IfOk};
+ghost use Rattle.std.specs.Prelude.{◌≡◌, ◌<◌, [], length, IfOk};
 ghost use Rattle.net_graph.specs.Held.{AreHolds};
 ghost use Rattle.net_graph.specs.Nets.{IsNet};
 ghost use Rattle.net_picture.specs.Plan as plans;

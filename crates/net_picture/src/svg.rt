@@ -58,8 +58,8 @@ struct FunnelText<'a> {
 /// Writes a box.
 #[tactic(auto, unfolding(crate::specs::Svg::box_text, ij_io::specs::Words::words_text))]
 fn put_box<K: Sink>(it: BoxText<'_>, k: &mut K) -> Result<(), StoreFault>
-    ensures whole { OnOk result (Adds (K.taken k.old) (K.taken k.new) (svg.box_text it.title.now it.label.now it.round it.x it.y it.width it.active)) }
-    ensures part { OnErr result (AddsPart (K.taken k.old) (K.taken k.new) (svg.box_text it.title.now it.label.now it.round it.x it.y it.width it.active)) }
+    ensures whole { OnOk result (Adds (K.taken k.old) (K.taken k.new) (svg.box_text it.entry.title.now it.entry.label.now it.entry.round it.entry.x it.entry.y it.entry.width it.entry.active)) }
+    ensures part { OnErr result (AddsPart (K.taken k.old) (K.taken k.new) (svg.box_text it.entry.title.now it.entry.label.now it.entry.round it.entry.x it.entry.y it.entry.width it.entry.active)) }
     ensures cause { HasCause (K.faults k.old) (K.faults k.new) result StoreFault.Failed }
 {
     let words = [
@@ -87,8 +87,8 @@ fn put_box<K: Sink>(it: BoxText<'_>, k: &mut K) -> Result<(), StoreFault>
 /// Writes a funnel.
 #[tactic(auto, unfolding(crate::specs::Svg::funnel_text, ij_io::specs::Words::words_text))]
 fn put_funnel<K: Sink>(it: FunnelText<'_>, k: &mut K) -> Result<(), StoreFault>
-    ensures whole { OnOk result (Adds (K.taken k.old) (K.taken k.new) (svg.funnel_text it.title.now it.label.now it.x it.y it.height it.active)) }
-    ensures part { OnErr result (AddsPart (K.taken k.old) (K.taken k.new) (svg.funnel_text it.title.now it.label.now it.x it.y it.height it.active)) }
+    ensures whole { OnOk result (Adds (K.taken k.old) (K.taken k.new) (svg.funnel_text it.entry.title.now it.entry.label.now it.entry.x it.entry.y it.entry.height it.entry.active)) }
+    ensures part { OnErr result (AddsPart (K.taken k.old) (K.taken k.new) (svg.funnel_text it.entry.title.now it.entry.label.now it.entry.x it.entry.y it.entry.height it.entry.active)) }
     ensures cause { HasCause (K.faults k.old) (K.faults k.new) result StoreFault.Failed }
 {
     let words = [
