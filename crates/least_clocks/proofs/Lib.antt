@@ -3,4 +3,5 @@ pub mod Moving
 pub mod Passing
 pub mod Bounded
 pub mod Counted
+pub mod Stepping
 pub mod Examples
