@@ -17,8 +17,3 @@ pub use laws::{
     commands_stay, explained_commands_stay, scans_compare, scans_keep_their_path,
 };
 pub use place::{BitAnswer, FoundBit, find_bit};
-
-#[test]
-fn nothing(rt: std::rt::HostRuntime) {
-    assert!(rt; true);
-}
