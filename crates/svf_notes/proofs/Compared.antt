@@ -1,10 +1,10 @@
 -- What a play compares, scan by scan; and what stays while a scan is shifted.
-use Rattle.std.proofs.Common.{◌≡◌, ℕ, zero, suc, ◌+◌, ◌<◌, Bool, true, false, cond, Option, Some, None, List, [], ◌∷◌, ◌++◌, length, take, drop, map, get_or, refl, ap, sym, ◌∙◌, subst, arith, append_assoc, append-nil}
+use Rattle.std.proofs.Common.{◌≡◌, ℕ, zero, suc, Bool, true, false, cond, Option, None, List, [], ◌∷◌, ◌++◌, drop, map, get_or, refl, ap, sym, ◌∙◌, subst, arith, append_assoc}
 use Rattle.std.specs.Prelude.{◌==◌, replicate}
 use Rattle.std.proofs.lemmas.Bool.Decides.{nat_tests}
 use Rattle.std.specs.List.{flat_map}
 use Rattle.instruments.specs.declared.Counts.{Counts}
-use Rattle.svf_writer.specs.SeenCommands.{SeenCommand, SeenScan, SIR, SDR, Reset, Idle, Run}
+use Rattle.svf_writer.specs.SeenCommands.{SeenCommand, SIR, SDR, Reset, Idle, Run}
 use Rattle.tap_machine.specs.declared.Pins.{Pins}
 use Rattle.tap_machine.specs.declared.Stable.{Stable}
 use Rattle.tap_machine.specs.declared.Stable.TheVariants.{Reset as InReset, Idle as InIdle}

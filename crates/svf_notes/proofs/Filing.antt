@@ -1,8 +1,8 @@
 -- The whole text in its file.
-use Rattle.std.proofs.Common.{◌≡◌, ℕ, Option, Some, List, [], ◌∷◌, ◌++◌, map, refl, ap, ◌∙◌, subst}
+use Rattle.std.proofs.Common.{◌≡◌, ℕ, Option, Some, List, [], map, ap, ◌∙◌, subst}
 use Rattle.std.specs.Option.{option_map}
 use Rattle.std.specs.Prelude.{Result, Ok, Err, OnOk}
-use Rattle.ij_io.specs.Bytes.{Adds, AddsPart}
+use Rattle.ij_io.specs.Bytes.{Adds}
 use Rattle.ij_io.specs.Files.{Files, file_at, told_bytes}
 use Rattle.ij_io.specs.Pieces.{HoldsPart, IsThere, with_piece}
 use Rattle.ij_io.proofs.Adding.{adds_both, adds_then_part}

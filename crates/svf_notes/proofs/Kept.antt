@@ -1,17 +1,15 @@
 -- While a scan is shifted, update stages and the instruction stay.
-use Rattle.std.proofs.Common.{◌≡◌, ℕ, zero, suc, ◌+◌, ◌<◌, Bool, true, false, Option, None, List, [], ◌∷◌, ◌++◌, length, drop, map, get_or, refl, ap, sym, ◌∙◌, subst, arith}
+use Rattle.std.proofs.Common.{◌≡◌, ℕ, suc, ◌<◌, Bool, true, false, Option, List, [], ◌∷◌, ◌++◌, length, drop, map, refl, ap, sym, ◌∙◌, subst, arith}
 use Rattle.instruments.specs.declared.Counts.{Counts}
-use Rattle.tap_machine.specs.declared.Pins.{Pins}
 use Rattle.tap_machine.specs.declared.TapState.{TapState}
 use Rattle.tap_machine.specs.declared.TapState.TheVariants.{RunTestIdle, SelectDrScan, CaptureDr, ShiftDr, Exit1Dr, SelectIrScan, CaptureIr, ShiftIr, Exit1Ir}
 use Rattle.tap_machine.specs.Tap.{next}
-use Rattle.tap_machine.specs.Play.{Played, no_shift, shifts, sdr_pins, sir_pins}
+use Rattle.tap_machine.specs.Play.{no_shift, shifts}
 use Rattle.net_bench.specs.Bench.{Chip, State, act, capture_bits, clock, dr_bits, enter, put_dr, select_of}
 use Rattle.net_bench.specs.Instruction.{Selected, Network, Identity, Bypass}
 use Rattle.net_bench.specs.Playing.{after_pins}
 use Rattle.net_graph.specs.Chain.{shift}
-use Rattle.svf_notes.specs.declared.scan.Shifted.{Shifted}
-use Rattle.svf_notes.specs.Scans.{Scan, scans_of}
+use Rattle.svf_notes.specs.Scans.{scans_of}
 use Rattle.svf_notes.specs.Laws.{IsScanOf, ScansKeepTheirPath}
 use Rattle.svf_notes.proofs.Compared.{quiet_map, quiet_scans, shifted_bits, shifts_scan}
 

@@ -1,13 +1,13 @@
 -- No line of a note has a line feed: names are names of ICL, and all else is digits and words.
-use Rattle.std.proofs.Common.{◌≡◌, ℕ, zero, suc, ◌+◌, ◌*◌, ◌/◌, ◌%◌, Bool, true, false, not, cond, List, [], ◌∷◌, ◌++◌, length, take, drop, map, get_or, refl, ap, sym, ◌∙◌, subst, arith, decimal, nat_lt, Option, Some, None}
-use Rattle.std.specs.Prelude.{◌==◌, ◌&&◌, ◌||◌, All, IsTrue, codes}
+use Rattle.std.proofs.Common.{◌≡◌, ℕ, zero, suc, ◌+◌, ◌/◌, ◌%◌, Bool, true, false, not, cond, List, [], ◌∷◌, ◌++◌, length, take, drop, map, get_or, refl, ap, sym, ◌∙◌, arith, decimal, nat_lt, Option, Some, None}
+use Rattle.std.specs.Prelude.{◌==◌, ◌||◌, All, IsTrue, codes}
 use Rattle.std.specs.Fmt.{digits as digits_in, digits_onto, digit_glyph}
 use Rattle.std.specs.List.{AllByRecursion, flat_map, list_all, list_any}
 use Rattle.std.proofs.lemmas.Bool.{and_parts}
 use Rattle.std.proofs.lemmas.Bool.Decides.{nat_tests}
 use Rattle.std.proofs.lemmas.List.Elements.{All-head, All-tail}
 use Rattle.ij_bits.specs.BitLists.{bits_eq}
-use Rattle.ij_bits.specs.Hex.{hex_code, hex_digit}
+use Rattle.ij_bits.specs.Hex.{hex_code}
 use Rattle.ij_bits.specs.Room.{Listed}
 use Rattle.ij_text.specs.Words.{begins_name, in_name, is_name}
 use Rattle.instruments.specs.declared.Counts.{Counts}
@@ -19,7 +19,7 @@ use Rattle.net_graph.specs.declared.net.Thing.{Thing}
 use Rattle.net_graph.specs.Named.{thing_of}
 use Rattle.net_graph.specs.Nets.{IsNet, IsThing}
 use Rattle.net_graph.specs.Path.{route_of}
-use Rattle.net_graph.specs.PathNames.{node_names, thing_path, with_dot}
+use Rattle.net_graph.specs.PathNames.{node_names, with_dot}
 use Rattle.net_graph.specs.Signals.{Holds, bits_at}
 use Rattle.report.specs.Paths.{register_path}
 use Rattle.report.specs.Registers.{digit}
@@ -29,7 +29,7 @@ use Rattle.svf_notes.specs.declared.scan.Shifted.{Shifted}
 use Rattle.svf_notes.specs.declared.scan.Shown.{Shown}
 use Rattle.svf_notes.specs.declared.scan.Shown.TheVariants.{Written, Expected, Found}
 use Rattle.svf_notes.specs.Scans.{Scan}
-use Rattle.svf_notes.specs.Notes.{Target, Instruction, Data, digit_of, digits, differs, first_line, hex_digits, instruction_text, opcode_text, is_compared, if_compared, expected_digit, note_of, number_text, other_length, path_text, path_length, positions_text, range_text, row, rows, rows_if, selected_name, target, target_rows, target_text, tdi_bits, values_text}
+use Rattle.svf_notes.specs.Notes.{Target, Instruction, Data, digit_of, digits, differs, hex_digits, instruction_text, opcode_text, is_compared, if_compared, expected_digit, note_of, number_text, other_length, path_text, path_length, positions_text, range_text, row, rows, rows_if, selected_name, target, target_rows, target_text, tdi_bits, values_text}
 
 -- ---- bytes
 

@@ -1,6 +1,6 @@
 -- Rows of a path, from its far end on.
-use Rattle.std.proofs.Common.{◌≡◌, ℕ, zero, suc, ◌+◌, ◌-◌, ◌<◌, ◌≤◌, Bool, true, false, Option, Some, List, [], ◌∷◌, ◌++◌, length, take, drop, map, get_or, refl, ap, sym, ◌∙◌, subst, arith, append_assoc, append-nil, length-append}
-use Rattle.std.specs.Prelude.{codes, sum}
+use Rattle.std.proofs.Common.{◌≡◌, ℕ, zero, suc, ◌+◌, ◌-◌, ◌<◌, ◌≤◌, Bool, Option, List, [], ◌∷◌, ◌++◌, length, take, drop, map, get_or, refl, ap, sym, ◌∙◌, subst, arith, append_assoc, append-nil, length-append}
+use Rattle.std.specs.Prelude.{codes}
 use Rattle.std.proofs.Math.Seq.{drop-cons, take-suc}
 use Rattle.std.proofs.lemmas.List.{drop-drop, take-append-drop, get_or-map}
 use Rattle.ij_io.specs.Bytes.{Adds}
@@ -14,7 +14,7 @@ use Rattle.net_graph.specs.Path.{route_of}
 use Rattle.net_graph.specs.Signals.{Holds, bits_at}
 use Rattle.net_graph.proofs.Routes.{route_in}
 use Rattle.net_graph.proofs.Shapes.{length_at}
-use Rattle.net_graph.proofs.Widths.{as_many_held, chain_fits}
+use Rattle.net_graph.proofs.Widths.{chain_fits}
 use Rattle.net_bench.proofs.Wide.{wide_at}
 use Rattle.svf_notes.specs.declared.scan.Shifted.{Shifted}
 use Rattle.svf_notes.specs.Notes.{note_text, path_length, row, rows}

@@ -1,5 +1,5 @@
 -- Notes change no command.
-use Rattle.std.proofs.Common.{◌≡◌, ℕ, suc, ◌+◌, Bool, true, false, not, cond, List, [], ◌∷◌, ◌++◌, length, take, drop, map, refl, ap, sym, ◌∙◌, subst, arith, append_assoc, append-nil, None, Result, Ok, Err}
+use Rattle.std.proofs.Common.{◌≡◌, ℕ, suc, ◌+◌, Bool, true, false, not, cond, List, [], ◌∷◌, ◌++◌, length, take, drop, map, refl, ap, sym, ◌∙◌, subst, arith, append_assoc, None, Result, Ok, Err}
 use Rattle.std.specs.Prelude.{◌==◌, codes}
 use Rattle.std.specs.List.{AllByRecursion}
 use Rattle.std.proofs.lemmas.Bool.Decides.{nat_tests}
@@ -9,7 +9,7 @@ use Rattle.svf_reader.specs.Texts.{first, plain_from, plain, texts, words, blank
 use Rattle.svf_reader.specs.Meaning.{Cause, Refusal, Step, at_first, listed, in_front_of, at_end, and_then, read_command, read_from, svf}
 use Rattle.svf_reader.specs.Scripts.{IsOnLine}
 use Rattle.svf_reader.proofs.Rereading.{blank_front}
-use Rattle.svf_reader.proofs.Whole.{texts_some, read_more}
+use Rattle.svf_reader.proofs.Whole.{read_more}
 use Rattle.instruments.specs.declared.Counts.{Counts}
 use Rattle.net_graph.specs.declared.device.Device.{Device}
 use Rattle.net_graph.specs.declared.net.Net.{Net}

@@ -1,12 +1,12 @@
 -- A text with notes, command by command.
-use Rattle.std.proofs.Common.{◌≡◌, ℕ, zero, suc, ◌+◌, ◌-◌, ◌^◌, ◌≤◌, Bool, false, Option, Some, List, [], ◌∷◌, ◌++◌, length, take, drop, refl, ap, sym, ◌∙◌, subst, arith, append_assoc, length-append}
+use Rattle.std.proofs.Common.{◌≡◌, ℕ, suc, ◌+◌, ◌-◌, ◌^◌, Bool, false, Option, Some, List, [], ◌∷◌, ◌++◌, length, take, drop, refl, ap, sym, ◌∙◌, subst, arith, append_assoc}
 use Rattle.std.specs.Prelude.{min}
-use Rattle.ij_io.specs.Bytes.{Adds, AddsPart}
-use Rattle.ij_io.specs.Files.{Files, file_at, told_bytes}
-use Rattle.ij_io.specs.Pieces.{HoldsFront, HoldsPart, IsThere, with_piece}
+use Rattle.ij_io.specs.Bytes.{AddsPart}
+use Rattle.ij_io.specs.Files.{Files}
+use Rattle.ij_io.specs.Pieces.{HoldsFront, with_piece}
 use Rattle.ij_io.proofs.Adding.{adds_then_part, adds_none}
 use Rattle.ij_io.proofs.Fronts.{AddsFront, front_next}
-use Rattle.ij_io.proofs.Pieces.{all_held, begun, part_held, piece_adds}
+use Rattle.ij_io.proofs.Pieces.{piece_adds}
 use Rattle.svf_reader.specs.Commands.{is_scan}
 use Rattle.svf_reader.specs.Texts.{plain, texts, words}
 use Rattle.svf_reader.proofs.Cuts.{plain_length}

@@ -1,9 +1,8 @@
 -- Worked notes: where they stand in a text, and what they say of some bits.
 use Rattle.std.specs.Prelude.{◌≡◌, ℕ, Bool, true, false, List, [], ◌∷◌, Option, Some, None, codes, map, refl}
-use Rattle.svf_reader.specs.Texts.{plain, words}
 use Rattle.svf_notes.specs.declared.scan.Shifted.{Shifted}
 use Rattle.svf_notes.specs.declared.scan.Shown.TheVariants.{Written, Expected, Found}
-use Rattle.svf_notes.specs.Notes.{digits, note_text, other_length, path_text, positions_text, values_text}
+use Rattle.svf_notes.specs.Notes.{digits, note_text, positions_text, values_text}
 use Rattle.svf_notes.specs.Explained.{explained}
 use Rattle.svf_notes.specs.Places.{index_between}
 

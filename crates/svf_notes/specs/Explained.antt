@@ -1,5 +1,5 @@
 -- An SVF text once more, with a note after each scan (Serial Vector Format, revision E: comments; SIR, SDR).
-use Rattle.std.specs.Prelude.{◌≡◌, ℕ, suc, ◌==◌, Bool, true, false, cond, List, [], ◌∷◌, ◌++◌, codes, drop, length, map, take, Ok, Option}
+use Rattle.std.specs.Prelude.{◌≡◌, ℕ, suc, ◌==◌, Bool, true, false, cond, List, [], ◌∷◌, ◌++◌, drop, length, map, take, Ok, Option}
 use Rattle.std.specs.List.{AllByRecursion}
 use Rattle.ij_io.specs.Bytes.{AddsPart}
 use Rattle.ij_io.specs.Files.{Files}

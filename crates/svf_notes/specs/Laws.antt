@@ -6,7 +6,6 @@ use Rattle.instruments.specs.declared.Counts.{Counts}
 use Rattle.svf_writer.specs.SeenCommands.{SeenCommand}
 use Rattle.tap_machine.specs.declared.TapState.{TapState}
 use Rattle.tap_machine.specs.declared.TapState.TheVariants.{RunTestIdle, Exit1Dr, Exit1Ir}
-use Rattle.tap_machine.specs.declared.Pins.{Pins}
 use Rattle.tap_machine.specs.Play.{Played, sdr_pins, sir_pins}
 use Rattle.net_bench.specs.Bench.{Chip, State}
 use Rattle.net_bench.specs.Playing.{Compare, compare_of, compares_from, resting}

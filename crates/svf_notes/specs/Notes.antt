@@ -16,11 +16,10 @@ use Rattle.report.specs.Paths.{register_path}
 use Rattle.report.specs.Registers.{digit}
 use Rattle.svf_writer.specs.SeenCommands.{SeenCommand}
 use Rattle.tap_machine.specs.declared.Stable.TheVariants.{Reset as InReset}
-use Rattle.tap_machine.specs.declared.Pins.{Pins}
 use Rattle.tap_machine.specs.declared.TapState.{TapState}
 use Rattle.tap_machine.specs.declared.TapState.TheVariants.{Exit1Ir}
 use Rattle.tap_machine.specs.Play.{pins}
-use Rattle.net_bench.specs.Bench.{Chip, State, power_up}
+use Rattle.net_bench.specs.Bench.{State, power_up}
 use Rattle.net_bench.specs.Instruction.{Selected, Network, Identity, Bypass, selected}
 use Rattle.bench_report.specs.Report.{chip}
 use Rattle.svf_notes.specs.declared.scan.Shifted.{Shifted}

@@ -1,4 +1,4 @@
-use Rattle.std.proofs.Common.{List, map}
+use Rattle.std.proofs.Common.{map}
 use Rattle.std.proofs.lemmas.Result.{on_err_weaker}
 use Rattle.instruments.specs.Seen.{seen_model}
 use Rattle.svf_notes.specs.Explained.{explained, explained_text}

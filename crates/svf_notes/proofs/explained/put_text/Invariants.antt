@@ -1,5 +1,5 @@
 -- what is written so far, in the file and then in the piece, and what the rest of the text comes to
-use Rattle.std.proofs.Common.{◌≡◌, length}
+use Rattle.std.proofs.Common.{length}
 use Rattle.ij_io.specs.Causes.{SameCounts}
 use Rattle.ij_io.specs.Files.{OthersStay}
 use Rattle.ij_io.specs.Pieces.{IsThere, with_piece}

@@ -1,4 +1,4 @@
-use Rattle.std.proofs.Common.{◌≡◌, false, ℕ, List, cond, length, arith, ap, sym, ◌∙◌}
+use Rattle.std.proofs.Common.{◌≡◌, false, ℕ, cond, length, arith, ap, sym, ◌∙◌}
 use Rattle.std.specs.Prelude.{◌==◌, Some, codes}
 use Rattle.std.proofs.lemmas.Bool.Decides.{nat_tests}
 use Rattle.ij_io.proofs.Adding.{whole_as}

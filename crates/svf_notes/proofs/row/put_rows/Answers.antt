@@ -1,11 +1,10 @@
-use Rattle.std.proofs.Common.{◌≡◌, ◌<◌, ◌≤◌, ◌+◌, ◌-◌, ◌++◌, ℕ, suc, Bool, Some, List, length, take, drop, get_or, arith, ap, sym, subst, length-take, length-drop}
+use Rattle.std.proofs.Common.{◌≡◌, ◌<◌, ◌+◌, ◌-◌, ◌++◌, ℕ, suc, Bool, Some, List, length, take, drop, get_or, arith, ap, subst, length-take, length-drop}
 use Rattle.std.specs.Prelude.{codes}
 use Rattle.ij_io.specs.Bytes.{Adds}
-use Rattle.net_graph.specs.Chain.{chain}
 use Rattle.net_graph.specs.Signals.{bits_at}
 use Rattle.net_graph.proofs.Widths.{as_many_held}
 use Rattle.svf_notes.specs.Notes.{note_text, row, rows}
-use Rattle.svf_notes.proofs.Rows.{front_short, route_at, rows_next, some_bits, turn_is}
+use Rattle.svf_notes.proofs.Rows.{route_at, rows_next, some_bits, turn_is}
 use Rattle.svf_notes.proofs.row.put_rows.Goals as goal
 
 pub register-held-requires : goal.register-held-requires

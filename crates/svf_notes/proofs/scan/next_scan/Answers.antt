@@ -1,4 +1,4 @@
-use Rattle.std.proofs.Common.{◌≡◌, false, arith, ap, sym, ◌∙◌}
+use Rattle.std.proofs.Common.{◌≡◌, false, arith, refl, ap, sym, ◌∙◌}
 use Rattle.std.specs.Prelude.{◌==◌}
 use Rattle.std.proofs.lemmas.Bool.Decides.{nat_tests}
 use Rattle.net_bench.specs.Bench.{clock, tdo}
@@ -42,4 +42,4 @@ loop-pins-preserved-else-pins c =
 pub returns-clause-scan : goal.returns-clause-scan
 returns-clause-scan c =
     let chip = chip_of c.args.bench.now in
-    (no_clock chip c.loop-pins.player.pins c.loop-pins.bench.state c.loop-pins.bits.items (scans_of chip c.args.player.now.pins c.args.bench.now.state) c.in_default.ensures.given c.loop-pins.invariant.left, c.in_default.ensures.end)
+    (no_clock chip c.loop-pins.player.pins c.loop-pins.bench.state c.loop-pins.bits.items (scans_of chip c.args.player.now.pins c.args.bench.now.state) c.in_default.ensures.given c.loop-pins.invariant.left, c.in_default.ensures.end refl)

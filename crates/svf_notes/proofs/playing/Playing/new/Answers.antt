@@ -1,4 +1,4 @@
-use Rattle.std.proofs.Common.{◌≡◌, List, ap, ◌∙◌}
+use Rattle.std.proofs.Common.{List, ap, ◌∙◌}
 use Rattle.instruments.specs.Machine.{Machine, count_log}
 use Rattle.instruments.proofs.Machines.{machines_are}
 use Rattle.net_bench.specs.Bench.{fault_free, power_up}

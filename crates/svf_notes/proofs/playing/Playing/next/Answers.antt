@@ -1,7 +1,4 @@
-use Rattle.std.proofs.Common.{◌≡◌, ◌∷◌, [], ℕ, List, Option, ap, sym, ◌∙◌, subst}
-use Rattle.std.specs.Prelude.{IfOk, MatchOption}
-use Rattle.instruments.specs.declared.Counts.{Counts}
-use Rattle.net_bench.specs.Bench.{Chip}
+use Rattle.std.proofs.Common.{ap}
 use Rattle.bench_report.specs.Report.{chip_of}
 use Rattle.svf_notes.specs.Left.{left_scans}
 use Rattle.svf_notes.proofs.Scanning.{scan_left}

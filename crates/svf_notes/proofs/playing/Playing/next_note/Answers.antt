@@ -3,7 +3,7 @@ use Rattle.std.specs.Prelude.{MatchOption}
 use Rattle.instruments.specs.declared.Counts.{Counts}
 use Rattle.net_graph.specs.declared.device.Device.{Device}
 use Rattle.net_graph.specs.declared.net.Net.{Net}
-use Rattle.svf_notes.specs.Left.{left_notes, left_scans}
+use Rattle.svf_notes.specs.Left.{left_scans}
 use Rattle.svf_notes.specs.Notes.{note_of, note_text}
 use Rattle.svf_notes.specs.Scans.{Scan}
 use Rattle.svf_notes.proofs.Filing.{same_notes}
