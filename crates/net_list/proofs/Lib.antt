@@ -1,2 +1,2 @@
-mod Pieces
+pub mod Pieces
 mod Reaching
