@@ -138,6 +138,7 @@ module _ (chip : Chip Counts) where
       moved_on s c d CaptureIr ShiftIr three (to_shift_ir c three.tap_is)
 
 pub scans_keep_their_path : ScansKeepTheirPath
-scans_keep_their_path chip n p s e some =
-    (scan_is chip ShiftDr Exit1Dr (shift_on chip) (shift_off chip) (true ∷ false ∷ false ∷ []) n p.tdi p.expects s some (to_dr chip s e),
-    scan_is chip ShiftIr Exit1Ir (shift_on_ir chip) (shift_off_ir chip) (true ∷ true ∷ false ∷ false ∷ []) n p.tdi p.expects s some (to_ir chip s e))
+scans_keep_their_path chip n p s e some = (
+  scan_is chip ShiftDr Exit1Dr (shift_on chip) (shift_off chip) (true ∷ false ∷ false ∷ []) n p.tdi p.expects s some (to_dr chip s e),
+  scan_is chip ShiftIr Exit1Ir (shift_on_ir chip) (shift_off_ir chip) (true ∷ true ∷ false ∷ false ∷ []) n p.tdi p.expects s some (to_ir chip s e),
+)

@@ -59,8 +59,8 @@ module _ {L : Type 0} (chip : Chip L) (p : Pins) (ps qs : List Pins) (s t : Stat
         ∙ ap (λ (k : Bool). led bs (cond k (last_bit p found t ∷ scans_of chip ps t) (led_by (shifted_at p found) (scans_of chip ps t)))) e
         ∙ led_some bs (last_bit p found t) (scans_of chip ps t)
         ∙ ap (λ (l : List Shifted). let x : Scan L = record { number = p.scan; bits = l; state = t } in x ∷ scans_of chip ps t) (sym more)
+    -- no clock is left
 
-  -- no clock is left
 pub no_clock : {L : Type 0} (chip : Chip L) (qs : List Pins) (s : State L) (bs : List Shifted) (all : List (Scan L)) → qs ≡ [] → led bs (scans_of chip qs s) ≡ all → all ≡ []
 no_clock {L} chip qs s bs all none left =
     sym left ∙ ap (λ (l : List Pins). led bs (scans_of chip l s)) none ∙ led_none bs

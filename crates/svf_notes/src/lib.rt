@@ -13,7 +13,5 @@ mod row;
 mod scan;
 
 pub use explained::{explained_len, put_explained_file};
-pub use laws::{
-    commands_stay, explained_commands_stay, scans_compare, scans_keep_their_path,
-};
+pub use laws::{commands_stay, explained_commands_stay, scans_compare, scans_keep_their_path};
 pub use place::{BitAnswer, FoundBit, find_bit};

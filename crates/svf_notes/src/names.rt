@@ -39,11 +39,7 @@ fn right_index(net: &Net, thing: u32) -> u32
 }
 
 /// Writes the path of a register.
-pub(crate) fn put_register_path(
-    net: &Net,
-    reg: u32,
-    note: &mut SureSink,
-) -> Result<(), StoreFault>
+pub(crate) fn put_register_path(net: &Net, reg: u32, note: &mut SureSink) -> Result<(), StoreFault>
     requires well_formed { IsNet net.now }
     requires there { reg < length net.now.regs.items }
     ensures { OnOk result (Adds (Some note.old) (Some note.new) (register_path net.now reg)) }

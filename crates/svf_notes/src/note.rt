@@ -92,10 +92,7 @@ fn put_number(number: u32, note: &mut SureSink) -> Result<(), StoreFault>
 {
     put_words(
         note,
-        &[
-            Word::Text(b"\n!: scan "),
-            Word::Number(u64::from(number)),
-        ],
+        &[Word::Text(b"\n!: scan "), Word::Number(u64::from(number))],
     )
 }
 

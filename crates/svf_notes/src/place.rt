@@ -210,12 +210,7 @@ fn line_of(
 }
 
 /// What is known of a position of the scan that was shifted last, by its number.
-fn bit_in(
-    alloc: Global,
-    playing: &Playing,
-    number: u32,
-    at: u64,
-) -> Result<FoundBit, OutOfMemory>
+fn bit_in(alloc: Global, playing: &Playing, number: u32, at: u64) -> Result<FoundBit, OutOfMemory>
     requires { IsPlaying playing.now }
     ensures answer { IfOk result (λ found. found.answer ≡ places.scan_answer at (Some (record { number = number; bits = playing.now.bits.items; state = playing.now.bench.state }))) }
     ensures line { IfOk result (λ found. found.line ≡ places.scan_text playing.now.net.now playing.now.device.now at (Some (record { number = number; bits = playing.now.bits.items; state = playing.now.bench.state }))) }

@@ -74,7 +74,15 @@ impl<'a> Playing<'a> {
     {
         let mut note = SureSink::new(alloc);
         let bits = self.bits.as_slice();
-        match put_note(alloc, self.net, self.device, &self.bench, number, bits, &mut note) {
+        match put_note(
+            alloc,
+            self.net,
+            self.device,
+            &self.bench,
+            number,
+            bits,
+            &mut note,
+        ) {
             Ok(()) => Ok(note),
             Err(_) => Err(OutOfMemory),
         }

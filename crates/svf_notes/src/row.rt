@@ -18,7 +18,11 @@ use net_graph::{Holds, Net};
 fn put_if(holds: bool, words: &[u8], note: &mut SureSink) -> Result<(), StoreFault>
     ensures { OnOk result (Adds (Some note.old) (Some note.new) (cond holds words.now [])) }
 {
-    if holds { note.write(words) } else { note.write(b"") }
+    if holds {
+        note.write(words)
+    } else {
+        note.write(b"")
+    }
 }
 
 /// Writes some words and one value of each bit, if there is something to show.
@@ -47,7 +51,13 @@ fn put_values(held: &Bits, bits: &[Shifted], note: &mut SureSink) -> Result<(), 
     note.write(b" writes ")?;
     put_digits(Shown::Written, bits, note)?;
     put_if(is_held(bits, held), b" as before", note)?;
-    put_shown_if(any_compared(bits), b" expects ", Shown::Expected, bits, note)?;
+    put_shown_if(
+        any_compared(bits),
+        b" expects ",
+        Shown::Expected,
+        bits,
+        note,
+    )?;
     put_shown_if(any_differs(bits), b" finds ", Shown::Found, bits, note)?;
     Ok(())
 }
