@@ -25,7 +25,8 @@ pub use network::{Network, read_network};
 pub use pdl::read_pdl;
 pub use procedure::check_procedure;
 pub use refusal::{
-    Arg, Refusal, Stage, StageFault, put_refusal, refused_limit, refused_name, refused_number,
+    Arg, Refusal, Stage, StageFault, put_refusal, refused, refused_limit, refused_name,
+    refused_number,
 };
 pub use svf::read_svf;
 pub use tables::read_tables;
