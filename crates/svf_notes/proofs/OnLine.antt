@@ -1,8 +1,7 @@
 -- No line of a note has a line feed: names are names of ICL, and all else is digits and words.
 use Rattle.std.proofs.Common.{◌≡◌, ℕ, zero, suc, ◌+◌, ◌/◌, ◌%◌, Bool, true, false, not, cond, List, [], ◌∷◌, ◌++◌, length, take, drop, map, get_or, refl, ap, sym, ◌∙◌, arith, decimal, nat_lt, Option, Some, None}
-use Rattle.std.specs.Prelude.{◌&&◌, ◌==◌, ◌||◌, All, IsTrue, codes}
+use Rattle.std.specs.Prelude.{◌==◌, ◌||◌, All, IsTrue, codes}
 use Rattle.std.specs.Fmt.{digits as digits_in, digits_onto, digit_glyph}
-use Rattle.std.specs.Char.{is_ascii_digit}
 use Rattle.std.specs.List.{AllByRecursion, flat_map, list_all, list_any}
 use Rattle.std.proofs.lemmas.Bool.{and_parts}
 use Rattle.std.proofs.lemmas.Bool.Decides.{nat_tests}
@@ -84,37 +83,37 @@ hex_on bits (suc n) = (code_on _, hex_on bits n)
 
 -- ---- names
 
-letter_shown : (b : ℕ) → in_name b ≡ true → not (b == 10) ≡ true
-letter_shown b h = cases (b == 10) refl
+letter_on : (b : ℕ) → in_name b ≡ true → (b == 10) ≡ false
+letter_on b h = cases (b == 10) refl
   where
-    cases : (k : Bool) → (b == 10) ≡ k → not (b == 10) ≡ true
-    cases false e = ap not e
+    cases : (k : Bool) → (b == 10) ≡ k → (b == 10) ≡ false
+    cases false e = e
     cases true e =
         let feed : b ≡ 10 = grind (arith, nat_tests) in
-        let none : in_name 10 ≡ true = ap in_name (sym feed) ∙ h in
+        let no : in_name 10 ≡ true = ap in_name (sym feed) ∙ h in
         absurd (cc)
 
-letters_shown : (bs : List ℕ) → list_all in_name bs ≡ true → list_all (λ b. not (b == 10)) bs ≡ true
-letters_shown [] h = refl
-letters_shown (b ∷ bs) h =
+letters_on : (bs : List ℕ) → list_all in_name bs ≡ true → IsOnLine bs
+letters_on [] h = tt
+letters_on (b ∷ bs) h =
     let both = and_parts (in_name b) (list_all in_name bs) h in
-    ap (λ k. k && list_all (λ b. not (b == 10)) bs) (letter_shown b both.0) ∙ letters_shown bs both.1
+    (letter_on b both.0, letters_on bs both.1)
 
 or_left : (k l : Bool) → k ≡ true → (k || l) ≡ true
 or_left true l e = refl
 or_left false l e = absurd (cc)
 
-name_shown : (name : List ℕ) → is_name name ≡ true → list_all (λ b. not (b == 10)) name ≡ true
-name_shown [] h = absurd (cc)
-name_shown (b ∷ bs) h =
+name_on : (name : List ℕ) → is_name name ≡ true → IsOnLine name
+name_on [] h = absurd (cc)
+name_on (b ∷ bs) h =
     let both = and_parts (begins_name b) (list_all in_name bs) h in
-    ap (λ k. k && list_all (λ b. not (b == 10)) bs) (letter_shown b (or_left (begins_name b) (is_ascii_digit b) both.0)) ∙ letters_shown bs both.1
+    (letter_on b (or_left (begins_name b) _ both.0), letters_on bs both.1)
 
 dots_on : (names : List (Listed ℕ)) → All (λ name. IsTrue (is_name name.items)) names → IsOnLine (flat_map with_dot names)
 dots_on [] all = tt
 dots_on (name ∷ names) all =
     both_on_line (with_dot name) (flat_map with_dot names)
-    (both_on_line name.items (46 ∷ []) (by_test name.items (name_shown name.items (All-head (λ (n : Listed ℕ). IsTrue (is_name n.items)) name names all))) (refl, tt))
+    (both_on_line name.items (46 ∷ []) (name_on name.items (All-head (λ (n : Listed ℕ). IsTrue (is_name n.items)) name names all)) (refl, tt))
     (dots_on names (All-tail (λ (n : Listed ℕ). IsTrue (is_name n.items)) name names all))
 
 nodes_on : (nodes : List Node) (n : ℕ) → All (λ node. All (λ name. IsTrue (is_name name.items)) node.path.items) nodes → IsOnLine (flat_map with_dot (get_or (map (λ node. node.path.items) nodes) n []))
@@ -126,7 +125,7 @@ nodes_on (node ∷ nodes) (suc n) all =
 
 things_on : (net : Net) (things : List Thing) (t : ℕ) → All (IsThing net) things → IsOnLine (get_or (map (λ thing. thing.name.items) things) t [])
 things_on net [] t all = tt
-things_on net (thing ∷ things) zero all = by_test thing.name.items (name_shown thing.name.items (All-head (IsThing net) thing things all).named)
+things_on net (thing ∷ things) zero all = name_on thing.name.items (All-head (IsThing net) thing things all).named
 things_on net (thing ∷ things) (suc t) all = things_on net things t (All-tail (IsThing net) thing things all)
 
 register_on : (net : Net) (r : ℕ) → IsNet net → IsOnLine (register_path net r)
