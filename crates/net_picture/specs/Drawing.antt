@@ -39,4 +39,4 @@ drawing_of net holds form = drawing_by (plan_of net holds) form
 
 abbrev pub seen_drawing : Drawn → Drawing
 seen_drawing d =
-    record { shapes = d.shapes.items; width = d.width; height = d.height; x = d.x; y = d.y }
+    record { shapes = d.shapes.items; width = d.view.width; height = d.view.height; x = d.view.x; y = d.view.y }
