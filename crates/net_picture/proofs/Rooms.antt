@@ -1,5 +1,5 @@
 -- Rooms of rows, and what stands before a point, one after the other.
-use Rattle.std.proofs.Common.{◌≡◌, ℕ, zero, suc, ◌+◌, ◌-◌, ◌<◌, List, [], ◌∷◌, ◌++◌, Option, Some, None, length, drop, get_or, refl, sym, ap, ◌∙◌, arith, append_assoc, append-nil}
+use Rattle.std.proofs.Common.{◌≡◌, ℕ, zero, suc, ◌+◌, ◌<◌, List, [], ◌∷◌, ◌++◌, Option, Some, None, length, drop, get_or, refl, sym, ap, ◌∙◌, arith, append_assoc, append-nil}
 use Rattle.std.specs.Prelude.{max, IfSome}
 use Rattle.std.proofs.Math.Seq.{drop-cons}
 use Rattle.net_graph.specs.declared.net.Net.{Net}
@@ -22,24 +22,26 @@ room_next rows j i row here room new within is next before hi ni =
     ∙ sym (ap values_room (drop-cons rows j row within))
 
 -- a point is met
-pub met_next : (net : Net) (holds : Holds) (n m : ℕ) (p : Point) (now next : Option Point) (old new all : List Point) → n ≡ suc m → now ≡ Some p → next ≡ before net holds p → new ≡ old ++ p ∷ []
-    → old ++ met_from net holds n now ≡ all → new ++ met_from net holds m next ≡ all
-met_next net holds n m p now next old new all more is ni added left =
-    ap (λ (xs : List Point). xs ++ met_from net holds m next) added
-    ∙ append_assoc old (p ∷ []) (met_from net holds m next)
-    ∙ ap (λ (o : Option Point). old ++ (p ∷ met_from net holds m o)) ni
-    ∙ sym (ap (λ (o : Option Point). old ++ met_from net holds (suc m) o) is)
-    ∙ sym (ap (λ (k : ℕ). old ++ met_from net holds k now) more) ∙ left
+pub met_next : (net : Net) (holds : Holds) (n : ℕ) (p : Point) (next : Option Point) (old new : List Point) → next ≡ before net holds p → new ≡ old ++ p ∷ []
+    → new ++ met_from net holds n next ≡ old ++ met_from net holds (suc n) (Some p)
+met_next net holds n p next old new ni added =
+    ap (λ (xs : List Point). xs ++ met_from net holds n next) added
+    ∙ append_assoc old (p ∷ []) (met_from net holds n next)
+    ∙ ap (λ (o : Option Point). old ++ (p ∷ met_from net holds n o)) ni
 
--- nothing more is met
+-- nothing is met
 none_met : (net : Net) (holds : Holds) (n : ℕ) → met_from net holds n None ≡ []
 none_met net holds zero = refl
 none_met net holds (suc n) = refl
 
-pub met_none : (net : Net) (holds : Holds) (n m : ℕ) (now : Option Point) (old all : List Point) → now ≡ None → old ++ met_from net holds n now ≡ all → old ++ met_from net holds m now ≡ all
-met_none net holds n m now old all is left =
-    ap (λ (o : Option Point). old ++ met_from net holds m o) is ∙ ap (λ (xs : List Point). old ++ xs) (none_met net holds m ∙ sym (none_met net holds n))
-    ∙ sym (ap (λ (o : Option Point). old ++ met_from net holds n o) is) ∙ left
+pub met_none : (net : Net) (holds : Holds) (n : ℕ) (old : List Point) → old ++ met_from net holds n None ≡ old ++ met_from net holds (suc n) None
+met_none net holds n old = ap (λ (xs : List Point). old ++ xs) (none_met net holds n)
+
+-- one move less is left
+pub met_turn : (net : Net) (holds : Holds) (n m : ℕ) (now next : Option Point) (old new all : List Point) → n ≡ suc m → ((k : ℕ) → new ++ met_from net holds k next ≡ old ++ met_from net holds (suc k) now)
+    → old ++ met_from net holds n now ≡ all → new ++ met_from net holds m next ≡ all
+met_turn net holds n m now next old new all more step left =
+    step m ∙ sym (ap (λ (k : ℕ). old ++ met_from net holds k now) more) ∙ left
 
 pub met_done : (net : Net) (holds : Holds) (n : ℕ) (now : Option Point) (old all : List Point) → n ≡ 0 → old ++ met_from net holds n now ≡ all → old ≡ all
 met_done net holds n now old all none left =

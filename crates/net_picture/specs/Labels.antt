@@ -1,5 +1,5 @@
 -- What is written at registers, multiplexers and rows, and how much room it takes.
-use Rattle.std.specs.Prelude.{ℕ, zero, suc, ◌+◌, ◌-◌, ◌*◌, ◌==◌, Bool, List, [], ◌∷◌, ◌++◌, codes, cond, decimal, drop, get_or, length, map, max, min, nat_le, take}
+use Rattle.std.specs.Prelude.{ℕ, ◌+◌, ◌-◌, ◌*◌, ◌==◌, List, [], ◌∷◌, ◌++◌, codes, cond, decimal, drop, get_or, length, map, max, min, nat_le, take}
 use Rattle.net_graph.specs.declared.net.Net.{Net}
 use Rattle.net_graph.specs.declared.net.Row.{Row}
 use Rattle.net_graph.specs.Named.{width_of}

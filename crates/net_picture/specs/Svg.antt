@@ -1,5 +1,5 @@
 -- The text of a drawing: scalable vector graphics (W3C, SVG 1.1), in two layers, the active path on top.
-use Rattle.std.specs.Prelude.{ℕ, ◌+◌, ◌/◌, Bool, true, false, List, [], ◌∷◌, ◌++◌, codes, cond, decimal}
+use Rattle.std.specs.Prelude.{ℕ, ◌/◌, Bool, true, false, List, [], ◌∷◌, ◌++◌, codes, cond, decimal}
 use Rattle.std.specs.List.{flat_map}
 use Rattle.ij_bits.specs.BitLists.{same_bit}
 use Rattle.net_graph.specs.declared.net.Net.{Net}

@@ -1,5 +1,5 @@
 // What is met on the active path.
-ghost use Rattle.std.specs.Prelude.{◌≡◌, ◌<◌, length, map, slice_index_or, IfOk, IfSome};
+ghost use Rattle.std.specs.Prelude.{◌≡◌, ◌+◌, ◌<◌, ◌++◌, ℕ, suc, length, map, slice_index_or, IfOk, IfSome};
 ghost use Rattle.net_graph.specs.Held.{AreHolds};
 ghost use Rattle.net_graph.specs.Named.{IsPointOf};
 ghost use Rattle.net_graph.specs.Nets.{IsNet};
@@ -8,7 +8,8 @@ ghost use Rattle.net_graph.specs.declared.net.Point.TheVariants as point;
 ghost use Rattle.net_picture.specs.Dot as dot;
 
 use ij_bits::{List, OutOfMemory};
-use net_graph::{Holds, Net, Point, Row, row_of};
+use net_graph::{Holds, Net, Point, Row, register_count, row_of};
+use net_list::mux_count;
 use net_tree::same_point;
 use std::alloc::Global;
 
@@ -78,12 +79,39 @@ pub(crate) fn met(alloc: Global, net: &Net, holds: &Holds) -> Result<Vec<Point>,
 {
     let mut points = Vec::new(alloc);
     let mut next = Some(net.out);
-    let most = net.regs.len() + net.muxes.len();
+    let most = most_moves(net);
     for _turn in 0..most {
-        if let Some(point) = next {
-            points.push(point)?;
-            next = before(net, holds, point);
-        }
+        next = meet(net, holds, next, &mut points)?;
     }
     Ok(points)
+}
+
+/// Adds a point that is met, and answers what stands before it.
+fn meet(
+    net: &Net,
+    holds: &Holds,
+    now: Option<Point>,
+    points: &mut Vec<Point>,
+) -> Result<Option<Point>, OutOfMemory>
+    requires well_formed { IsNet net.now }
+    requires holds { AreHolds net.now holds.now }
+    requires there { IfSome now (IsPointOf net.now) }
+    ensures there { IfOk result (λ next. IfSome next (IsPointOf net.now)) }
+    ensures left { IfOk result (λ next. (n : ℕ) → points.new.items ++ dot.met_from net.now holds.now n next ≡ points.old.items ++ dot.met_from net.now holds.now (suc n) now) }
+{
+    match now {
+        Some(point) => {
+            points.push(point)?;
+            Ok(before(net, holds, point))
+        }
+        None => Ok(None),
+    }
+}
+
+/// As many moves as there are registers and multiplexers.
+fn most_moves(net: &Net) -> usize
+    requires { IsNet net.now }
+    ensures { result ≡ length net.now.regs.items + length net.now.muxes.items }
+{
+    register_count(net) as usize + mux_count(net) as usize
 }

@@ -6,15 +6,15 @@ use Rattle.net_list.specs.Listing.{lines_from}
 use Rattle.net_picture.proofs.Lines.{line_then, all_lines}
 use Rattle.net_picture.proofs.dot.put_row_edges.Goals as goal
 
-pub returns-in_err-put_row_edge-clause-part : goal.returns-in_err-put_row_edge-clause-part
-returns-in_err-put_row_edge-clause-part g c =
+pub returns-in_err-put_row_line-clause-part : goal.returns-in_err-put_row_line-clause-part
+returns-in_err-put_row_line-clause-part g c =
     let line : ℕ → List ℕ = row_line c.args.net.now c.args.active c.args.selected c.args.mux in
     let i = c.loop-row.row in
     let count = c.row_count-count.result in
     let more : count - i ≡ suc (count - (i + 1)) = omega arith in
     let next : i + 1 ≡ suc i = omega arith in
     let front = subst (λ (rest : List ℕ). AddsFront (g.K.Sink.taken c.args.k.now) (g.K.Sink.taken c.loop-row.k) rest (lines_from line 0 count)) (line_then line i (i + 1) (count - i) (count - (i + 1)) more next) c.loop-row.invariant.front in
-    at_refusal c.from_residual.result (adds_part_as (ap (lines_from line 0) c.row_count-count.ensures) (front_part (line i) (lines_from line (i + 1) (count - (i + 1))) front c.in_err-put_row_edge.ensures.part))
+    at_refusal c.from_residual.result (adds_part_as (ap (lines_from line 0) c.row_count-count.ensures) (front_part (line i) (lines_from line (i + 1) (count - (i + 1))) front c.in_err-put_row_line.ensures.part))
 
 pub loop-row-preserved : goal.loop-row-preserved
 loop-row-preserved g c =
@@ -25,8 +25,8 @@ loop-row-preserved g c =
     let next : i + 1 ≡ suc i = omega arith in
     let front = subst (λ (rest : List ℕ). AddsFront (g.K.Sink.taken c.args.k.now) (g.K.Sink.taken c.loop-row.k) rest (lines_from line 0 count)) (line_then line i (i + 1) (count - i) (count - (i + 1)) more next) c.loop-row.invariant.front in
     record {
-      front = front_next (line i) (lines_from line (i + 1) (count - (i + 1))) front c.in_ok-put_row_edge.ensures.whole;
-      later = omega (arith, c.put_row_edge.ensures.cause.later);
+      front = front_next (line i) (lines_from line (i + 1) (count - (i + 1))) front c.in_ok-put_row_line.ensures.whole;
+      later = omega (arith, c.put_row_line.ensures.cause.later);
     }
 
 pub returns-clause-whole : goal.returns-clause-whole

@@ -1,7 +1,7 @@
-use Rattle.std.proofs.Common.{◌≡◌, List, ap, ◌∙◌}
+use Rattle.std.proofs.Common.{List, ap, ◌∙◌}
 use Rattle.ij_io.proofs.Adding.{whole_as, part_as}
 use Rattle.net_picture.specs.declared.shape.Shape.{Shape}
-use Rattle.net_picture.specs.Svg.{drawing_text, svg_text, view_text}
+use Rattle.net_picture.specs.Svg.{drawing_text, view_text}
 use Rattle.net_picture.proofs.svg.put_svg.Goals as goal
 
 pub returns-clause-whole : goal.returns-clause-whole
