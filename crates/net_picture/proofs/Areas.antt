@@ -1,17 +1,13 @@
 -- The boxes and funnels of a list of items follow one another, and those of rows lie one below the other.
-use Rattle.std.proofs.Common.{◌≡◌, ◌⊎◌, inl, inr, ℕ, zero, suc, ◌+◌, ◌-◌, ◌<◌, ◌≤◌, Bool, true, false, List, [], ◌∷◌, ◌++◌, Option, refl, sym, ap, ◌∙◌, subst, arith, append-nil}
-use Rattle.std.specs.Prelude.{All, cond, max, nat_le, ◌&&◌}
-use Rattle.std.specs.List.{flat_map}
+use Rattle.std.proofs.Common.{◌≡◌, ◌⊎◌, inl, inr, ℕ, suc, ◌+◌, ◌-◌, ◌≤◌, Bool, true, false, List, [], ◌∷◌, ◌++◌, Option, refl, sym, ◌∙◌, subst, arith, append-nil}
+use Rattle.std.specs.Prelude.{All, cond, ◌&&◌}
 use Rattle.std.proofs.lemmas.List.Elements.{All-nil, All-cons, All-append, All-weaker, All-head, All-tail}
-use Rattle.net_graph.specs.declared.net.Net.{Net}
-use Rattle.net_graph.specs.Signals.{Holds}
 use Rattle.net_tree.specs.Form.{Items, Nothing, RegThen, MuxThen, Rows, NoRow, RowThen}
 use Rattle.net_picture.specs.declared.plan.MuxPlan.{MuxPlan}
 use Rattle.net_picture.specs.declared.pen.Pen.{Pen}
 use Rattle.net_picture.specs.declared.pen.Fan.{Fan}
-use Rattle.net_picture.specs.declared.shape.Shape.{Shape}
 use Rattle.net_picture.specs.declared.shape.Shape.TheVariants.{Wire}
-use Rattle.net_picture.specs.Apart.{Area, Covers, area_of, areas_in, SharesNone, AreApart, IsWithin}
+use Rattle.net_picture.specs.Apart.{Area, area_of, areas_in, SharesNone, AreApart, IsWithin}
 use Rattle.net_picture.specs.Drawing.{first_pen, drawing_by, shapes_of}
 use Rattle.net_picture.specs.Layout.{drawn, pen_after, fan_after, rows_drawn, register_drawn, mux_drawn, pen_behind, row_wire, is_row}
 use Rattle.net_picture.specs.Pens.{start_at, is_full, next_line, ready, moved, after_register, after_row, fan_at, funnel_at, after_mux}

@@ -1,18 +1,18 @@
 -- What is picked of the shapes of a form, in their order, where nothing is picked of wires and select values.
-use Rattle.std.proofs.Common.{◌≡◌, ℕ, zero, suc, ◌+◌, ◌-◌, Bool, true, false, List, [], ◌∷◌, ◌++◌, Option, refl, sym, ap, ◌∙◌, append_assoc, append-nil}
+use Rattle.std.proofs.Common.{◌≡◌, ℕ, suc, ◌+◌, ◌-◌, Bool, true, false, List, [], ◌∷◌, ◌++◌, Option, refl, ap, ◌∙◌, append-nil}
 use Rattle.std.specs.Prelude.{cond, ◌&&◌}
 use Rattle.std.specs.List.{flat_map}
 use Rattle.std.proofs.lemmas.Grind.{flat_map-append}
-use Rattle.net_tree.specs.Form.{Items, Nothing, RegThen, MuxThen, Rows, NoRow, RowThen}
+use Rattle.net_tree.specs.Form.{Rows}
 use Rattle.net_picture.specs.declared.plan.MuxPlan.{MuxPlan}
 use Rattle.net_picture.specs.declared.pen.Pen.{Pen}
 use Rattle.net_picture.specs.declared.pen.Fan.{Fan}
 use Rattle.net_picture.specs.declared.shape.Shape.{Shape}
 use Rattle.net_picture.specs.declared.shape.Shape.TheVariants.{Register, Mux, Values, Wire}
 use Rattle.net_picture.specs.declared.shape.RowEnd.{RowEnd}
-use Rattle.net_picture.specs.Layout.{drawn, pen_after, fan_after, row_ends, rows_drawn, register_drawn, mux_drawn, mux_close, pen_behind, turn_back, wire_to, row_wire, row_shown, row_close, row_closes, is_row}
-use Rattle.net_picture.specs.Pens.{start_at, is_full, ready, after_register, after_row, fan_at, funnel_at}
-use Rattle.net_picture.specs.Plan.{Plan, box_of, mux_of}
+use Rattle.net_picture.specs.Layout.{fan_after, row_ends, rows_drawn, register_drawn, mux_drawn, mux_close, turn_back, wire_to, row_wire, row_shown, row_close, row_closes, is_row}
+use Rattle.net_picture.specs.Pens.{is_full, ready, fan_at, funnel_at}
+use Rattle.net_picture.specs.Plan.{Plan, mux_of}
 
 -- a register's box, and a multiplexer's funnel
 abbrev pub box_shape : Bool → Pen → ℕ → ℕ → Shape

@@ -1,5 +1,6 @@
 mod Walking
 mod Rooms
+mod Lines
 mod Gathering
 mod Whole
 mod Areas

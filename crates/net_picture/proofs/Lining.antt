@@ -1,11 +1,9 @@
 -- What is in colour is one line.
-use Rattle.std.proofs.Common.{◌≡◌, ⊎_elim, ℕ, zero, suc, ◌+◌, ◌-◌, ◌<◌, ◌≤◌, Bool, true, false, List, [], ◌∷◌, ◌++◌, Option, Some, None, length, refl, sym, ap, ◌∙◌, subst, arith}
-use Rattle.std.specs.Prelude.{◌&&◌, ◌==◌, cond}
-use Rattle.std.specs.List.{flat_map}
-use Rattle.std.proofs.lemmas.Bool.{ne_eqb}
+use Rattle.std.proofs.Common.{◌≡◌, ⊎_elim, ℕ, suc, ◌+◌, ◌-◌, ◌<◌, ◌≤◌, Bool, true, false, List, [], ◌∷◌, ◌++◌, Option, Some, length, refl, sym, ap, ◌∙◌, subst, arith}
+use Rattle.std.specs.Prelude.{cond}
 use Rattle.std.proofs.lemmas.Bool.Decides.{eqb_tells}
 use Rattle.std.proofs.lemmas.Grind.{flat_map-append}
-use Rattle.std.proofs.lemmas.Option.{none-some, same_Some}
+use Rattle.std.proofs.lemmas.Option.{none-some}
 use Rattle.ij_bits.proofs.Lists.{some_of}
 use Rattle.net_graph.specs.Chain.{IsRoute}
 use Rattle.net_graph.specs.declared.net.Net.{Net}
@@ -15,20 +13,20 @@ use Rattle.net_graph.specs.declared.net.Row.{Row}
 use Rattle.net_graph.specs.Path.{AreListed, mux_source, row_from, row_of, rows_of, select_value}
 use Rattle.net_graph.specs.Signals.{Holds, row_point, some_matches}
 use Rattle.net_tree.specs.Entries.{row_count}
-use Rattle.net_tree.specs.Form.{Items, Nothing, RegThen, MuxThen, Rows, NoRow, RowThen, muxes_in, muxes_in_rows, IsWired, AreWired, end_of, Describes}
+use Rattle.net_tree.specs.Form.{Items, Nothing, RegThen, MuxThen, Rows, NoRow, RowThen, muxes_in, muxes_in_rows, IsWired, AreWired, Describes}
 use Rattle.net_tree.proofs.Walks.{IsRoute-front, IsRoute-back}
 use Rattle.net_picture.specs.declared.plan.MuxPlan.{MuxPlan}
 use Rattle.net_picture.specs.declared.pen.Pen.{Pen}
 use Rattle.net_picture.specs.declared.pen.Fan.{Fan}
 use Rattle.net_picture.specs.declared.shape.Shape.{Shape}
-use Rattle.net_picture.specs.declared.shape.Shape.TheVariants.{Register, Mux, Values, Wire}
+use Rattle.net_picture.specs.declared.shape.Shape.TheVariants.{Register, Mux, Wire}
 use Rattle.net_picture.specs.declared.shape.RowEnd.{RowEnd}
-use Rattle.net_picture.specs.Drawing.{first_pen, shapes_of, drawing_by, drawing_of}
-use Rattle.net_picture.specs.Layout.{drawn, pen_after, fan_after, row_ends, rows_drawn, register_drawn, mux_drawn, mux_close, pen_behind, turn_back, wire_to, row_wire, row_shown, row_close, row_closes, is_row}
+use Rattle.net_picture.specs.Drawing.{first_pen, drawing_by, drawing_of}
+use Rattle.net_picture.specs.Layout.{drawn, pen_after, fan_after, row_ends, rows_drawn, register_drawn, mux_drawn, mux_close, pen_behind, turn_back, wire_to, row_wire, row_close, row_closes, is_row}
 use Rattle.net_picture.specs.Line.{Lead, lead_of, leads_in, IsLine}
 use Rattle.net_picture.specs.Pens.{start_at, is_full, next_line, ready, after_register, after_row, fan_at, funnel_at}
 use Rattle.net_picture.specs.Plan.{Plan, box_of, mux_of, plan_of}
-use Rattle.net_picture.proofs.Marking.{same_row, other_row, row_known}
+use Rattle.net_picture.proofs.Marking.{other_row, row_known}
 
 -- two lines, one after the other
 line_then : (x y u v to_x to_y : ℕ) (ls ks : List Lead) → IsLine x y ls u v → IsLine u v ks to_x to_y → IsLine x y (ls ++ ks) to_x to_y

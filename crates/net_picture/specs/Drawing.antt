@@ -1,5 +1,5 @@
 -- The drawing of a network in a state.
-use Rattle.std.specs.Prelude.{ℕ, ◌+◌, Bool, true, List, [], ◌∷◌, ◌++◌}
+use Rattle.std.specs.Prelude.{ℕ, ◌+◌, true, List, [], ◌∷◌, ◌++◌}
 use Rattle.net_graph.specs.declared.net.Net.{Net}
 use Rattle.net_graph.specs.Signals.{Holds}
 use Rattle.net_tree.specs.Form.{Items}
@@ -39,4 +39,4 @@ drawing_of net holds form = drawing_by (plan_of net holds) form
 
 abbrev pub seen_drawing : Drawn → Drawing
 seen_drawing d =
-    record { shapes = d.shapes.items; width = d.width; height = d.height; x = d.x; y = d.y }
+    record { shapes = d.shapes.items; width = d.view.width; height = d.view.height; x = d.view.x; y = d.view.y }

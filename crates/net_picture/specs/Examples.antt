@@ -1,10 +1,9 @@
 -- Worked examples, by hand.
-use Rattle.std.specs.Prelude.{◌≡◌, ◌+◌, ℕ, true, false, List, [], ◌∷◌, codes, Some, refl}
+use Rattle.std.specs.Prelude.{◌≡◌, true, false, [], ◌∷◌, codes, Some, refl}
 use Rattle.net_tree.specs.Form.{Items, Nothing, RegThen, MuxThen, NoRow, RowThen}
-use Rattle.net_picture.specs.declared.shape.Shape.{Shape}
 use Rattle.net_picture.specs.declared.shape.Shape.TheVariants.{Register, Mux, Values, Wire}
 use Rattle.net_picture.specs.Drawing.{drawing_by, shapes_of}
-use Rattle.net_picture.specs.Labels.{short, short_length}
+use Rattle.net_picture.specs.Labels.{ends_of, short}
 use Rattle.net_picture.specs.Plan.{Plan}
 
 -- one register, whose box is 84 wide
@@ -45,6 +44,7 @@ wide_shapes = refl
 
 -- labels
 cut_label : short 3 (codes "core.uart.R") ≡ codes "cor..t.R"
+unfolding ends_of
 cut_label = refl
 
 whole_label : short 3 (codes "uart.R.x") ≡ codes "uart.R.x"

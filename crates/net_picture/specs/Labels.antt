@@ -1,5 +1,5 @@
 -- What is written at registers, multiplexers and rows, and how much room it takes.
-use Rattle.std.specs.Prelude.{ℕ, zero, suc, ◌+◌, ◌-◌, ◌*◌, ◌==◌, Bool, List, [], ◌∷◌, ◌++◌, codes, cond, decimal, drop, length, max, min, nat_le, take}
+use Rattle.std.specs.Prelude.{ℕ, ◌+◌, ◌-◌, ◌*◌, ◌==◌, List, [], ◌∷◌, ◌++◌, codes, cond, decimal, drop, get_or, length, map, max, min, nat_le, take}
 use Rattle.net_graph.specs.declared.net.Net.{Net}
 use Rattle.net_graph.specs.declared.net.Row.{Row}
 use Rattle.net_graph.specs.Named.{width_of}
@@ -8,15 +8,23 @@ use Rattle.net_graph.specs.PathNames.{mux_path}
 use Rattle.net_list.specs.Drivers.{index_of, register_path}
 use Rattle.net_list.specs.Forms.{values_text}
 
+-- the ends of a text, and two dots in place of its middle
+unfoldable pub ends_of : List ℕ → List ℕ → List ℕ
+ends_of front back = front ++ (codes ".." ++ (back ++ []))
+
 -- a long text is cut in the middle, so that twice h letters and two dots are left
 abbrev pub short : ℕ → List ℕ → List ℕ
 short h text =
-    cond (nat_le (length text) (2 * h + 2)) text (take h text ++ (codes ".." ++ drop (length text - h) text))
+    cond (nat_le (length text) (2 * h + 2)) text (ends_of (take h text) (drop (length text - h) text))
 
--- the left and the right index of a register of several bits, in brackets
+-- a left and a right index in brackets
+unfoldable pub range_of : ℕ → ℕ → List ℕ
+range_of left right = codes "[" ++ (decimal left ++ (codes ":" ++ (decimal right ++ (codes "]" ++ []))))
+
+-- the left and the right index of a register of several bits
 abbrev pub range_text : Net → ℕ → List ℕ
 range_text net r =
-    codes "[" ++ (decimal (index_of net (record { reg = r; pos = width_of net r - 1 })) ++ (codes ":" ++ (decimal (index_of net (record { reg = r; pos = 0 })) ++ codes "]")))
+    range_of (index_of net (record { reg = r; pos = width_of net r - 1 })) (index_of net (record { reg = r; pos = 0 }))
 
 abbrev pub range_if : Net → ℕ → List ℕ
 range_if net r = cond (width_of net r == 1) [] (range_text net r)
@@ -25,11 +33,9 @@ range_if net r = cond (width_of net r == 1) [] (range_text net r)
 abbrev pub register_label : Net → ℕ → List ℕ
 register_label net r = register_path net r ++ range_if net r
 
--- the select values of row q
+-- the select values of row q, none for a row that isn't there
 abbrev pub row_values : List Row → ℕ → List ℕ
-row_values [] q = []
-row_values (row ∷ rows) zero = values_text row.values.items
-row_values (row ∷ rows) (suc q) = row_values rows q
+row_values rows q = get_or (map (λ row. values_text row.values.items) rows) q []
 
 -- how many letters are left of a text of so many
 abbrev pub short_length : ℕ → ℕ → ℕ

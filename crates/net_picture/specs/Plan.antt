@@ -1,5 +1,5 @@
 -- What has to be known of a network and its state before it is drawn.
-use Rattle.std.specs.Prelude.{ℕ, List, get_or, length, map, Option, None}
+use Rattle.std.specs.Prelude.{ℕ, List, get_or, length, map, None}
 use Rattle.std.specs.List.{range_with_len}
 use Rattle.net_graph.specs.declared.net.Net.{Net}
 use Rattle.net_graph.specs.Path.{row_of, rows_of}

@@ -1,5 +1,5 @@
 -- The text of a drawing: scalable vector graphics (W3C, SVG 1.1), in two layers, the active path on top.
-use Rattle.std.specs.Prelude.{ℕ, ◌+◌, ◌/◌, Bool, true, false, List, [], ◌∷◌, ◌++◌, codes, cond, decimal}
+use Rattle.std.specs.Prelude.{ℕ, ◌/◌, Bool, true, false, List, [], ◌∷◌, ◌++◌, codes, cond, decimal}
 use Rattle.std.specs.List.{flat_map}
 use Rattle.ij_bits.specs.BitLists.{same_bit}
 use Rattle.net_graph.specs.declared.net.Net.{Net}
@@ -8,6 +8,7 @@ use Rattle.net_graph.specs.Signals.{Holds}
 use Rattle.net_tree.specs.Form.{Items}
 use Rattle.net_list.specs.declared.format.ListFormat.TheVariants.{Text}
 use Rattle.net_list.specs.Lines.{reset_text, rows_text, selected_by, selects_of_text, selects_text, width_text}
+use Rattle.net_picture.specs.declared.drawing.View.{View}
 use Rattle.net_picture.specs.declared.shape.Shape.{Shape}
 use Rattle.net_picture.specs.declared.shape.Shape.TheVariants.{Register, Mux, Values, Wire}
 use Rattle.net_picture.specs.Drawing.{Drawing, drawing_of}
@@ -33,22 +34,22 @@ corner [] = 3
 corner (m ∷ ms) = 13
 
 -- a box with its tooltip and its label
-unfoldable pub box_text : List ℕ → List ℕ → ℕ → ℕ → ℕ → ℕ → Bool → List ℕ
-box_text title label round x y width active =
-    codes "<g transform=\"translate(" ++ (decimal x ++ (codes " " ++ (decimal y ++ (codes ")\"><title>" ++ (title ++ (codes "</title><rect class=\"" ++ (class_text active (codes "b a") (codes "b") ++ (codes "\" y=\"-13\" width=\"" ++ (decimal width ++ (codes "\" height=\"26\" rx=\"" ++ (decimal round ++ (codes "\"/><text class=\"n\" x=\"" ++ (decimal (width / 2) ++ (codes "\" y=\"4\">" ++ (label ++ (codes "</text></g>\n" ++ []))))))))))))))))
+unfoldable pub box_text : List ℕ → List ℕ → List ℕ → ℕ → ℕ → ℕ → ℕ → List ℕ
+box_text title label class round x y width =
+    codes "<g transform=\"translate(" ++ (decimal x ++ (codes " " ++ (decimal y ++ (codes ")\"><title>" ++ (title ++ (codes "</title><rect class=\"" ++ (class ++ (codes "\" y=\"-13\" width=\"" ++ (decimal width ++ (codes "\" height=\"26\" rx=\"" ++ (decimal round ++ (codes "\"/><text class=\"n\" x=\"" ++ (decimal (width / 2) ++ (codes "\" y=\"4\">" ++ (label ++ (codes "</text></g>\n" ++ []))))))))))))))))
 
 abbrev pub register_text : Net → ℕ → ℕ → ℕ → ℕ → Bool → List ℕ
 register_text net r x y width active =
-    box_text (register_title net r) (short_register net r) (corner (selected_by net r)) x y width active
+    box_text (register_title net r) (short_register net r) (class_text active (codes "b a") (codes "b")) (corner (selected_by net r)) x y width
 
 -- a funnel with its tooltip and its label
-unfoldable pub funnel_text : List ℕ → List ℕ → ℕ → ℕ → ℕ → Bool → List ℕ
-funnel_text title label x y height active =
-    codes "<g transform=\"translate(" ++ (decimal x ++ (codes " " ++ (decimal y ++ (codes ")\"><title>" ++ (title ++ (codes "</title><path class=\"" ++ (class_text active (codes "f a") (codes "f") ++ (codes "\" d=\"M0-13l14 6v" ++ (decimal height ++ (codes "v14l-14 6z\"/><text class=\"m\" x=\"18\" y=\"12\">" ++ (label ++ (codes "</text></g>\n" ++ []))))))))))))
+unfoldable pub funnel_text : List ℕ → List ℕ → List ℕ → ℕ → ℕ → ℕ → List ℕ
+funnel_text title label class x y height =
+    codes "<g transform=\"translate(" ++ (decimal x ++ (codes " " ++ (decimal y ++ (codes ")\"><title>" ++ (title ++ (codes "</title><path class=\"" ++ (class ++ (codes "\" d=\"M0-13l14 6v" ++ (decimal height ++ (codes "v14l-14 6z\"/><text class=\"m\" x=\"18\" y=\"12\">" ++ (label ++ (codes "</text></g>\n" ++ []))))))))))))
 
 abbrev pub mux_text : Net → ℕ → ℕ → ℕ → ℕ → Bool → List ℕ
 mux_text net m x y height active =
-    funnel_text (mux_title net m) (short_mux net m) x y height active
+    funnel_text (mux_title net m) (short_mux net m) (class_text active (codes "f a") (codes "f")) x y height
 
 unfoldable pub values_text : Net → ℕ → ℕ → ℕ → ℕ → List ℕ
 values_text net m q x y =
@@ -93,9 +94,13 @@ unfoldable pub ends_text : ℕ → ℕ → List ℕ
 ends_text x y =
     codes "<rect class=\"p\" width=\"100%\" height=\"100%\"/>\n<text x=\"20\" y=\"40\">TDI</text>\n<text x=\"" ++ (decimal x ++ (codes "\" y=\"" ++ (decimal y ++ (codes "\" dx=\"6\" dy=\"4\">TDO</text>\n" ++ []))))
 
+abbrev pub view_text : Net → View → List Shape → List ℕ
+view_text net v shapes =
+    size_text v.width v.height ++ (style_text ++ (ends_text v.x v.y ++ (layer_text net false shapes ++ (layer_text net true shapes ++ codes "</svg>\n"))))
+
 abbrev pub drawing_text : Net → Drawing → List ℕ
 drawing_text net d =
-    size_text d.width d.height ++ (style_text ++ (ends_text d.x d.y ++ (layer_text net false d.shapes ++ (layer_text net true d.shapes ++ codes "</svg>\n"))))
+    view_text net (record { width = d.width; height = d.height; x = d.x; y = d.y }) d.shapes
 
 -- a network in a state
 abbrev pub svg_text : Net → Items → Holds → List ℕ

@@ -240,6 +240,41 @@ fn put_row_edge<K: Sink>(
     )
 }
 
+/// Whether the edge of a row is on the active path.
+fn is_shown(active: bool, selected: Option<u32>, row: usize) -> bool
+    ensures { result ≡ (active && selects_row selected row) }
+{
+    active && is_row(selected, row)
+}
+
+/// Writes the edge of a row, on the active path where its multiplexer is and the row is selected.
+fn put_row_line<K: Sink>(
+    alloc: Global,
+    net: &Net,
+    active: bool,
+    selected: Option<u32>,
+    mux: u32,
+    row: usize,
+    k: &mut K,
+) -> Result<(), StoreFault>
+    requires there { mux < length net.now.muxes.items }
+    requires row { row < length (paths.rows_of net.now mux) }
+    ensures whole { OnOk result (Adds (K.taken k.old) (K.taken k.new) (dot.row_line net.now active selected mux row)) }
+    ensures part { OnErr result (AddsPart (K.taken k.old) (K.taken k.new) (dot.row_line net.now active selected mux row)) }
+    ensures cause { HasCause (K.faults k.old) (K.faults k.new) result StoreFault.Failed }
+{
+    let shown = is_shown(active, selected, row);
+    put_row_edge(alloc, net, shown, mux, row, k)
+}
+
+/// The select bits of a multiplexer.
+fn select_bits(net: &Net, mux: u32) -> &[BitId]
+    requires { mux < length net.now.muxes.items }
+    ensures { result.now ≡ selects_of net.now mux }
+{
+    net.muxes.get(mux as usize).select.as_slice()
+}
+
 /// How many rows a multiplexer has.
 fn row_count(net: &Net, mux: u32) -> usize
     requires { mux < length net.now.muxes.items }
@@ -264,8 +299,7 @@ fn put_row_edges<K: Sink>(
 {
     let count = row_count(net, mux);
     for row in 0..count {
-        let here = active && is_row(selected, row);
-        put_row_edge(alloc, net, here, mux, row, k)?;
+        put_row_line(alloc, net, active, selected, mux, row, k)?;
     }
     Ok(())
 }
@@ -317,7 +351,7 @@ fn put_mux_edges<K: Sink>(
 {
     let selected = row_of(net, holds, mux);
     let active = is_met(met, Point::Mux(mux));
-    let bits = net.muxes.get(mux as usize).select.as_slice();
+    let bits = select_bits(net, mux);
     put_row_edges(alloc, net, active, selected, mux, k)?;
     put_select_edges(mux, bits, k)?;
     Ok(())

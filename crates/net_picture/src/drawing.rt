@@ -16,14 +16,20 @@ use net_graph::{Holds, Net};
 use net_tree::Tree;
 use std::alloc::Global;
 
-/// What is drawn: its shapes, the size of the view, and where the wire to TDO ends.
-#[derive(Drop)]
-pub(crate) struct Drawing {
-    pub shapes: Vec<Shape>,
+/// The size of a view, and where the wire to TDO ends in it.
+#[derive(Clone, Copy, Drop)]
+pub(crate) struct View {
     pub width: u64,
     pub height: u64,
     pub x: u64,
     pub y: u64,
+}
+
+/// What is drawn: its shapes, and its view.
+#[derive(Drop)]
+pub(crate) struct Drawing {
+    pub shapes: Vec<Shape>,
+    pub view: View,
 }
 
 /// The drawing of a network in a state.
@@ -54,11 +60,11 @@ pub(crate) fn drawing_of(
         to_y: end.y,
         active: true,
     })?;
-    Ok(Drawing {
-        shapes,
+    let view = View {
         width,
         height,
         x,
         y: end.y,
-    })
+    };
+    Ok(Drawing { shapes, view })
 }

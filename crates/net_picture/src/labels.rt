@@ -11,7 +11,7 @@ ghost use Rattle.net_picture.specs.Labels as labels;
 
 use crate::numbers::{greater, room_for};
 use ij_bits::{OutOfMemory, Tern};
-use ij_io::{Sink, StoreFault, SureSink, put_decimal};
+use ij_io::{Sink, StoreFault, SureSink, Word, put_words};
 use net_graph::{BitId, Net, Row};
 use net_list::{index_of, put_register_path, put_values};
 use path_names::put_mux_path;
@@ -25,6 +25,16 @@ fn short_length(half: usize, letters: usize) -> usize
     letters.min(2 * half + 2)
 }
 
+/// Writes the ends of a text, and two dots in place of its middle.
+#[tactic(auto, unfolding(crate::specs::Labels::ends_of, ij_io::specs::Words::words_text))]
+fn put_ends<'a, K: Sink>(front: &'a [u8], back: &'a [u8], k: &mut K) -> Result<(), StoreFault>
+    ensures whole { OnOk result (Adds (K.taken k.old) (K.taken k.new) (labels.ends_of front.now back.now)) }
+    ensures part { OnErr result (AddsPart (K.taken k.old) (K.taken k.new) (labels.ends_of front.now back.now)) }
+    ensures cause { HasCause (K.faults k.old) (K.faults k.new) result StoreFault.Failed }
+{
+    put_words(k, &[Word::Text(front), Word::Text(b".."), Word::Text(back)])
+}
+
 /// Writes a text, cut in the middle where it is long.
 pub(crate) fn put_short<K: Sink>(half: usize, text: &[u8], k: &mut K) -> Result<(), StoreFault>
     requires { half ≤ 100 }
@@ -35,10 +45,7 @@ pub(crate) fn put_short<K: Sink>(half: usize, text: &[u8], k: &mut K) -> Result<
     if text.len() <= 2 * half + 2 {
         return k.write(text);
     }
-    k.write(&text[..half])?;
-    k.write(b"..")?;
-    k.write(&text[text.len() - half..])?;
-    Ok(())
+    put_ends(&text[..half], &text[text.len() - half..], k)
 }
 
 /// How many bits a register has.
@@ -49,6 +56,23 @@ pub(crate) fn width_of_register(net: &Net, reg: u32) -> u32
     ensures some { 1 ≤ result }
 {
     net.regs.get(reg as usize).width
+}
+
+/// Writes a left and a right index in brackets.
+#[tactic(auto, unfolding(crate::specs::Labels::range_of, ij_io::specs::Words::words_text))]
+fn put_range_of<K: Sink>(left: u64, right: u64, k: &mut K) -> Result<(), StoreFault>
+    ensures whole { OnOk result (Adds (K.taken k.old) (K.taken k.new) (labels.range_of left right)) }
+    ensures part { OnErr result (AddsPart (K.taken k.old) (K.taken k.new) (labels.range_of left right)) }
+    ensures cause { HasCause (K.faults k.old) (K.faults k.new) result StoreFault.Failed }
+{
+    let words = [
+        Word::Text(b"["),
+        Word::Number(left),
+        Word::Text(b":"),
+        Word::Number(right),
+        Word::Text(b"]"),
+    ];
+    put_words(k, &words)
 }
 
 /// Writes the left and the right index of a register.
@@ -64,12 +88,7 @@ fn put_range<K: Sink>(net: &Net, reg: u32, width: u32, k: &mut K) -> Result<(), 
     let pos = width - 1;
     let left = index_of(net, BitId { reg, pos });
     let right = index_of(net, BitId { reg, pos: 0 });
-    k.write(b"[")?;
-    put_decimal(left, k)?;
-    k.write(b":")?;
-    put_decimal(right, k)?;
-    k.write(b"]")?;
-    Ok(())
+    put_range_of(left, right, k)
 }
 
 /// Writes the left and the right index of a register of several bits.
@@ -137,7 +156,18 @@ fn values_label(alloc: Global, values: &[Tern]) -> Result<SureSink, OutOfMemory>
     }
 }
 
-/// The select values of a row, by its number.
+/// The select values of a row, by its number; none for a row that isn't there.
+fn values_at(alloc: Global, rows: &[Row], row: usize) -> Result<SureSink, OutOfMemory>
+    ensures { IfOk result (λ text. text ≡ labels.row_values rows.now row) }
+{
+    if row < rows.len() {
+        values_label(alloc, rows[row].values.as_slice())
+    } else {
+        Ok(SureSink::new(alloc))
+    }
+}
+
+/// The select values of a row of a multiplexer, by their numbers.
 pub(crate) fn row_label(
     alloc: Global,
     net: &Net,
@@ -148,10 +178,7 @@ pub(crate) fn row_label(
     ensures { IfOk result (λ text. text ≡ labels.row_values (rows_of net.now mux) row) }
 {
     let rows = net.muxes.get(mux as usize).rows.as_slice();
-    match rows.get(row) {
-        Some(row) => values_label(alloc, row.values.as_slice()),
-        None => Ok(SureSink::new(alloc)),
-    }
+    values_at(alloc, rows, row)
 }
 
 /// How wide a register's box is.

@@ -1,12 +1,15 @@
 // What is met on the active path.
-ghost use Rattle.std.specs.Prelude.{◌≡◌, ◌++◌, ◌∷◌, [], IfOk, IfSome};
+ghost use Rattle.std.specs.Prelude.{◌≡◌, ◌+◌, ◌<◌, ◌++◌, ℕ, suc, length, map, slice_index_or, IfOk, IfSome};
 ghost use Rattle.net_graph.specs.Held.{AreHolds};
 ghost use Rattle.net_graph.specs.Named.{IsPointOf};
 ghost use Rattle.net_graph.specs.Nets.{IsNet};
+ghost use Rattle.net_graph.specs.Path.{mux_source};
+ghost use Rattle.net_graph.specs.declared.net.Point.TheVariants as point;
 ghost use Rattle.net_picture.specs.Dot as dot;
 
-use ij_bits::OutOfMemory;
-use net_graph::{Holds, Net, Point, row_of};
+use ij_bits::{List, OutOfMemory};
+use net_graph::{Holds, Net, Point, Row, register_count, row_of};
+use net_list::mux_count;
 use net_tree::same_point;
 use std::alloc::Global;
 
@@ -32,6 +35,27 @@ pub(crate) fn is_marked(marked: Option<Point>, point: Point) -> bool
     }
 }
 
+/// The source of a row.
+fn source_at(rows: &List<Row>, row: u32) -> Point
+    requires { row < length rows.now.items }
+    ensures { result ≡ slice_index_or (map (λ r. r.from) rows.now.items) row point.Entry }
+{
+    rows.get(row as usize).from
+}
+
+/// What a multiplexer passes on: the source of the row that it is in.
+fn passed_on(net: &Net, holds: &Holds, mux: u32) -> Option<Point>
+    requires well_formed { IsNet net.now }
+    requires holds { AreHolds net.now holds.now }
+    requires there { mux < length net.now.muxes.items }
+    ensures { result ≡ mux_source net.now holds.now mux }
+{
+    match row_of(net, holds, mux) {
+        Some(row) => Some(source_at(&net.muxes.get(mux as usize).rows, row)),
+        None => None,
+    }
+}
+
 /// What stands before a point on the active path: nothing before scan-in, and nothing before a multiplexer that is in none of its rows.
 fn before(net: &Net, holds: &Holds, point: Point) -> Option<Point>
     requires well_formed { IsNet net.now }
@@ -43,10 +67,7 @@ fn before(net: &Net, holds: &Holds, point: Point) -> Option<Point>
     match point {
         Point::Entry => None,
         Point::Reg(reg) => Some(net.regs.get(reg as usize).from),
-        Point::Mux(mux) => match row_of(net, holds, mux) {
-            Some(row) => Some(net.muxes.get(mux as usize).rows.get(row as usize).from),
-            None => None,
-        },
+        Point::Mux(mux) => passed_on(net, holds, mux),
     }
 }
 
@@ -58,11 +79,39 @@ pub(crate) fn met(alloc: Global, net: &Net, holds: &Holds) -> Result<Vec<Point>,
 {
     let mut points = Vec::new(alloc);
     let mut next = Some(net.out);
-    for _turn in 0..net.regs.len() + net.muxes.len() {
-        if let Some(point) = next {
-            points.push(point)?;
-            next = before(net, holds, point);
-        }
+    let most = most_moves(net);
+    for _turn in 0..most {
+        next = meet(net, holds, next, &mut points)?;
     }
     Ok(points)
+}
+
+/// Adds a point that is met, and answers what stands before it.
+fn meet(
+    net: &Net,
+    holds: &Holds,
+    now: Option<Point>,
+    points: &mut Vec<Point>,
+) -> Result<Option<Point>, OutOfMemory>
+    requires well_formed { IsNet net.now }
+    requires holds { AreHolds net.now holds.now }
+    requires there { IfSome now (IsPointOf net.now) }
+    ensures there { IfOk result (λ next. IfSome next (IsPointOf net.now)) }
+    ensures left { IfOk result (λ next. (n : ℕ) → points.new.items ++ dot.met_from net.now holds.now n next ≡ points.old.items ++ dot.met_from net.now holds.now (suc n) now) }
+{
+    match now {
+        Some(point) => {
+            points.push(point)?;
+            Ok(before(net, holds, point))
+        }
+        None => Ok(None),
+    }
+}
+
+/// As many moves as there are registers and multiplexers.
+fn most_moves(net: &Net) -> usize
+    requires { IsNet net.now }
+    ensures { result ≡ length net.now.regs.items + length net.now.muxes.items }
+{
+    register_count(net) as usize + mux_count(net) as usize
 }

@@ -5,11 +5,10 @@ ghost use Rattle.ij_io.specs.Causes.{HasCause};
 ghost use Rattle.net_graph.specs.Held.{AreHolds};
 ghost use Rattle.net_graph.specs.Nets.{IsNet};
 ghost use Rattle.net_tree.specs.Form.{Describes};
-ghost use Rattle.net_picture.specs.Drawing.{seen_drawing};
 ghost use Rattle.net_picture.specs.Svg as svg;
 ghost use Rattle.net_picture.specs.There.{IsShapeOf};
 
-use crate::drawing::{Drawing, drawing_of};
+use crate::drawing::{View, drawing_of};
 use crate::shape::Shape;
 use crate::texts::{mux_title, register_title, short_mux, short_register, short_values};
 use ij_io::{Sink, StoreFault, Word, put_words};
@@ -32,34 +31,34 @@ fn corner(muxes: &[u32]) -> u64
     if muxes.is_empty() { 3 } else { 13 }
 }
 
-/// A box: its tooltip, its label, how round its corners are, its place and width, and whether it is on the active path.
+/// A box: its tooltip, its label, its class, how round its corners are, its place and its width.
 #[derive(Clone, Copy)]
 struct BoxText<'a> {
     title: &'a [u8],
     label: &'a [u8],
+    class: &'a [u8],
     round: u64,
     x: u64,
     y: u64,
     width: u64,
-    active: bool,
 }
 
-/// A funnel: its tooltip, its label, its place and height, and whether it is on the active path.
+/// A funnel: its tooltip, its label, its class, its place and its height.
 #[derive(Clone, Copy)]
 struct FunnelText<'a> {
     title: &'a [u8],
     label: &'a [u8],
+    class: &'a [u8],
     x: u64,
     y: u64,
     height: u64,
-    active: bool,
 }
 
 /// Writes a box.
 #[tactic(auto, unfolding(crate::specs::Svg::box_text, ij_io::specs::Words::words_text))]
 fn put_box<K: Sink>(it: BoxText<'_>, k: &mut K) -> Result<(), StoreFault>
-    ensures whole { OnOk result (Adds (K.taken k.old) (K.taken k.new) (svg.box_text it.entry.title.now it.entry.label.now it.entry.round it.entry.x it.entry.y it.entry.width it.entry.active)) }
-    ensures part { OnErr result (AddsPart (K.taken k.old) (K.taken k.new) (svg.box_text it.entry.title.now it.entry.label.now it.entry.round it.entry.x it.entry.y it.entry.width it.entry.active)) }
+    ensures whole { OnOk result (Adds (K.taken k.old) (K.taken k.new) (svg.box_text it.entry.title.now it.entry.label.now it.entry.class.now it.entry.round it.entry.x it.entry.y it.entry.width)) }
+    ensures part { OnErr result (AddsPart (K.taken k.old) (K.taken k.new) (svg.box_text it.entry.title.now it.entry.label.now it.entry.class.now it.entry.round it.entry.x it.entry.y it.entry.width)) }
     ensures cause { HasCause (K.faults k.old) (K.faults k.new) result StoreFault.Failed }
 {
     let words = [
@@ -70,7 +69,7 @@ fn put_box<K: Sink>(it: BoxText<'_>, k: &mut K) -> Result<(), StoreFault>
         Word::Text(b")\"><title>"),
         Word::Text(it.title),
         Word::Text(b"</title><rect class=\""),
-        Word::Text(class(it.active, b"b a", b"b")),
+        Word::Text(it.class),
         Word::Text(b"\" y=\"-13\" width=\""),
         Word::Number(it.width),
         Word::Text(b"\" height=\"26\" rx=\""),
@@ -87,8 +86,8 @@ fn put_box<K: Sink>(it: BoxText<'_>, k: &mut K) -> Result<(), StoreFault>
 /// Writes a funnel.
 #[tactic(auto, unfolding(crate::specs::Svg::funnel_text, ij_io::specs::Words::words_text))]
 fn put_funnel<K: Sink>(it: FunnelText<'_>, k: &mut K) -> Result<(), StoreFault>
-    ensures whole { OnOk result (Adds (K.taken k.old) (K.taken k.new) (svg.funnel_text it.entry.title.now it.entry.label.now it.entry.x it.entry.y it.entry.height it.entry.active)) }
-    ensures part { OnErr result (AddsPart (K.taken k.old) (K.taken k.new) (svg.funnel_text it.entry.title.now it.entry.label.now it.entry.x it.entry.y it.entry.height it.entry.active)) }
+    ensures whole { OnOk result (Adds (K.taken k.old) (K.taken k.new) (svg.funnel_text it.entry.title.now it.entry.label.now it.entry.class.now it.entry.x it.entry.y it.entry.height)) }
+    ensures part { OnErr result (AddsPart (K.taken k.old) (K.taken k.new) (svg.funnel_text it.entry.title.now it.entry.label.now it.entry.class.now it.entry.x it.entry.y it.entry.height)) }
     ensures cause { HasCause (K.faults k.old) (K.faults k.new) result StoreFault.Failed }
 {
     let words = [
@@ -99,7 +98,7 @@ fn put_funnel<K: Sink>(it: FunnelText<'_>, k: &mut K) -> Result<(), StoreFault>
         Word::Text(b")\"><title>"),
         Word::Text(it.title),
         Word::Text(b"</title><path class=\""),
-        Word::Text(class(it.active, b"f a", b"f")),
+        Word::Text(it.class),
         Word::Text(b"\" d=\"M0-13l14 6v"),
         Word::Number(it.height),
         Word::Text(b"v14l-14 6z\"/><text class=\"m\" x=\"18\" y=\"12\">"),
@@ -132,11 +131,11 @@ fn put_register<K: Sink>(
     let it = BoxText {
         title: title.bytes(),
         label: label.bytes(),
+        class: class(active, b"b a", b"b"),
         round: corner(muxes.as_slice()),
         x,
         y,
         width,
-        active,
     };
     put_box(it, k)
 }
@@ -163,10 +162,10 @@ fn put_mux<K: Sink>(
     let it = FunnelText {
         title: title.bytes(),
         label: label.bytes(),
+        class: class(active, b"f a", b"f"),
         x,
         y,
         height,
-        active,
     };
     put_funnel(it, k)
 }
@@ -361,24 +360,25 @@ fn put_ends<K: Sink>(x: u64, y: u64, k: &mut K) -> Result<(), StoreFault>
     put_words(k, &words)
 }
 
-/// Writes a drawing.
+/// Writes a drawing of these shapes.
 fn put_drawing<K: Sink>(
     alloc: Global,
     net: &Net,
-    drawing: &Drawing,
+    view: View,
+    shapes: &[Shape],
     k: &mut K,
 ) -> Result<(), StoreFault>
     requires well_formed { IsNet net.now }
-    requires there { All (IsShapeOf net.now) drawing.now.shapes.items }
-    ensures whole { OnOk result (Adds (K.taken k.old) (K.taken k.new) (svg.drawing_text net.now (seen_drawing drawing.now))) }
-    ensures part { OnErr result (AddsPart (K.taken k.old) (K.taken k.new) (svg.drawing_text net.now (seen_drawing drawing.now))) }
+    requires there { All (IsShapeOf net.now) shapes.now }
+    ensures whole { OnOk result (Adds (K.taken k.old) (K.taken k.new) (svg.view_text net.now view shapes.now)) }
+    ensures part { OnErr result (AddsPart (K.taken k.old) (K.taken k.new) (svg.view_text net.now view shapes.now)) }
     ensures cause { HasCause (K.faults k.old) (K.faults k.new) result StoreFault.Failed }
 {
-    put_size(drawing.width, drawing.height, k)?;
+    put_size(view.width, view.height, k)?;
     put_style(k)?;
-    put_ends(drawing.x, drawing.y, k)?;
-    put_layer(alloc, net, false, &drawing.shapes, k)?;
-    put_layer(alloc, net, true, &drawing.shapes, k)?;
+    put_ends(view.x, view.y, k)?;
+    put_layer(alloc, net, false, shapes, k)?;
+    put_layer(alloc, net, true, shapes, k)?;
     k.write(b"</svg>\n")?;
     Ok(())
 }
@@ -409,5 +409,5 @@ pub fn put_svg<K: Sink>(
     ensures cause { HasCause (K.faults k.old) (K.faults k.new) result StoreFault.Failed }
 {
     let drawing = drawing_of(alloc, net, tree, holds)?;
-    put_drawing(alloc, net, &drawing, k)
+    put_drawing(alloc, net, drawing.view, &drawing.shapes, k)
 }

@@ -1,17 +1,11 @@
-use Rattle.std.proofs.Common.{◌≡◌, ◌+◌, ◌-◌, ◌<◌, ◌≤◌, ◌++◌, ◌∷◌, [], ℕ, Bool, List, suc, refl, sym, ap, ◌∙◌, subst, arith, drop, take, length}
-use Rattle.std.specs.Prelude.{◌&&◌}
-use Rattle.net_tree.specs.declared.entry.Entry.{Entry}
+use Rattle.std.proofs.Common.{◌≡◌, ◌+◌, ◌-◌, ◌<◌, ◌++◌, ◌∷◌, [], ℕ, Bool, List, suc, ap, ◌∙◌, subst, arith, drop, take, length}
 use Rattle.net_tree.specs.declared.entry.Entry.TheVariants.{Reg, Mux, Row}
-use Rattle.net_tree.specs.Entries.{entries_of, row_entries, row_count}
-use Rattle.net_tree.specs.Form.{Items, Rows}
 use Rattle.net_picture.specs.declared.layout.ItemsDrawn.{ItemsDrawn}
 use Rattle.net_picture.specs.declared.pen.Pen.{Pen}
-use Rattle.net_picture.specs.declared.pen.Fan.{Fan}
 use Rattle.net_picture.specs.declared.shape.Shape.{Shape}
-use Rattle.net_picture.specs.declared.shape.RowEnd.{RowEnd}
-use Rattle.net_picture.specs.Layout.{drawn, pen_after, fan_after, register_drawn, row_ends, rows_drawn, row_wire, is_row}
+use Rattle.net_picture.specs.Layout.{drawn, pen_after, fan_after, register_drawn, row_ends, rows_drawn, row_wire}
 use Rattle.net_picture.specs.Pens.{after_register, ready}
-use Rattle.net_picture.specs.Plan.{Plan, seen_plan}
+use Rattle.net_picture.specs.Plan.{seen_plan}
 use Rattle.net_picture.specs.Walk.{ItemsAreLeft, RowsAreLeft}
 use Rattle.net_picture.proofs.Walking.{entry_at, none_left, all_left, register_left, mux_left, MuxIsDrawn, row_not_left, row_left, no_register_next, no_mux_next, some_entry, all_rows, no_row_left, if_ok, mux_done}
 use Rattle.net_picture.proofs.layout.+form.Goals as goal
