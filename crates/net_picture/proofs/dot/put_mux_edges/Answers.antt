@@ -17,7 +17,7 @@ returns-in_err-put_row_edges-clause-part g c =
     let bits = c.select_bits-bits.result.now in
     let selected = c.row_of-selected.result in
     let same = ap (λ (b : Bool). text b selected bits) c.is_met-active.ensures ∙ ap (λ (o : Option ℕ). text (is_met met (Mux m)) o bits) c.row_of-selected.ensures
-        ∙ ap (text (is_met met (Mux m)) (row_of net c.args.holds.now m)) c.select_bits-bits.ensures in
+    ∙ ap (text (is_met met (Mux m)) (row_of net c.args.holds.now m)) c.select_bits-bits.ensures in
     at_refusal c.from_residual.result (adds_part_as same (adds_front _ c.in_err-put_row_edges.ensures.part))
 
 pub returns-in_err-put_select_edges-clause-part : goal.returns-in_err-put_select_edges-clause-part
@@ -29,7 +29,7 @@ returns-in_err-put_select_edges-clause-part g c =
     let bits = c.select_bits-bits.result.now in
     let selected = c.row_of-selected.result in
     let same = ap (λ (b : Bool). text b selected bits) c.is_met-active.ensures ∙ ap (λ (o : Option ℕ). text (is_met met (Mux m)) o bits) c.row_of-selected.ensures
-        ∙ ap (text (is_met met (Mux m)) (row_of net c.args.holds.now m)) c.select_bits-bits.ensures in
+    ∙ ap (text (is_met met (Mux m)) (row_of net c.args.holds.now m)) c.select_bits-bits.ensures in
     at_refusal c.from_residual-in_err-put_select_edges.result (adds_part_as same (adds_then_part c.in_ok-put_row_edges.ensures.whole c.in_err-put_select_edges.ensures.part))
 
 pub returns-clause-whole : goal.returns-clause-whole
@@ -41,5 +41,5 @@ returns-clause-whole g c =
     let bits = c.select_bits-bits.result.now in
     let selected = c.row_of-selected.result in
     let same = ap (λ (b : Bool). text b selected bits) c.is_met-active.ensures ∙ ap (λ (o : Option ℕ). text (is_met met (Mux m)) o bits) c.row_of-selected.ensures
-        ∙ ap (text (is_met met (Mux m)) (row_of net c.args.holds.now m)) c.select_bits-bits.ensures in
+    ∙ ap (text (is_met met (Mux m)) (row_of net c.args.holds.now m)) c.select_bits-bits.ensures in
     adds_as same (adds_both c.in_ok-put_row_edges.ensures.whole c.in_ok-put_select_edges.ensures.whole)
