@@ -6,7 +6,7 @@ use Rattle.ijtag_work.specs.Task.{work}
 use Rattle.ijtag_tools.specs.Order.{task}
 use Rattle.ijtag_tools.specs.Words.{seen_command}
 use Rattle.ijtag_tools.specs.declared.words.ToolWords.{ToolWords}
-use Rattle.ijtag_tools.specs.declared.words.ToolWords.TheVariants.{Tighten}
+use Rattle.ijtag_tools.specs.declared.words.ToolWords.TheVariants.{Explain, Where, Picture, Tighten}
 use Rattle.ijtag_tools.proofs.commands.ToolWordsCommand.run.Goals as goal
 
 pub returns-in-Tighten-clause-done : goal.returns-in-Tighten-clause-done
@@ -14,3 +14,21 @@ returns-in-Tighten-clause-done g c =
     let is : Tighten c.in-Tighten.it ≡ c.args.self.now = search rules in
     subst (λ (w : ToolWords). IfOk c.accept_and_act-in-Tighten.result (λ verdict. IsDone (work (g.S.Shelf.files c.args.shelf.now) (task (seen_command w)))
     (seen g.S.Shelf.files g.O.Sink.taken c.args.shelf.now c.args.out.now) (seen g.S.Shelf.files g.O.Sink.taken c.accept_and_act-in-Tighten.new.shelf c.accept_and_act-in-Tighten.new.out) (differing verdict))) is c.accept_and_act-in-Tighten.ensures.done
+
+pub returns-in-Explain-clause-done : goal.returns-in-Explain-clause-done
+returns-in-Explain-clause-done g c =
+    let is : Explain c.in-Explain.it ≡ c.args.self.now = search rules in
+    subst (λ (w : ToolWords). IfOk c.accept_and_act-in-Explain.result (λ verdict. IsDone (work (g.S.Shelf.files c.args.shelf.now) (task (seen_command w)))
+    (seen g.S.Shelf.files g.O.Sink.taken c.args.shelf.now c.args.out.now) (seen g.S.Shelf.files g.O.Sink.taken c.accept_and_act-in-Explain.new.shelf c.accept_and_act-in-Explain.new.out) (differing verdict))) is c.accept_and_act-in-Explain.ensures.done
+
+pub returns-in-Where-clause-done : goal.returns-in-Where-clause-done
+returns-in-Where-clause-done g c =
+    let is : Where c.in-Where.it ≡ c.args.self.now = search rules in
+    subst (λ (w : ToolWords). IfOk c.accept_and_act-in-Where.result (λ verdict. IsDone (work (g.S.Shelf.files c.args.shelf.now) (task (seen_command w)))
+    (seen g.S.Shelf.files g.O.Sink.taken c.args.shelf.now c.args.out.now) (seen g.S.Shelf.files g.O.Sink.taken c.accept_and_act-in-Where.new.shelf c.accept_and_act-in-Where.new.out) (differing verdict))) is c.accept_and_act-in-Where.ensures.done
+
+pub returns-in-Picture-clause-done : goal.returns-in-Picture-clause-done
+returns-in-Picture-clause-done g c =
+    let is : Picture c.in-Picture.it ≡ c.args.self.now = search rules in
+    subst (λ (w : ToolWords). IfOk c.accept_and_act-in-Picture.result (λ verdict. IsDone (work (g.S.Shelf.files c.args.shelf.now) (task (seen_command w)))
+    (seen g.S.Shelf.files g.O.Sink.taken c.args.shelf.now c.args.out.now) (seen g.S.Shelf.files g.O.Sink.taken c.accept_and_act-in-Picture.new.shelf c.accept_and_act-in-Picture.new.out) (differing verdict))) is c.accept_and_act-in-Picture.ensures.done
