@@ -1,25 +1,17 @@
 use Rattle.std.specs.Prelude.{option_map}
-use Rattle.std.proofs.Common.{◌≡◌, ◌∙◌, refl, sym, subst, inl, ℕ, List, Some}
+use Rattle.std.proofs.Common.{◌≡◌, ◌∙◌, refl, subst, ℕ, List, Some}
 use Rattle.ij_io.specs.Files.{file_at}
 use Rattle.ij_io.specs.Pieces.{HoldsPart}
-use Rattle.ijtag_stages.specs.Refusals.{Part}
 use Rattle.ijtag_stages.specs.Work.{give}
 use Rattle.ijtag_work.specs.Accepted.{SeenAccepted}
-use Rattle.ijtag_work.specs.Late.{IsLateStop}
-use Rattle.ijtag_work.specs.Leaves.{Leaves}
 use Rattle.ijtag_work.specs.Order.{filed}
-use Rattle.ijtag_work.specs.Runs.{Counts, counts}
-use Rattle.ijtag_work.specs.Stops.{Stop}
-use Rattle.ijtag_work.specs.Task.{task_of}
 use Rattle.ijtag_work.specs.Using.{seen_accepted}
 use Rattle.ijtag_work.proofs.Ends.{file_done, file_part}
-use Rattle.ijtag_core.proofs.Acting.{file_stops}
-use Rattle.ijtag_tools.specs.Order.{drawing_of, picture}
-use Rattle.ijtag_tools.specs.Words.{seen_picture}
+use Rattle.ijtag_tools.specs.Order.{drawing_of}
 use Rattle.ijtag_tools.proofs.picture.PictureWordsEffect.act.Goals as goal
 
-pub returns-in-Err-clause-part : goal.returns-in-Err-clause-part
-returns-in-Err-clause-part g c =
+pub returns-clause-part : goal.returns-clause-part
+returns-clause-part g c =
     let name : List ℕ = c.args.self.now.picture.now in
     let bytes : List ℕ = drawing_of c.args.self.now.format (seen_accepted c.args.it.now) in
     let old = g.S.Shelf.files c.args.shelf.now in
