@@ -1,4 +1,7 @@
 // The drawings and graphs of networks.
+ghost use Rattle.std.specs.Prelude.{IfOk};
+ghost use Rattle.net_graph.specs.Held.{AreHolds};
+
 use crate::network_texts::network_of;
 use ij_io::SureSink;
 use nest_check::nest;
@@ -8,7 +11,10 @@ use std::alloc::Global;
 use std::test::Fail;
 
 /// The state of a network at power-up.
-fn power_up(alloc: Global, net: &Net) -> Result<Holds, Fail> {
+#[tactic(auto, using(net_graph::proofs::Widths::start_held))]
+fn power_up(alloc: Global, net: &Net) -> Result<Holds, Fail>
+    ensures { IfOk result (AreHolds net.now) }
+{
     match Holds::power_up(alloc, net) {
         Ok(holds) => Ok(holds),
         Err(_) => Err(Fail::new("no memory")),
