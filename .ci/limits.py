@@ -113,18 +113,18 @@ with tempfile.TemporaryDirectory() as folder:
     check('its processor seconds are few', resource.getrusage(resource.RUSAGE_CHILDREN).ru_utime - before < 20, True)
 
     # an explained text of exactly the limit can be read again, and one byte more is too long
-    scans, note = 1_800_000, '\n!: scan {} path 4\n!:   3..0 net.R[3:0] writes 0101'
-    notes = len('\n!: scan 1 instruction A0 network') + sum(len(note.format(n)) for n in range(2, scans + 2)) + (scans - 1) * len(' as before')
-    text = 'SIR 8 TDI (A0);\nSDR 4 TDI (5);\n' + 'SDR 4;\n' * (scans - 1)
-    text += '!' + 'x' * (SVF_LIMIT - len(text) - notes - 2) + '\n'
+    count_of_scans, note = 1_800_000, '\n!: scan {} path 4\n!:   3..0 net.R[3:0] writes 0101'
+    notes = len('\n!: scan 1 instruction A0 network') + sum(len(note.format(n)) for n in range(2, count_of_scans + 2)) + (count_of_scans - 1) * len(' as before')
+    source = 'SIR 8 TDI (A0);\nSDR 4 TDI (5);\n' + 'SDR 4;\n' * (count_of_scans - 1)
+    source += '!' + 'x' * (SVF_LIMIT - len(source) - notes - 2) + '\n'
     explained = folder / 'explained.svf'
     words = ['tools', 'explain', svf, FLAT / 'chip.icl', FLAT / 'chip.dev', FLAT / 'chip.tab', 'chip', explained]
-    svf.write_text(text)
+    svf.write_text(source)
     check('an explained text at the limit', run(words), (0, b'', b''))
     check('its size', explained.stat().st_size, SVF_LIMIT)
     check('its play', play(explained), play(svf))
     explained.unlink()
-    svf.write_text(text + ' ')
+    svf.write_text(source + ' ')
     check('an explained text above the limit', run(words), (3, b'', b'refused explain TooLong\n'))
     check('no explained text is begun', explained.exists(), False)
 
