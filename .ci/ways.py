@@ -5,7 +5,7 @@ import pathlib
 import re
 import sys
 
-CRATES, LEVELS, WAYS = 55, 13, 15_000
+CRATES, LEVELS, WAYS = 56, 13, 15_000
 PROGRAM = "ijtag_cli"
 
 
@@ -44,8 +44,12 @@ def main():
     for crate, it in unnamed:
         print(f"ways: {crate} stands on {it}, and no file of it names it")
     print(f"ways: {len(below)} crates, {levels[PROGRAM]} levels, {ways[PROGRAM]} ways from {PROGRAM}")
-    is_well = len(below) <= CRATES and max(levels.values()) <= LEVELS and max(ways.values()) < WAYS and not unnamed
-    return 0 if is_well else 1
+    bounds = [("crates", len(below), CRATES), ("levels", max(levels.values()), LEVELS),
+              ("ways", max(ways.values()), WAYS)]
+    wide = [it for it in bounds if it[1] > it[2]]
+    for what, count_now, bound in wide:
+        print(f"ways: {count_now} {what}, {bound} is the most")
+    return 1 if wide or unnamed else 0
 
 
 sys.exit(main())

@@ -70,12 +70,14 @@ def man_page(program, page, what_it_is):
 
 def completion_of(program, page):
     function = '_' + program.replace('-', '_')
-    cases = '\n'.join(f'    {name}) kinds=({" ".join(its)}) ;;' for name, its, _ in page.commands)
+    # a command with several rows has the words of the last one, which goes on where the others end
+    longest = {name: its for name, its, _ in page.commands}
+    cases = '\n'.join(f'    {name}) kinds=({" ".join(its)}) ;;' for name, its in longest.items())
     return f'''{function}() {{
   local current=${{COMP_WORDS[COMP_CWORD]}} kinds=()
   COMPREPLY=()
   if [ "$COMP_CWORD" = 1 ]; then
-    mapfile -t COMPREPLY < <(compgen -W '{" ".join(name for name, _, _ in page.commands)}' -- "$current")
+    mapfile -t COMPREPLY < <(compgen -W '{" ".join(longest)}' -- "$current")
     return
   fi
   case ${{COMP_WORDS[1]}} in
@@ -92,14 +94,16 @@ def completion():
 
 # completes a word of a command that has words of these kinds
 _ijtag_word() {{
-  local current=${{COMP_WORDS[COMP_CWORD]}} kinds=("$@") kind at icl= pdl=
+  local current=${{COMP_WORDS[COMP_CWORD]}} kinds=("$@") kind at icl= pdl= formats='text json'
+  [ "${{COMP_WORDS[1]}}" = picture ] && formats='svg dot'
   kind=${{kinds[COMP_CWORD - 2]:-}}
   for at in "${{!kinds[@]}}"; do
     [ "${{kinds[at]}}" = ICL ] && icl=${{COMP_WORDS[at + 2]:-}}
     [ "${{kinds[at]}}" = PDL ] && pdl=${{COMP_WORDS[at + 2]:-}}
   done
   case $kind in
-    FORMAT) mapfile -t COMPREPLY < <(compgen -W 'text json' -- "$current") ;;
+    FORMAT) mapfile -t COMPREPLY < <(compgen -W "$formats" -- "$current") ;;
+    KIND) mapfile -t COMPREPLY < <(compgen -W 'pins state all' -- "$current") ;;
     HOW) mapfile -t COMPREPLY < <(compgen -W 'full lean late' -- "$current") ;;
     ICL | PDL | DEVICE | TABLES | SVF | NEW | STEM) mapfile -t COMPREPLY < <(compgen -f -- "$current") ;;
     TOP) mapfile -t COMPREPLY < <(compgen -W "$(sed -n 's/^[[:blank:]]*Module[[:blank:]]*\\([[:alnum:]_]*\\).*/\\1/p' "$icl" 2> /dev/null)" -- "$current") ;;
@@ -127,7 +131,10 @@ if '--write' in sys.argv:
         pathlib.Path(name).write_text(text)
 wrong = [f'{name} is not what the pages give: run .ci/words.py --write' for name, text in made.items()
          if not pathlib.Path(name).is_file() or pathlib.Path(name).read_text() != text]
-on_first_page = re.findall(r'(?m)^\| `(\w+) ([A-Z ]+)` \|', pathlib.Path('README.md').read_text())
+on_first_page = []
+for name, its, more in re.findall(r'(?m)^\| `(\w+) ([A-Z ]+?)(?: \[([A-Z ]+)\])?` \|', pathlib.Path('README.md').read_text()):
+    # words in brackets make a second form
+    on_first_page += [(name, its)] + [(name, f'{its} {more}')] * bool(more)
 if on_first_page != [(name, ' '.join(its)) for page in (manual, tools) for name, its, _ in page.commands]:
     wrong.append(f'README.md has other words than docs/MANUAL.md and docs/TOOLS.md: {on_first_page}')
 undeclared = {it for _, its, _ in manual.commands for it in its} ^ set(manual.words)
@@ -135,7 +142,7 @@ if undeclared:
     wrong.append(f'docs/MANUAL.md uses and explains different words: {sorted(undeclared)}')
 for text, wanted in (("ijtag m", ['make', 'migrate', 'muxtest']), ("ijtag compile examples/flat/chip.d", ['examples/flat/chip.dev']), ("ijtag audit s examples/sibs/chip.i", ['examples/sibs/chip.icl']),
                      ("ijtag compile examples/flat/chip.icl p d c", ['chip']), ("ijtag audit s i examples/merge/chip.pdl d chip to", ['together']), ("ijtag make ''", []),
-                     ("ijtag-tools t", ['tighten']), ("ijtag-tools tighten l", ['late', 'lean']), ("ijtag-tools tighten full i examples/merge/chip.pdl d chip to", ['together'])):
+                     ("ijtag-tools t", ['tighten']), ("ijtag-tools tighten l", ['late', 'lean']), ("ijtag-tools picture s", ['svg']), ("ijtag-tools wave ''", ['all', 'pins', 'state']), ("ijtag-tools tighten full i examples/merge/chip.pdl d chip to", ['together'])):
     found = completed(text)
     if found != wanted:
         wrong.append(f'completion of {text}: {found}, wanted {wanted}')

@@ -29,7 +29,7 @@ use Rattle.table_file.specs.declared.table.Table.{Table}
 use Rattle.table_file.specs.Tables.{SeenTable, seen_table, named, same_path}
 use Rattle.bench_file.specs.declared.fault.FitsFault.{FitsFault}
 use Rattle.bench_file.specs.declared.fault.FitsFault.TheVariants.{PortWidth}
-use Rattle.bench_file.specs.Fits.{in_port, out_port, in_ports, out_ports, model_out_port, model_out_ports, same_port, among, same_ports, has_ports, ModelFits, EachFits, ModelsFit, input_names, moved, operand_moved, cond_moved, slot_moved, amount_moved, set_moved, row_moved, no_out, out_named, arranged, table_named, inst_path, in_front, one_model, models_from, unless, missing, extra, fitted, misfit, FittedModelsFit, RowsSayTheSame}
+use Rattle.bench_file.specs.Fits.{in_port, out_port, in_ports, out_ports, model_out_port, model_out_ports, same_port, among, same_ports, has_ports, ModelFits, EachFits, ModelsFit, input_names, moved, operand_moved, cond_moved, slot_moved, amount_moved, set_moved, row_moved, no_out, out_named, arranged, table_named, inst_path, before, one_model, models_from, unless, missing, extra, fitted, misfit, FittedModelsFit, RowsSayTheSame}
 use Rattle.bench_file.specs.Written.{line, parted, memory_name, operand_text, entry_text, compared_text, cond_text, slot_text, amount_text, set_text, when_text, row_text}
 use Rattle.bench_file.proofs.Modelling.{no_misfit}
 use Rattle.bench_file.proofs.Places.{IsAt, place, second_apart, not_both}
@@ -290,10 +290,10 @@ module _ (net : Net) (inst : Inst) (m : SeenModel) (is : IsInst net inst) (model
   outs_found [] h = refl
   outs_found (p ∷ ps) h =
       ap (λ (q : SeenPort). q ∷ map model_out_port (map (λ port. out_named m.outs port.name) ps)) (h p (zero, omega arith, refl)).port
-      ∙ ap (λ (l : List SeenPort). p ∷ l) (outs_found ps (λ q c. h q (behind q c)))
+      ∙ ap (λ (l : List SeenPort). p ∷ l) (outs_found ps (λ q c. h q (after q c)))
     where
-      behind : (q : SeenPort) → Contains ps q → Contains (p ∷ ps) q
-      behind q (k, lt, e) = (suc k, omega (arith, lt), e)
+      after : (q : SeenPort) → Contains ps q → Contains (p ∷ ps) q
+      after q (k, lt, e) = (suc k, omega (arith, lt), e)
 
   outs_are : map model_out_port new.outs ≡ O
   outs_are = outs_found O out_found
@@ -341,10 +341,10 @@ module _ (net : Net) (inst : Inst) (m : SeenModel) (is : IsInst net inst) (model
       outs_well [] h = All-nil (IsOut new)
       outs_well (p ∷ ps) h =
           All-cons (IsOut new) (out_named m.outs p.name) (map (λ port. out_named m.outs port.name) ps) (h p (zero, omega arith, refl)).out
-          (outs_well ps (λ q c. h q (behind q c)))
+          (outs_well ps (λ q c. h q (after q c)))
         where
-          behind : (q : SeenPort) → Contains ps q → Contains (p ∷ ps) q
-          behind q (k, lt, e) = (suc k, omega (arith, lt), e)
+          after : (q : SeenPort) → Contains ps q → Contains (p ∷ ps) q
+          after q (k, lt, e) = (suc k, omega (arith, lt), e)
 
 -- ---- all instruments
 
@@ -366,7 +366,7 @@ module _ (net : Net) (ts : List SeenTable) (all : All (λ t. IsModel t.model) ts
   one_inst i inst insts None r is model h = tt
   one_inst i inst insts (Some t) r is model h = one (has_ports inst t.model) refl r h
     where
-      one : (b : Bool) → has_ports inst t.model ≡ b → (r : Result (List SeenModel) FitsFault) → IfOk r (EachFits insts) → IfOk (cond b (in_front (arranged inst t.model) r) (Err (PortWidth i))) (EachFits (inst ∷ insts))
+      one : (b : Bool) → has_ports inst t.model ≡ b → (r : Result (List SeenModel) FitsFault) → IfOk r (EachFits insts) → IfOk (cond b (before (arranged inst t.model) r) (Err (PortWidth i))) (EachFits (inst ∷ insts))
       one true ports (Ok ms) h = (fits_one net inst t.model is model ports, h)
       one true ports (Err fault) h = tt
       one false ports r h = tt

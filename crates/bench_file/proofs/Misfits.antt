@@ -10,7 +10,7 @@ use Rattle.bench_file.specs.declared.fault.FitsFault.{FitsFault}
 use Rattle.bench_file.specs.declared.fault.FitsFault.TheVariants.{NoTable, ExtraTable, PortWidth}
 use Rattle.table_file.specs.declared.table.Table.{Table}
 use Rattle.table_file.specs.Tables.{SeenTable, same_path, seen_table}
-use Rattle.bench_file.specs.Fits.{has_ports, arranged, in_front, one_model, models_from, table_named, inst_path, misfit, inst_misfit, name_texts, names_one, extra}
+use Rattle.bench_file.specs.Fits.{has_ports, arranged, before, one_model, models_from, table_named, inst_path, misfit, inst_misfit, name_texts, names_one, extra}
 
 and_false : (b : Bool) → (b && false) ≡ false
 and_false true = refl
@@ -26,11 +26,11 @@ pub not_some : {A : Type 0} (o : Option A) → is_some o ≡ false → o ≡ Non
 not_some None h = refl
 not_some (Some a) h = absurd cc
 
-front_misfit : (m : SeenModel) (rest : Result (List SeenModel) FitsFault) → misfit (in_front m rest) ≡ misfit rest
+front_misfit : (m : SeenModel) (rest : Result (List SeenModel) FitsFault) → misfit (before m rest) ≡ misfit rest
 front_misfit m (Ok ms) = refl
 front_misfit m (Err f) = refl
 
-fits_one : (i : ℕ) (m : SeenModel) (rest : Result (List SeenModel) FitsFault) (b : Bool) → cond b None (Some (PortWidth i)) ≡ None → misfit (cond b (in_front m rest) (Err (PortWidth i))) ≡ misfit rest
+fits_one : (i : ℕ) (m : SeenModel) (rest : Result (List SeenModel) FitsFault) (b : Bool) → cond b None (Some (PortWidth i)) ≡ None → misfit (cond b (before m rest) (Err (PortWidth i))) ≡ misfit rest
 fits_one i m rest true h = front_misfit m rest
 fits_one i m rest false h = absurd cc
 
@@ -46,7 +46,7 @@ one_more net ts i insts inst within is h =
     ap (λ k. misfit (models_from net ts k (drop k insts))) next
     ∙ sym (ap (λ (l : List Inst). misfit (models_from net ts i l)) cut ∙ one_fits i inst (table_named ts (inst_path net inst)) (models_from net ts (suc i) (drop (suc i) insts)) h)
 
-no_fit : (i : ℕ) (m : SeenModel) (rest : Result (List SeenModel) FitsFault) (b : Bool) → is_some (cond b None (Some (PortWidth i))) ≡ true → misfit (cond b (in_front m rest) (Err (PortWidth i))) ≡ cond b None (Some (PortWidth i))
+no_fit : (i : ℕ) (m : SeenModel) (rest : Result (List SeenModel) FitsFault) (b : Bool) → is_some (cond b None (Some (PortWidth i))) ≡ true → misfit (cond b (before m rest) (Err (PortWidth i))) ≡ cond b None (Some (PortWidth i))
 no_fit i m rest true h = absurd cc
 no_fit i m rest false h = refl
 

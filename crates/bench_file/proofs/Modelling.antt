@@ -9,29 +9,29 @@ use Rattle.bench_file.specs.declared.fault.FitsFault.{FitsFault}
 use Rattle.bench_file.specs.declared.fault.FitsFault.TheVariants.{NoTable, ExtraTable, PortWidth, OutOfMemory}
 use Rattle.table_file.specs.Tables.{SeenTable}
 use Rattle.bench_file.specs.Answers.{FitsFails}
-use Rattle.bench_file.specs.Fits.{has_ports, arranged, in_front, one_model, model_for, models_from, table_named, inst_path, unless, misfit}
+use Rattle.bench_file.specs.Fits.{has_ports, arranged, before, one_model, model_for, models_from, table_named, inst_path, unless, misfit}
 
 abbrev pub with_front : List SeenModel → Result (List SeenModel) FitsFault → Result (List SeenModel) FitsFault
 with_front ms (Ok rest) = Ok (ms ++ rest)
 with_front ms (Err fault) = Err fault
 
-front_push : (ms : List SeenModel) (m : SeenModel) (r : Result (List SeenModel) FitsFault) → with_front (ms ++ m ∷ []) r ≡ with_front ms (in_front m r)
+front_push : (ms : List SeenModel) (m : SeenModel) (r : Result (List SeenModel) FitsFault) → with_front (ms ++ m ∷ []) r ≡ with_front ms (before m r)
 front_push ms m (Ok rest) = ap (λ l. Ok l) (append_assoc ms (m ∷ []) rest)
 front_push ms m (Err fault) = refl
 
-one_ok : (i : ℕ) (inst : Inst) (o : Option SeenTable) (rest : Result (List SeenModel) FitsFault) (m : SeenModel) → model_for i inst o ≡ Ok m → one_model i inst o rest ≡ in_front m rest
+one_ok : (i : ℕ) (inst : Inst) (o : Option SeenTable) (rest : Result (List SeenModel) FitsFault) (m : SeenModel) → model_for i inst o ≡ Ok m → one_model i inst o rest ≡ before m rest
 one_ok i inst None rest m is = absurd cc
 one_ok i inst (Some t) rest m is = one (has_ports inst t.model) is
   where
-    one : (b : Bool) → cond b (Ok (arranged inst t.model)) (Err (PortWidth i)) ≡ Ok m → cond b (in_front (arranged inst t.model) rest) (Err (PortWidth i)) ≡ in_front m rest
-    one true is = ap (λ (r : Result SeenModel FitsFault). elim r [ Ok n ↦ in_front n rest | Err f ↦ in_front m rest ]) is
+    one : (b : Bool) → cond b (Ok (arranged inst t.model)) (Err (PortWidth i)) ≡ Ok m → cond b (before (arranged inst t.model) rest) (Err (PortWidth i)) ≡ before m rest
+    one true is = ap (λ (r : Result SeenModel FitsFault). elim r [ Ok n ↦ before n rest | Err f ↦ before m rest ]) is
     one false is = absurd cc
 
 one_err : (i : ℕ) (inst : Inst) (o : Option SeenTable) (rest : Result (List SeenModel) FitsFault) (fault : FitsFault) → model_for i inst o ≡ Err fault → one_model i inst o rest ≡ Err fault
 one_err i inst None rest fault is = ap (λ (r : Result SeenModel FitsFault). elim r [ Ok n ↦ Err fault | Err f ↦ Err f ]) is
 one_err i inst (Some t) rest fault is = one (has_ports inst t.model) is
   where
-    one : (b : Bool) → cond b (Ok (arranged inst t.model)) (Err (PortWidth i)) ≡ Err fault → cond b (in_front (arranged inst t.model) rest) (Err (PortWidth i)) ≡ Err fault
+    one : (b : Bool) → cond b (Ok (arranged inst t.model)) (Err (PortWidth i)) ≡ Err fault → cond b (before (arranged inst t.model) rest) (Err (PortWidth i)) ≡ Err fault
     one true is = absurd cc
     one false is = ap (λ (r : Result SeenModel FitsFault). elim r [ Ok n ↦ Err fault | Err f ↦ Err f ]) is
 

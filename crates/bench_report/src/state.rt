@@ -16,7 +16,7 @@ use net_bench::Bench;
 use net_graph::Net;
 use report::{put_instrument, put_registers};
 
-/// The numbers of an instrument's words, 0 behind the last one.
+/// The numbers of an instrument's words, 0 after the last one.
 fn words_of(bench: &Bench, inst: u32) -> [u64; 8]
     requires { inst < length bench.now.state.insts }
     ensures { (k : ℕ) → k < 8 → get_or result k 0 ≡ get_or (inner_at bench.now.state.insts inst).words k 0 }
@@ -28,7 +28,7 @@ fn words_of(bench: &Bench, inst: u32) -> [u64; 8]
     words
 }
 
-/// The numbers of an instrument's memory, 0 behind the last one.
+/// The numbers of an instrument's memory, 0 after the last one.
 fn memory_of(bench: &Bench, inst: u32) -> [u64; 256]
     requires { inst < length bench.now.state.insts }
     ensures { (k : ℕ) → k < 256 → get_or result k 0 ≡ get_or (inner_at bench.now.state.insts inst).memory k 0 }

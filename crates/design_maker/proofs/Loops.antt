@@ -52,16 +52,16 @@ drawn_next n m g h x done whole some is before =
     ∙ ap (λ k. done ++ (drawn_instruments k g).0) (sym some)
     ∙ before
 
-pub behind_next : (n m : ℕ) (g h last : Lcg) (x : Instrument) → n ≡ suc m → (x, h) ≡ drawn_instrument g → (drawn_instruments n g).1 ≡ last → (drawn_instruments m h).1 ≡ last
-behind_next n m g h last x some is before =
+pub after_next : (n m : ℕ) (g h last : Lcg) (x : Instrument) → n ≡ suc m → (x, h) ≡ drawn_instrument g → (drawn_instruments n g).1 ≡ last → (drawn_instruments m h).1 ≡ last
+after_next n m g h last x some is before =
     ap (λ (p : Instrument × Lcg). (drawn_instruments m p.1).1) is
     ∙ ap (λ k. (drawn_instruments k g).1) (sym some)
     ∙ before
 
 pub drawn_done : (n : ℕ) (g last : Lcg) (done whole : List Instrument) → n ≡ 0 → done ++ (drawn_instruments n g).0 ≡ whole → (drawn_instruments n g).1 ≡ last → ◌≡◌ {A = List Instrument × Lcg} (done, g) (whole, last)
-drawn_done n g last done whole none before behind =
+drawn_done n g last done whole none before following =
     ap (λ l. (l, g)) (sym (append-nil done) ∙ ap (λ k. done ++ (drawn_instruments k g).0) (sym none) ∙ before)
-    ∙ ap (λ h. (whole, h)) (ap (λ k. (drawn_instruments k g).1) (sym none) ∙ behind)
+    ∙ ap (λ h. (whole, h)) (ap (λ k. (drawn_instruments k g).1) (sym none) ∙ following)
 
 -- ---- turns
 

@@ -8,6 +8,6 @@ use Rattle.rand_pcg.specs.Pcg.{pcg32, pcg32_of_seed}
 unfoldable pub generator_of : ℕ → Lcg
 generator_of seed = pcg32_of_seed (pcg32_seed 16 seed)
 
--- its next word modulo m, and the generator behind it
+-- its next word modulo m, and the generator after it
 unfoldable pub draw : ℕ → Lcg → ℕ × Lcg
 draw m g = ((pcg32 g).0 % m, (pcg32 g).1)

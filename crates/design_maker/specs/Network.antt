@@ -1,4 +1,4 @@
--- The network of a made design: each instrument behind its SIBs, the outermost first (IEEE 1687-2014, ICL).
+-- The network of a made design: each instrument after its SIBs, the outermost first (IEEE 1687-2014, ICL).
 use Rattle.std.specs.Prelude.{ℕ, zero, suc, ◌==◌, cond, List, [], ◌∷◌, ◌++◌, length, codes, decimal}
 use Rattle.icl_lexer.specs.declared.tree.PortKind.TheVariants.{ScanInPort, ScanOutPort}
 use Rattle.icl_lexer.specs.Values.{ADecimal, SeenItem, SeenModule}

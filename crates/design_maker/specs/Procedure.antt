@@ -37,7 +37,7 @@ drawn_turn xs g =
     let cycles = draw 50 value.1 in
     (record { at = at.0; value = value.0; cycles = cycles.0 }, cycles.1)
 
--- the instruments behind a turn: all run
+-- the instruments after a turn: all run
 abbrev pub after_turn : Turn → List Instrument → List Instrument
 after_turn t xs = map (run t.cycles) (change_at t.at (written t.value) xs)
 

@@ -9,7 +9,7 @@ use Rattle.design_maker.specs.Network.{made_design}
 use Rattle.design_maker.specs.Procedure.{procedure_text}
 use Rattle.design_maker.specs.Tables.{tables_text}
 
--- the instruments, and the generator behind them
+-- the instruments, and the generator after them
 unfoldable pub made_instruments : ℕ → ℕ → List Instrument × Lcg
 made_instruments seed size = drawn_instruments size (generator_of seed)
 

@@ -53,7 +53,7 @@ impl Width {
     }
 }
 
-/// An instrument of a made design, with the register in front of it.
+/// An instrument of a made design, with the register before it.
 #[derive(Clone, Copy, Drop)]
 pub(crate) struct Instrument {
     /// The width of its input, its word and its output.

@@ -1,4 +1,4 @@
-//! Designs of any size that a number decides: a network of instruments behind SIBs, a procedure that writes and reads them, their
+//! Designs of any size that a number decides: a network of instruments after SIBs, a procedure that writes and reads them, their
 //! tables and a device (IEEE 1687-2014, ICL and PDL level 0).
 //!
 //! `specs/Texts` has the four texts of a seed and a size, over what is drawn (`Draws`), the instruments (`Instruments`), the design

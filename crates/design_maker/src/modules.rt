@@ -130,7 +130,7 @@ fn add_data_register(alloc: Global, items: &mut Items) -> Result<(), OutOfMemory
     items.add(b"R", What::Register { range, props })
 }
 
-/// The instrument behind its register.
+/// The instrument after its register.
 #[tactic(auto, unfolding(crate::specs::Parts::HasAdded))]
 fn add_inner_instrument(alloc: Global, items: &mut Items) -> Result<(), OutOfMemory>
     ensures { OnOk result (HasAdded items.old items.new (inner_instrument ∷ [])) }

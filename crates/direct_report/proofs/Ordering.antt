@@ -74,18 +74,18 @@ elsewhere c r k zero h = refl
 elsewhere c r k (suc n) h =
     count_next (λ b. same_place b c) (bit_at r k) (bits_from r (suc k) n) false (other_reg c r k h) ∙ elsewhere c r (suc k) n h
 
--- nor behind its place
-behind : (c : BitId) (r k n : ℕ) → c.pos < k → times c (bits_from r k n) ≡ 0
-behind c r k zero h = refl
-behind c r k (suc n) h =
+-- nor after its place
+following : (c : BitId) (r k n : ℕ) → c.pos < k → times c (bits_from r k n) ≡ 0
+following c r k zero h = refl
+following c r k (suc n) h =
     count_next (λ b. same_place b c) (bit_at r k) (bits_from r (suc k) n) false (other_pos c r k (λ e. omega (arith, e, h)))
-    ∙ behind c r (suc k) n (omega (arith, h))
+    ∙ following c r (suc k) n (omega (arith, h))
 
 -- but once in its register
 at_its_place : (c : BitId) (r k n : ℕ) → r ≡ c.reg → k ≡ c.pos → times c (bits_from r k (suc n)) ≡ 1
 at_its_place c r k n e f =
     let same : same_place (bit_at r k) c ≡ true = ap (λ (q : ℕ). same_place (bit_at q k) c) e ∙ ap (λ (p : ℕ). same_place (bit_at c.reg p) c) f ∙ place_self c in
-    count_next (λ b. same_place b c) (bit_at r k) (bits_from r (suc k) n) true same ∙ ap suc (behind c r (suc k) n (omega (arith, f)))
+    count_next (λ b. same_place b c) (bit_at r k) (bits_from r (suc k) n) true same ∙ ap suc (following c r (suc k) n (omega (arith, f)))
 
 before_its_place : (c : BitId) (r k n : ℕ) → k ≢ c.pos → times c (bits_from r (suc k) n) ≡ 1 → times c (bits_from r k (suc n)) ≡ 1
 before_its_place c r k n h rest =

@@ -96,7 +96,7 @@ module _ (first : Kept) (steps : List SeenStep) (old : Option (List ℕ)) where
       let g = go d keeps in
       subst (Keeps now) (ap (done_from first g.at) (sym e) ∙ g.done) g.keeps
 
--- ---- the first step of some, and those behind it
+-- ---- the first step of some, and those after it
 
 module _ (left later : List SeenStep) (s : SeenStep) (e : left ≡ s ∷ later) where
   pub step_is : (net : Net) → All (IsStep net) left → IsStep net s
@@ -123,17 +123,17 @@ module _ (net : Net) (models : List SeenModel) (p : Kept) (steps : List SeenStep
   abbrev start : Direct Counts
   start = power_up count_log net (map machine_of models)
 
-  abbrev behind : Direct Counts
-  behind = do_all count_log net (map machine_of models) start steps
+  abbrev following : Direct Counts
+  following = do_all count_log net (map machine_of models) start steps
 
   abbrev last : List ℕ
-  last = end_text net models behind
+  last = end_text net models following
 
   lines_are : lines_from p start steps ≡ steps_lines net (map machine_of models) start steps
   lines_are =
       ap (λ (n : Net). steps_lines n (map machine_of p.models) start steps) en ∙ ap (λ (ms : List SeenModel). steps_lines net (map machine_of ms) start steps) em
 
-  done_are : done_from p start steps ≡ behind
+  done_are : done_from p start steps ≡ following
   done_are =
       ap (λ (n : Net). do_all count_log n (map machine_of p.models) start steps) en ∙ ap (λ (ms : List SeenModel). do_all count_log net (map machine_of ms) start steps) em
 

@@ -14,7 +14,7 @@ use Rattle.net_graph.specs.declared.step.ReadBit.{ReadBit}
 use Rattle.pdl_meaning.specs.Direct.{Direct, do_step}
 use Rattle.direct_report.specs.Report.{end_text, in_order, report_from, step_lines}
 
--- the report from a step on is the lines of that step and the report of the steps behind it
+-- the report from a step on is the lines of that step and the report of the steps after it
 abbrev pub StepsComeInOrder : Type 0
 StepsComeInOrder = (net : Net) (models : List SeenModel) (d : Direct Counts) (s : SeenStep) (ss : List SeenStep)
     → report_from net models d (s ∷ ss) ≡ step_lines net (map machine_of models) d s ++ report_from net models (do_step count_log net (map machine_of models) d s) ss

@@ -80,7 +80,7 @@ module _ (net : Net) (machines : List Machine) where
 abbrev pub differing : Direct Counts → List (ReadBit × Bool)
 differing d = filter differs d.reads
 
--- behind the last step: what the registers and the instruments hold, and the totals
+-- after the last step: what the registers and the instruments hold, and the totals
 abbrev pub end_text : Net → List SeenModel → Direct Counts → List ℕ
 end_text net models d =
     registers_text net d.holds ++ (instruments_text net models d.insts ++ direct_text (length d.reads) (length (differing d)))

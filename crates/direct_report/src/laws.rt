@@ -3,7 +3,7 @@ ghost use Rattle.direct_report.specs.Laws.{OrderKeepsReads, ReadsAreFew, StepsCo
 
 /// The report of a direct meaning, part by part:
 ///
-/// - `steps`: it is the lines of the first step and then the report of the steps behind it.
+/// - `steps`: it is the lines of the first step and then the report of the steps after it.
 /// - `end`: with no step left it is what registers and instruments hold, and the totals.
 /// - `order`: the reads of a round, put in order, are the same reads, each once.
 /// - `few`: a round reads at most 4096 bits.

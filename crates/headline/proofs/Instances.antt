@@ -19,7 +19,7 @@ use Rattle.headline.proofs.MuxPlans.{rounds_net_is_net, dev_is_device, first_pla
 use Rattle.headline.specs.Retargeting.{PlannedGroup, PlannedStep, Applies, IsPlannedGroup, IsRetargetable, IsRetargeted, StepsArePlanned, script_of, seen_of}
 use Rattle.headline.proofs.Right.{plans_are_right}
 
--- from scan-in the register S, and behind it A or B
+-- from scan-in the register S, and after it A or B
 abbrev form : Items
 form = RegThen 2 (MuxThen 0 (RowThen (RegThen 0 Nothing) (RowThen (RegThen 1 Nothing) NoRow)) Nothing)
 

@@ -8,7 +8,7 @@ use Rattle.std.proofs.lemmas.Bool.{lt-ltb, le-ltb}
 use Rattle.icl_declarations.specs.Values.{number_bits}
 use Rattle.icl_declarations.specs.Sized.{decimal_bits, digits_bits, binary_digit, hex_digit}
 
--- the bits behind a byte, and its own
+-- the bits after a byte, and its own
 pub one_more : (digit : ℕ → List (Option Bool)) (text : List ℕ) (k : ℕ) → k < length text → digits_bits digit (drop k text) ≡ digits_bits digit (drop (suc k) text) ++ digit (get_or text k 0)
 one_more digit [] k lt = absurd (omega (arith, lt))
 one_more digit (b ∷ text) zero lt = refl

@@ -4,7 +4,7 @@ use Rattle.std.proofs.lemmas.List.{map-append}
 use Rattle.icl_declarations.specs.Faults.{◌>>=◌, each, over, Fault, Fails}
 use Rattle.ij_bits.proofs.Lists.{split_at}
 
--- what is given for the items that are left, behind what was given before
+-- what is given for the items that are left, after what was given before
 abbrev pub more : {A B E : Type 0} → (A → Result B E) → List B → List A → Result (List B) E
 more f out xs = each f xs >>= λ ys. Ok (out ++ ys)
 

@@ -11,7 +11,7 @@ use Rattle.icl_lexer.specs.declared.tree.Sign.TheVariants.{Plus, Minus, Times, O
 use Rattle.icl_lexer.specs.Values.{SeenExpr, ADecimal, ASized, AQuoted, AParam, AnOp}
 use Rattle.icl_declarations.specs.Faults.{Answer, ◌>>=◌, NoParameter, DivideByZero, BadNumber, WrongKind}
 use Rattle.icl_declarations.specs.Values.{OpenBits, Worth, AnInteger, SomeBits, AText, Params, worth_of}
-use Rattle.icl_declarations.specs.Sized.{front, behind, plain, bits_behind, within_size, at_most_4096}
+use Rattle.icl_declarations.specs.Sized.{front, after, plain, bits_after, within_size, at_most_4096}
 
 -- ---- integers
 
@@ -46,7 +46,7 @@ size at n = cond (nat_lt 0 n && nat_lt n 4097) (Ok (Some n)) (Err (BadNumber at)
 abbrev pub parameter_size : Params → Place → List ℕ → Answer (Option ℕ)
 parameter_size ps at name = parameter ps at name >>= as_integer at >>= size at
 
--- a parameter behind `$` (36), a decimal, or none
+-- a parameter after `$` (36), a decimal, or none
 unfoldable pub size_of : Params → Place → List ℕ → Answer (Option ℕ)
 size_of ps at [] = Ok None
 size_of ps at (b ∷ bs) = cond (b == 36) (parameter_size ps at bs) (size at (decimal_from 0 (b ∷ bs)))
@@ -61,7 +61,7 @@ number_of_size at (Some bits) None = told at false (at_most_4096 bits)
 number_of_size at (Some bits) (Some n) = told at true (within_size n bits)
 
 unfoldable pub sized_number : Params → Place → List ℕ → Answer Worth
-sized_number ps at text = size_of ps at (front text) >>= number_of_size at (bits_behind (plain (behind text)))
+sized_number ps at text = size_of ps at (front text) >>= number_of_size at (bits_after (plain (after text)))
 
 -- ---- operators
 

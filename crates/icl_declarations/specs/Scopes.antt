@@ -7,7 +7,7 @@ use Rattle.icl_lexer.specs.Values.{SeenWhat, SeenItem}
 use Rattle.icl_declarations.specs.declared.scope.Scope.{Scope}
 use Rattle.icl_declarations.specs.Parts.{is_part, is_signal}
 
--- the number of the first part of this name that passes a test, where so many parts stand in front of the items
+-- the number of the first part of this name that passes a test, where so many parts stand before the items
 abbrev pub part_from : ℕ → (SeenWhat → Bool) → List SeenItem → List ℕ → Option ℕ
 part_from n test [] name = None
 part_from n test (item ∷ items) name =
@@ -33,6 +33,6 @@ IsKept old new = (name : List ℕ) → entry_of new name ≡ entry_of old name
 abbrev pub IsScopeOf : Scope → List SeenItem → Type 0
 IsScopeOf scope items = (name : List ℕ) → entry_of scope name ≡ part_named is_signal items name
 
--- one item more: what the table and the items behind it say is what the table before it and these items say
+-- one item more: what the table and the items after it say is what the table before it and these items say
 abbrev pub GoesOn : Scope → Scope → ℕ → ℕ → SeenItem → Type 0
 GoesOn old new part next item = (rest : List SeenItem) (name : List ℕ) → or_else (entry_of new name) (part_from next is_signal rest name) ≡ or_else (entry_of old name) (part_from part is_signal (item ∷ rest) name)

@@ -8,14 +8,14 @@ use Rattle.icl_declarations.specs.Values.{OpenBits, number_bits}
 
 -- ---- the parts of the token
 
--- what stands in front of the `'` (39), and what stands behind it
+-- what stands before the `'` (39), and what stands after it
 abbrev pub front : List ℕ → List ℕ
 front [] = []
 front (b ∷ bs) = cond (b == 39) [] (b ∷ front bs)
 
-abbrev pub behind : List ℕ → List ℕ
-behind [] = []
-behind (b ∷ bs) = cond (b == 39) bs (behind bs)
+abbrev pub after : List ℕ → List ℕ
+after [] = []
+after (b ∷ bs) = cond (b == 39) bs (after bs)
 
 -- without `_` (95), and in lower case
 abbrev pub plain : List ℕ → List ℕ
@@ -48,16 +48,16 @@ unfoldable pub decimal_bits : List ℕ → Option OpenBits
 decimal_bits digits =
     cond (list_all is_ascii_digit digits && nat_lt (decimal_from 0 digits) (2 ^ 128)) (Some (number_bits 128 (decimal_from 0 digits))) None
 
--- the bits of digits behind a base, `b` (98), `d` (100) or `h` (104); none where they don't suit it
+-- the bits of digits after a base, `b` (98), `d` (100) or `h` (104); none where they don't suit it
 unfoldable pub base_bits : ℕ → List ℕ → Option OpenBits
 base_bits base digits =
     cond (base == 98) (cond (list_all is_binary digits) (Some (digits_bits binary_digit digits)) None)
     (cond (base == 104) (cond (list_all is_hexadecimal digits) (Some (digits_bits hex_digit digits)) None)
     (cond (base == 100) (decimal_bits digits) None))
 
-abbrev pub bits_behind : List ℕ → Option OpenBits
-bits_behind [] = None
-bits_behind (base ∷ digits) = base_bits base digits
+abbrev pub bits_after : List ℕ → Option OpenBits
+bits_after [] = None
+bits_after (base ∷ digits) = base_bits base digits
 
 -- ---- widths
 

@@ -43,7 +43,7 @@ abbrev pub worth_of : Params → List ℕ → Option Worth
 worth_of [] name = None
 worth_of (p ∷ ps) name = cond (bytes_eq name p.name) (Some p.worth) (worth_of ps name)
 
--- a value in place of one of the same name, or behind the others
+-- a value in place of one of the same name, or after the others
 abbrev pub with_worth : Params → List ℕ → Worth → Params
 with_worth [] name worth = record { name = name; worth = worth } ∷ []
 with_worth (p ∷ ps) name worth = cond (bytes_eq name p.name) (record p { worth = worth } ∷ ps) (p ∷ with_worth ps name worth)

@@ -2,16 +2,16 @@
 ghost use Rattle.std.specs.Prelude.{◌≡◌, ◌+◌, ◌*◌, ◌^◌, ◌<◌, ◌++◌, [], cond, length, Some, None, IfOk, OnOk, ◌==◌, ◌/◌, ◌%◌};
 ghost use Rattle.std.specs.List.{list_all};
 ghost use Rattle.icl_declarations.specs.Values.{number_bits};
-ghost use Rattle.icl_declarations.specs.Sized.{base_bits, behind, binary_digit, bits_behind, decimal_bits, digits_bits, front, hex_digit, is_binary, is_hexadecimal, plain};
+ghost use Rattle.icl_declarations.specs.Sized.{base_bits, after, binary_digit, bits_after, decimal_bits, digits_bits, front, hex_digit, is_binary, is_hexadecimal, plain};
 
 use ij_bits::OutOfMemory;
 use ij_text::{OpenBits, all_digits, decimal, hex_value};
 use std::alloc::Global;
 
-/// What stands in front of the `'`, and what stands behind it.
+/// What stands before the `'`, and what stands after it.
 pub(crate) fn split(text: &[u8]) -> (&[u8], &[u8])
     ensures front { result.0.now ≡ front text.now }
-    ensures behind { result.1.now ≡ behind text.now }
+    ensures after { result.1.now ≡ after text.now }
 {
     for (i, b) in text.iter().enumerate() {
         if *b == b'\'' {
@@ -175,8 +175,8 @@ fn base_bits(alloc: Global, base: u8, digits: &[u8]) -> Result<Option<OpenBits>,
 }
 
 /// The bits of a base and its digits, if they suit it.
-pub(crate) fn bits_behind(alloc: Global, text: &[u8]) -> Result<Option<OpenBits>, OutOfMemory>
-    ensures { IfOk result (λ bits. bits ≡ bits_behind text.now) }
+pub(crate) fn bits_after(alloc: Global, text: &[u8]) -> Result<Option<OpenBits>, OutOfMemory>
+    ensures { IfOk result (λ bits. bits ≡ bits_after text.now) }
 {
     match text {
         [base, digits @ ..] => base_bits(alloc, *base, digits),

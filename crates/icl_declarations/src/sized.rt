@@ -7,9 +7,9 @@ ghost use Rattle.icl_declarations.specs.Faults.{Gives};
 ghost use Rattle.icl_declarations.specs.Values.{seen_value};
 ghost use Rattle.icl_declarations.specs.Tables.{seen_table};
 ghost use Rattle.icl_declarations.specs.Expressions.{as_integer, parameter, parameter_size, size, size_of, told, number_of_size, sized_number};
-ghost use Rattle.icl_declarations.specs.Sized.{bits_behind, plain};
+ghost use Rattle.icl_declarations.specs.Sized.{bits_after, plain};
 
-use crate::digits::{bits_behind, plain, split};
+use crate::digits::{bits_after, plain, split};
 use crate::fault::ElabFault;
 use crate::fitting::{at_most_4096, fitted};
 use crate::integers::as_integer;
@@ -72,7 +72,7 @@ fn decimal_size(text: &[u8], at: Place) -> Result<Option<u32>, ElabFault>
     }
 }
 
-/// The size that stands in front of a `'`, if one does.
+/// The size that stands before a `'`, if one does.
 #[tactic(auto, unfolding(crate::specs::Expressions::size_of))]
 fn size_of(
     alloc: Global,
@@ -125,11 +125,11 @@ fn number_of_size(
 
 /// The bits of a base and its digits, if they suit it.
 fn open_digits(alloc: Global, text: &[u8]) -> Result<Option<Tern>, ElabFault>
-    ensures bits { IfOk result (λ bits. option_map tern_bits bits ≡ bits_behind (plain text.now)) }
+    ensures bits { IfOk result (λ bits. option_map tern_bits bits ≡ bits_after (plain text.now)) }
     ensures told { IfErr result (λ e. e ≡ ElabFault.OutOfMemory) }
 {
     let digits = plain(alloc, text)?;
-    match bits_behind(alloc, &digits)? {
+    match bits_after(alloc, &digits)? {
         Some(bits) => Ok(Some(bits.into_tern())),
         None => Ok(None),
     }
@@ -145,8 +145,8 @@ pub(crate) fn sized_number(
 ) -> Result<Value, ElabFault>
     ensures { Gives seen_value result (sized_number (seen_table params.now) at text.now) }
 {
-    let (front, behind) = split(text);
+    let (front, after) = split(text);
     let size = size_of(alloc, params, at, front)?;
-    let bits = open_digits(alloc, behind)?;
+    let bits = open_digits(alloc, after)?;
     number_of_size(alloc, at, bits, size)
 }

@@ -24,7 +24,7 @@ module _ {X A B : Type 0} (see : X → A) (f : A → Result B Fault) where
       (sym (ap (λ (l : List X). more f outs (map see l)) (split_at xs i x lt h)) ∙ g)
       (more_fails f outs (see x) (map see (drop (i + 1) xs)) e k)
 
--- ---- one step behind another
+-- ---- one step after another
 
 -- want of memory tells nothing
 pub nothing_told : {Y : Type 0} (answer : Answer Y) → Fails None answer
@@ -44,10 +44,10 @@ step_fails (Some e) r next h = ap (λ z. z >>= next) h
 pub step_goes : {A B : Type 0} (r : Answer A) (x : A) (next : A → Answer B) → r ≡ Ok x → (r >>= next) ≡ next x
 step_goes r x next h = ap (λ z. z >>= next) h
 
--- a step behind each of two steps
-pub behind : {A B C : Type 0} (r : Answer A) (f : A → Answer B) (g : A → Answer C) (k : B → Answer C) → ((x : A) → g x ≡ (f x >>= k)) → (r >>= g) ≡ ((r >>= f) >>= k)
-behind (Ok x) f g k h = h x
-behind (Err e) f g k h = refl
+-- a step after each of two steps
+pub after : {A B C : Type 0} (r : Answer A) (f : A → Answer B) (g : A → Answer C) (k : B → Answer C) → ((x : A) → g x ≡ (f x >>= k)) → (r >>= g) ≡ ((r >>= f) >>= k)
+after (Ok x) f g k h = h x
+after (Err e) f g k h = refl
 
 -- a value, or want of memory
 pub gives_if : {X Y : Type 0} (view : X → Y) (r : Result X ElabFault) (answer : Answer Y) (y : Y) → answer ≡ Ok y → IfOk r (λ x. view x ≡ y) → IfErr r (λ e. e ≡ fault.OutOfMemory) → Gives view r answer

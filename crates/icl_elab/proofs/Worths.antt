@@ -10,7 +10,7 @@ use Rattle.ij_text.specs.Numbers.{decimal_from}
 use Rattle.icl_lexer.specs.Values.{SeenExpr, ADecimal, ASized, AQuoted, AParam, AnOp, SeenBind, ABoundPort, ABoundParameter, ABoundAttribute, SeenWhat, APort, ARegister, AMux, AChild, AnAlias, SomeWords, AParameter, AnInterface, ALink, AnAttribute, SeenItem, SeenModule}
 use Rattle.icl_declarations.specs.Faults.{Answer, ◌>>=◌, refuse_if, NoName, DoubleName, BadNumber}
 use Rattle.icl_declarations.specs.Values.{OpenBits, Worth, AnInteger, SomeBits, AText, Given, Params, worth_of, with_worth}
-use Rattle.icl_declarations.specs.Sized.{front, behind, plain, bits_behind, fits, in_width, within_size, at_most_4096}
+use Rattle.icl_declarations.specs.Sized.{front, after, plain, bits_after, fits, in_width, within_size, at_most_4096}
 use Rattle.icl_declarations.specs.Expressions.{as_integer, known, parameter, size, parameter_size, size_of, told, number_of_size, sized_number, operate, place_in, evaluate}
 use Rattle.icl_declarations.specs.Parts.{is_open}
 use Rattle.icl_frames.specs.FirstPass.{Frame, worth_in, bound_worth, with_parameter, parameters, with_binding, first_pass}
@@ -102,8 +102,8 @@ pub evaluate_worth : (ps : Params) (at : Place) (e : SeenExpr) (w : Worth) → A
 unfolding evaluate sized_number
 evaluate_worth ps at (ADecimal n) w g h = subst IsWorth (ok_is (AnInteger n) w h) tt
 evaluate_worth ps at (ASized text) w g h =
-    let a = both (size_of ps at (front text)) (number_of_size at (bits_behind (plain (behind text)))) w h in
-    number_worth at (bits_behind (plain (behind text))) a.first w (size_of_is ps at (front text) a.first a.is) a.then'
+    let a = both (size_of ps at (front text)) (number_of_size at (bits_after (plain (after text)))) w h in
+    number_worth at (bits_after (plain (after text))) a.first w (size_of_is ps at (front text) a.first a.is) a.then'
 evaluate_worth ps at (AQuoted text) w g h = subst IsWorth (ok_is (AText text) w h) tt
 evaluate_worth ps at (AParam place name) w g h = known_worth place name (worth_of ps name) w (worth_found ps name g) h
 evaluate_worth ps at (AnOp place sign x y) w g h =

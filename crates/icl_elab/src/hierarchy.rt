@@ -447,9 +447,9 @@ fn hierarchy_of(alloc: Global, design: &Design, top: &Name) -> Result<Hier, Elab
 /// The first fault that is met is the answer, in two passes over the cells. The first one tells what `first_pass` of `icl_frames` tells. The
 /// second goes over the items of each cell in the order of the text, and in an item from left to right, over signals, values, and the
 /// names of enumerations, interfaces and links. In a signal the order is `NoName`, `WrongKind`, `BadRange`, with the faults of its
-/// numbers where they stand; `WidthDiffers` comes behind the whole list of signals or the whole value, and `RowsOverlap` behind the rows of a
+/// numbers where they stand; `WidthDiffers` comes after the whole list of signals or the whole value, and `RowsOverlap` after the rows of a
 /// multiplexer. A binding of a port is `NoName`, `WrongKind`, the faults of its range, `DoubleName` at a bit that is bound already, then the
-/// faults of its signals, then `WidthDiffers`; a port that is bound at some of its bits alone is `WidthDiffers` at the instance, behind its
+/// faults of its signals, then `WidthDiffers`; a port that is bound at some of its bits alone is `WidthDiffers` at the instance, after its
 /// bindings. `OutOfMemory` may come at any point.
 ///
 /// The hierarchy of a design that the grammar gave (`icl_frames::designs_are_written`) is well formed.

@@ -22,7 +22,7 @@ module _ (head part : ℕ → Reading Counted) (sign : SeenToken → Option Sign
   unfolding read_chain
   chain_fails used ts stop h = fails_on others stop (head used ts) h
 
--- what is read behind a factor, or behind a term
+-- what is read after a factor, or after a term
 pub more_factor_shrinks : (depth : ℕ) (a : Counted) → Shrinks (read_operand (read_factor depth false) product_sign a)
 more_factor_shrinks depth a = reads_shrink (operand_reads (factor depth false) (factor depth false) (read_factor depth false) (read_factor depth false) product_sign no_close nothing (factor_reads depth false) (factor_reads depth false) (λ t h. refl) a)
 

@@ -44,7 +44,7 @@ module _ {A S : Type 0} (part : S → Of A) (next : S → A → S) (r : S → Re
       (turn_reads (repeat part next s) then' no_close (λ t. no_close t || false) (is_mark 125) nothing true false (read_repeat no_close r next s) rt (parts_reads s) laws closed)
       any nothing (λ t h. refl) (λ t h. refl)
 
--- a part in front of a mark
+-- a part before a mark
 pub ended_reads : {A : Type 0} (c : ℕ) {S : Of A} {first more : SeenToken → Bool} {r : Reading A} → Reads S first more false r → ((t : SeenToken) → is_mark c t ≡ true → more t ≡ false) → Reads (ended_by c S) any nothing false (read_ended c r)
 ended_reads {A} c {S} {first} {more} {r} law apart =
     wider_reads

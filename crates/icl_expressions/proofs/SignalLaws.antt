@@ -10,8 +10,8 @@ use Rattle.ij_text.specs.declared.Place.{Place}
 use Rattle.icl_lexer.specs.declared.words.Limit.{Limit}
 use Rattle.icl_lexer.specs.Seen.{SeenToken, if_word, if_mark, is_mark, name_at}
 use Rattle.icl_lexer.specs.Values.{APath}
-use Rattle.icl_lexer.specs.Grammar.{Of, mark, name, expr, value, expr_behind, range, number_of, number_located, number_at, Named, named_at, path_behind, named_sig, plain_sig, sig, sigs}
-use Rattle.icl_expressions.specs.Reading.{Reading, Shrinks, gives, any, is_name, no_close, read_name, read_maybe, read_expr, read_value, read_expr_behind, read_range, read_number, read_path_behind, read_named_behind, read_named_sig, read_plain_sig, read_inverted, read_straight, read_sig, read_sigs}
+use Rattle.icl_lexer.specs.Grammar.{Of, mark, name, expr, value, expr_after, range, number_of, number_located, number_at, Named, named_at, path_after, named_sig, plain_sig, sig, sigs}
+use Rattle.icl_expressions.specs.Reading.{Reading, Shrinks, gives, any, is_name, no_close, read_name, read_maybe, read_expr, read_value, read_expr_after, read_range, read_number, read_path_after, read_named_after, read_named_sig, read_plain_sig, read_inverted, read_straight, read_sig, read_sigs}
 use Rattle.icl_expressions.proofs.Tokens.{nothing, no_mark, marks, marks_apart, no_mark_is, mark_apart}
 use Rattle.icl_expressions.proofs.Symbols.{then_reads, mark_reads, made_reads, sign_marks, expr_reads}
 use Rattle.icl_expressions.proofs.Steps.{reads_shrink}
@@ -25,9 +25,9 @@ pub value_reads : Reads value no_close (marks (44 ∷ sign_marks)) false read_va
 unfolding value read_value
 value_reads = parted_reads 44 expr_reads (λ t h. marks_apart 44 sign_marks refl t h)
 
-pub expr_behind_reads : (c : ℕ) → Reads (expr_behind c) (is_mark c) (marks sign_marks) false (read_expr_behind c)
-unfolding read_expr_behind
-expr_behind_reads c = after_reads c expr_reads
+pub expr_after_reads : (c : ℕ) → Reads (expr_after c) (is_mark c) (marks sign_marks) false (read_expr_after c)
+unfolding read_expr_after
+expr_after_reads c = after_reads c expr_reads
 
 -- what begins with a mark, if the mark is there
 pub maybe_reads : {A : Type 0} (c : ℕ) {S : Of A} (more : SeenToken → Bool) {r : Reading A} → Reads S (is_mark c) more false r → Reads (maybe S) (is_mark c) (λ t. is_mark c t || more t) true (read_maybe c r)
@@ -44,10 +44,10 @@ maybe_reads {A} c {S} more {r} law =
 pub range_reads : Reads range (is_mark 91) nothing false read_range
 unfolding range read_range
 range_reads =
-    then_reads (λ at. expr >>= λ left. maybe (expr_behind 58) >>= λ right. mark 93 >>= λ close. give (record { at = at; left = left; right = right })) no_close nothing false _ (mark_reads 91)
-    (λ at. then_reads (λ left. maybe (expr_behind 58) >>= λ right. mark 93 >>= λ close. give (record { at = at; left = left; right = right })) (λ t. is_mark 58 t || is_mark 93 t) nothing false _ expr_reads
-    (λ left. turn_reads (maybe (expr_behind 58)) (λ right. mark 93 >>= λ close. give (record { at = at; left = left; right = right })) (is_mark 58) (marks (58 ∷ sign_marks)) (is_mark 93) nothing true false (read_maybe 58 (read_expr_behind 58)) _
-    (maybe_reads 58 (marks sign_marks) (expr_behind_reads 58))
+    then_reads (λ at. expr >>= λ left. maybe (expr_after 58) >>= λ right. mark 93 >>= λ close. give (record { at = at; left = left; right = right })) no_close nothing false _ (mark_reads 91)
+    (λ at. then_reads (λ left. maybe (expr_after 58) >>= λ right. mark 93 >>= λ close. give (record { at = at; left = left; right = right })) (λ t. is_mark 58 t || is_mark 93 t) nothing false _ expr_reads
+    (λ left. turn_reads (maybe (expr_after 58)) (λ right. mark 93 >>= λ close. give (record { at = at; left = left; right = right })) (is_mark 58) (marks (58 ∷ sign_marks)) (is_mark 93) nothing true false (read_maybe 58 (read_expr_after 58)) _
+    (maybe_reads 58 (marks sign_marks) (expr_after_reads 58))
     (λ right. made_reads (λ close. record { at = at; left = left; right = right }) (mark_reads 93))
     (λ t h. marks_apart 93 (58 ∷ sign_marks) refl t h))
     (λ t h. either_false (is_mark 58 t) (is_mark 93 t) (marks_apart 58 sign_marks refl t) (marks_apart 93 sign_marks refl t) h))
@@ -84,19 +84,19 @@ first_name_reads = wider_reads (one_reads Limit named_at) is_name nothing (λ t 
     by_kind Param n h = absurd cc
     by_kind Mark n h = absurd cc
 
-pub path_reads : (first : List ℕ) → Reads (path_behind first) (is_mark 46) (is_mark 46) true (read_path_behind first)
-unfolding path_behind read_path_behind
+pub path_reads : (first : List ℕ) → Reads (path_after first) (is_mark 46) (is_mark 46) true (read_path_after first)
+unfolding path_after read_path_after
 path_reads first = wider_reads (more_parted_reads 46 name_reads (λ t h. refl) (first ∷ [])) (is_mark 46) (is_mark 46) (λ t h. h) (λ t h. or_from _ _ h refl)
 
 -- `.` and `[`
 abbrev pub path_marks : List ℕ
 path_marks = 46 ∷ 91 ∷ []
 
-named_behind_reads : (first : Named) → Reads (path_behind first.name >>= λ path. maybe range >>= λ r. give (record { at = first.at; what = APath path r })) (marks path_marks) (marks path_marks) true (read_named_behind first)
-unfolding read_named_behind
-named_behind_reads first =
+named_after_reads : (first : Named) → Reads (path_after first.name >>= λ path. maybe range >>= λ r. give (record { at = first.at; what = APath path r })) (marks path_marks) (marks path_marks) true (read_named_after first)
+unfolding read_named_after
+named_after_reads first =
     wider_reads
-    (turn_reads (path_behind first.name) (λ path. maybe range >>= λ r. give (record { at = first.at; what = APath path r })) (is_mark 46) (is_mark 46) (is_mark 91) (is_mark 91) true true (read_path_behind first.name) _
+    (turn_reads (path_after first.name) (λ path. maybe range >>= λ r. give (record { at = first.at; what = APath path r })) (is_mark 46) (is_mark 46) (is_mark 91) (is_mark 91) true true (read_path_after first.name) _
     (path_reads first.name)
     (λ path. wider_reads (turn_reads (maybe range) (λ r. give (record { at = first.at; what = APath path r })) (is_mark 91) (is_mark 91) nothing nothing true true (read_maybe 91 read_range) _ maybe_range_reads (λ r. give_reads (record { at = first.at; what = APath path r })) (λ t h. absurd cc))
     (is_mark 91) (is_mark 91) (λ t h. narrow (is_mark 91 t) h) (λ t h. h))
@@ -121,7 +121,7 @@ named_reads : Reads named_sig is_name (marks path_marks) false read_named_sig
 unfolding named_sig read_named_sig
 named_reads =
     wider_reads
-    (then_reads (λ first. path_behind first.name >>= λ path. maybe range >>= λ r. give (record { at = first.at; what = APath path r })) (marks path_marks) (marks path_marks) true read_named_behind first_name_reads named_behind_reads (λ t h. refl))
+    (then_reads (λ first. path_after first.name >>= λ path. maybe range >>= λ r. give (record { at = first.at; what = APath path r })) (marks path_marks) (marks path_marks) true read_named_after first_name_reads named_after_reads (λ t h. refl))
     is_name (marks path_marks) (λ t h. h) (λ t h. or_from _ _ h refl)
 
 -- a token that is neither a word nor a mark

@@ -44,7 +44,7 @@ reads_shrink {A} {S} {first} {more} {r} law ts rest a h = by_front (law.sound ts
     by_front ([], e, d) = let no : false ≡ true = law.nulls a d in absurd cc
     by_front (t ∷ front, e, d) = let k : length ts ≡ suc (length (front ++ rest)) = ap length e in omega (arith, k, length-append front rest)
 
--- a part behind a mark
+-- a part after a mark
 pub after_shrinks : {A : Type 0} (c : ℕ) (r : Reading A) → Shrinks r → Shrinks (read_after c r)
 after_shrinks {A} c r shrinks ts rest a h = by_mark (read_mark c ts) refl h
   where

@@ -53,11 +53,11 @@ read_word w = read_one (word_at w)
 abbrev pub read_name : Reading (List ℕ)
 read_name = read_one name_at
 
--- a part behind a mark
+-- a part after a mark
 abbrev pub read_after : {A : Type 0} → ℕ → Reading A → Reading A
 read_after c r = read_in_turn (read_mark c) (λ m. r)
 
--- a part in front of a mark
+-- a part before a mark
 abbrev pub read_ended : {A : Type 0} → ℕ → Reading A → Reading A
 read_ended c r = read_in_turn r (λ a. read_in_turn (read_mark c) (λ e. gives a))
 
@@ -65,7 +65,7 @@ read_ended c r = read_in_turn r (λ a. read_in_turn (read_mark c) (λ e. gives a
 abbrev pub read_maybe : {A : Type 0} → ℕ → Reading A → Reading (Option A)
 read_maybe c r = read_either (is_mark c) (read_in_turn r (λ a. gives (Some a))) (gives None)
 
--- parts behind some that are read already: each behind a mark, or up to a `}` or the end
+-- parts after some that are read already: each after a mark, or up to a `}` or the end
 abbrev pub more_parted : {A : Type 0} → ℕ → Reading A → List A → Reading (List A)
 more_parted {A} c r xs ts = read_repeat (is_mark c) (λ (ys : List A). read_after c r) appended xs ts
 
@@ -89,7 +89,7 @@ abbrev pub read_leaf : Bool → ℕ → Reading Counted
 read_leaf alone used = read_one (leaf_at alone used)
 
 -- the operator that a token is, with so many tokens left: refused where the expression may have no further one, or where a sized
--- number stands in front
+-- number stands before
 abbrev pub operator_of : ℕ → Bool → Option Signed → ℕ → List SeenToken → Result (Signed × List SeenToken) (Unfit Limit)
 operator_of spare lone None n ts = Err (n, None)
 operator_of zero lone (Some s) n ts = Err (n, Some OfExpression)
@@ -133,25 +133,25 @@ read_expr = read_in_turn (read_sum 64 0) (λ e. gives e.formula)
 unfoldable pub read_value : Reading (List SeenExpr)
 read_value = read_parted 44 read_expr
 
-unfoldable pub read_expr_behind : ℕ → Reading SeenExpr
-read_expr_behind c = read_after c read_expr
+unfoldable pub read_expr_after : ℕ → Reading SeenExpr
+read_expr_after c = read_after c read_expr
 
 unfoldable pub read_range : Reading SeenRange
-read_range = read_in_turn (read_mark 91) (λ at. read_in_turn read_expr (λ left. read_in_turn (read_maybe 58 (read_expr_behind 58)) (λ right. read_in_turn (read_mark 93) (λ close. gives (record { at = at; left = left; right = right })))))
+read_range = read_in_turn (read_mark 91) (λ at. read_in_turn read_expr (λ left. read_in_turn (read_maybe 58 (read_expr_after 58)) (λ right. read_in_turn (read_mark 93) (λ close. gives (record { at = at; left = left; right = right })))))
 
 -- ---- signals
 
 abbrev pub read_number : Reading Located
 read_number = read_one number_at
 
-unfoldable pub read_path_behind : List ℕ → Reading (List (List ℕ))
-read_path_behind first = read_repeat (is_mark 46) (λ (ns : List (List ℕ)). read_after 46 read_name) appended (first ∷ [])
+unfoldable pub read_path_after : List ℕ → Reading (List (List ℕ))
+read_path_after first = read_repeat (is_mark 46) (λ (ns : List (List ℕ)). read_after 46 read_name) appended (first ∷ [])
 
-unfoldable pub read_named_behind : Named → Reading Located
-read_named_behind first = read_in_turn (read_path_behind first.name) (λ path. read_in_turn (read_maybe 91 read_range) (λ r. gives (record { at = first.at; what = APath path r })))
+unfoldable pub read_named_after : Named → Reading Located
+read_named_after first = read_in_turn (read_path_after first.name) (λ path. read_in_turn (read_maybe 91 read_range) (λ r. gives (record { at = first.at; what = APath path r })))
 
 unfoldable pub read_named_sig : Reading Located
-read_named_sig = read_in_turn (read_one named_at) read_named_behind
+read_named_sig = read_in_turn (read_one named_at) read_named_after
 
 abbrev pub read_plain_sig : Reading Located
 read_plain_sig = read_either is_name read_named_sig read_number

@@ -11,7 +11,7 @@ use Rattle.icl_expressions.specs.declared.reading.Parsed.{Parsed}
 use Rattle.icl_expressions.specs.declared.expressions.Counting.{Counting}
 use Rattle.icl_expressions.specs.declared.signs.SignAt.{SignAt}
 
--- a value and the tokens behind it
+-- a value and the tokens after it
 abbrev pub seen_read : {X Y : Type 0} → (X → Y) → Parsed X → Y × List SeenToken
 seen_read view r = (view r.value, r.rest)
 

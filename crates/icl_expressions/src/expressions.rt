@@ -18,7 +18,7 @@ use icl_lexer::{Cursor, Expr, Limit};
 use ij_bits::beside;
 use std::alloc::Global;
 
-/// An expression; how many operators its outermost expression has up to here; and whether it is a sized number, behind
+/// An expression; how many operators its outermost expression has up to here; and whether it is a sized number, after
 /// which no operator may stand.
 #[derive(Drop)]
 pub(crate) struct Counting {

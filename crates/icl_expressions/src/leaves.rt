@@ -15,7 +15,7 @@ use crate::reading::Parsed;
 use crate::stop::Stop;
 use icl_lexer::{Cursor, Expr, Lexeme, SmallText, TokenKind};
 use ij_bits::OutOfMemory;
-use ij_text::behind_first;
+use ij_text::after_first;
 use std::alloc::Global;
 
 /// The value of a decimal with one more byte.
@@ -62,10 +62,7 @@ pub(crate) fn number_value(alloc: Global, t: &Lexeme) -> Result<Option<Expr>, Ou
     match t.kind {
         TokenKind::Decimal => Ok(decimal(t.text).map(Expr::Decimal)),
         TokenKind::Sized => Ok(Some(Expr::Sized(SmallText::of(alloc, t.text)?))),
-        TokenKind::Param => Ok(Some(Expr::Param(
-            t.at,
-            SmallText::of(alloc, behind_first(t.text))?,
-        ))),
+        TokenKind::Param => Ok(Some(Expr::Param(t.at, SmallText::of(alloc, after_first(t.text))?))),
         TokenKind::Word | TokenKind::Quoted | TokenKind::Mark => Ok(None),
     }
 }
@@ -115,7 +112,7 @@ fn leaf_value(
             None => Ok(None),
         },
         TokenKind::Param => {
-            let name = SmallText::of(alloc, behind_first(t.text))?;
+            let name = SmallText::of(alloc, after_first(t.text))?;
             Ok(counted(Expr::Param(t.at, name), used))
         }
         TokenKind::Quoted => {

@@ -28,7 +28,7 @@ pub trait Part: Sized {
         ensures gives { Gives (seen_read view) result (reader tokens.entry) };
 }
 
-/// Parts with the next one, behind a mark.
+/// Parts with the next one, after a mark.
 fn with_next<'a, T: Part + Drop>(
     alloc: Global,
     parts: Parsed<'a, Few<T>>,
@@ -45,8 +45,8 @@ fn with_next<'a, T: Part + Drop>(
     })
 }
 
-/// A part with those that follow, each behind a mark.
-pub(crate) fn read_behind<'a, T: Part + Drop>(
+/// A part with those that follow, each after a mark.
+pub(crate) fn read_following<'a, T: Part + Drop>(
     alloc: Global,
     first: Parsed<'a, T>,
     mark: u8,
@@ -76,7 +76,7 @@ pub fn read_parted<'a, T: Part + Drop>(
     ensures gives { Gives (seen_read (seen_few T.view)) result (read_parted mark T.reader tokens.entry) }
 {
     let first = T::read(alloc, tokens)?;
-    read_behind(alloc, first, mark)
+    read_following(alloc, first, mark)
 }
 
 // ---- the parts of values and signals

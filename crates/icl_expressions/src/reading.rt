@@ -12,16 +12,16 @@ use ij_bits::{List, OutOfMemory};
 use ij_text::Place;
 use std::alloc::Global;
 
-/// A value, and the tokens behind it.
+/// A value, and the tokens after it.
 #[derive(Drop)]
 pub struct Parsed<'a, X> {
     /// What was read.
     pub value: X,
-    /// The tokens behind it.
+    /// The tokens after it.
     pub rest: Cursor<'a>,
 }
 
-/// A list with one more value at its end, and the tokens behind the value. The first value makes room for itself alone.
+/// A list with one more value at its end, and the tokens after the value. The first value makes room for itself alone.
 pub fn pushed<'a, X: Drop>(
     list: List<X>,
     read: Parsed<'a, X>,

@@ -5,10 +5,10 @@ ghost use Rattle.ij_bits.specs.Room.{seen_list};
 ghost use Rattle.icl_lexer.specs.Views.{bytes_of, seen_expr, seen_few, seen_range, seen_sig};
 ghost use Rattle.icl_expressions.specs.Seen.{seen_read, Gives};
 ghost use Rattle.icl_expressions.specs.SeenParts.{seen_located};
-ghost use Rattle.icl_expressions.specs.Reading.{read_value, read_expr_behind, read_maybe, read_range, read_number, read_path_behind, read_named_behind, read_named_sig, read_plain_sig, read_inverted, read_sig, read_sigs};
+ghost use Rattle.icl_expressions.specs.Reading.{read_value, read_expr_after, read_maybe, read_range, read_number, read_path_after, read_named_after, read_named_sig, read_plain_sig, read_inverted, read_sig, read_sigs};
 
 use crate::leaves::number_value;
-use crate::parts::{Part, read_behind, read_parted};
+use crate::parts::{Part, read_following, read_parted};
 use crate::reading::{Parsed, begins_mark, begins_name, read_mark};
 use crate::stop::Stop;
 use icl_lexer::{Cursor, Ends, Expr, Few, Lexeme, Range, Sig, SigWhat, SmallText};
@@ -29,28 +29,28 @@ pub fn read_value<'a>(alloc: Global, tokens: Cursor<'a>) -> Result<Parsed<'a, Fe
 
 // ---- ranges
 
-/// An expression behind a mark.
-#[tactic(auto, unfolding(crate::specs::Reading::read_expr_behind))]
-pub fn read_expr_behind<'a>(
+/// An expression after a mark.
+#[tactic(auto, unfolding(crate::specs::Reading::read_expr_after))]
+pub fn read_expr_after<'a>(
     alloc: Global,
     tokens: Cursor<'a>,
     mark: u8,
 ) -> Result<Parsed<'a, Expr>, Stop>
     ensures shorter { IfOk result (λ r. length r.rest < length tokens.entry) }
-    ensures gives { Gives (seen_read seen_expr) result (read_expr_behind mark tokens.entry) }
+    ensures gives { Gives (seen_read seen_expr) result (read_expr_after mark tokens.entry) }
 {
     let mark = read_mark(tokens, mark)?;
     Expr::read(alloc, mark.rest)
 }
 
 /// The same, where the mark is the next token.
-pub fn maybe_expr_behind<'a>(
+pub fn maybe_expr_after<'a>(
     alloc: Global,
     tokens: Cursor<'a>,
     mark: u8,
 ) -> Result<Parsed<'a, Option<Expr>>, Stop>
     ensures shorter { IfOk result (λ r. length r.rest ≤ length tokens.entry) }
-    ensures gives { Gives (seen_read (option_map seen_expr)) result (read_maybe mark (read_expr_behind mark) tokens.entry) }
+    ensures gives { Gives (seen_read (option_map seen_expr)) result (read_maybe mark (read_expr_after mark) tokens.entry) }
 {
     if !begins_mark(&tokens, mark) {
         return Ok(Parsed {
@@ -58,7 +58,7 @@ pub fn maybe_expr_behind<'a>(
             rest: tokens,
         });
     }
-    let expr = read_expr_behind(alloc, tokens, mark)?;
+    let expr = read_expr_after(alloc, tokens, mark)?;
     Ok(Parsed {
         value: Some(expr.value),
         rest: expr.rest,
@@ -73,7 +73,7 @@ fn read_range<'a>(alloc: Global, tokens: Cursor<'a>) -> Result<Parsed<'a, Range>
 {
     let open = read_mark(tokens, b'[')?;
     let left = Expr::read(alloc, open.rest)?;
-    let (left, right) = beside(left.value, maybe_expr_behind(alloc, left.rest, b':'))?;
+    let (left, right) = beside(left.value, maybe_expr_after(alloc, left.rest, b':'))?;
     let ends = Ends {
         left,
         right: right.value,
@@ -136,32 +136,32 @@ fn read_number<'a>(alloc: Global, tokens: Cursor<'a>) -> Result<Parsed<'a, Locat
     }
 }
 
-/// The names behind a first one, with `.` in front of each.
-#[tactic(auto, unfolding(crate::specs::Reading::read_path_behind))]
+/// The names after a first one, with `.` before each.
+#[tactic(auto, unfolding(crate::specs::Reading::read_path_after))]
 fn read_path<'a>(
     alloc: Global,
     first: SmallText,
     tokens: Cursor<'a>,
 ) -> Result<Parsed<'a, Few<SmallText>>, Stop>
     ensures shorter { IfOk result (λ r. length r.rest ≤ length tokens.entry) }
-    ensures gives { Gives (seen_read (seen_few bytes_of)) result (read_path_behind first.items tokens.entry) }
+    ensures gives { Gives (seen_read (seen_few bytes_of)) result (read_path_after first.items tokens.entry) }
 {
     let first = Parsed {
         value: first,
         rest: tokens,
     };
-    read_behind(alloc, first, b'.')
+    read_following(alloc, first, b'.')
 }
 
-/// Names with `.` between them, and maybe a range, behind the first token.
-#[tactic(auto, unfolding(crate::specs::Reading::read_named_behind))]
-fn named_behind<'a>(
+/// Names with `.` between them, and maybe a range, after the first token.
+#[tactic(auto, unfolding(crate::specs::Reading::read_named_after))]
+fn named_after<'a>(
     alloc: Global,
     first: &Lexeme<'a>,
     tokens: Cursor<'a>,
 ) -> Result<Parsed<'a, Located>, Stop>
     ensures shorter { IfOk result (λ r. length r.rest ≤ length tokens.entry) }
-    ensures gives { Gives (seen_read seen_located) result (read_named_behind (record { at = first.now.at; name = first.now.text.now }) tokens.entry) }
+    ensures gives { Gives (seen_read seen_located) result (read_named_after (record { at = first.now.at; name = first.now.text.now }) tokens.entry) }
 {
     let path = read_path(alloc, SmallText::of(alloc, first.text)?, tokens)?;
     let range = maybe_range(alloc, path.rest)?;
@@ -185,7 +185,7 @@ fn read_named_sig<'a>(alloc: Global, tokens: Cursor<'a>) -> Result<Parsed<'a, Lo
 {
     let left = tokens.len();
     match tokens.next() {
-        Some((first, rest)) if first.is_name() => named_behind(alloc, &first, rest),
+        Some((first, rest)) if first.is_name() => named_after(alloc, &first, rest),
         _ => Err(Stop::At(left, None)),
     }
 }
@@ -202,7 +202,7 @@ fn read_plain_sig<'a>(alloc: Global, tokens: Cursor<'a>) -> Result<Parsed<'a, Lo
     }
 }
 
-/// A signal behind a `~`.
+/// A signal after a `~`.
 #[tactic(auto, unfolding(crate::specs::Reading::read_inverted))]
 fn read_inverted<'a>(alloc: Global, tokens: Cursor<'a>) -> Result<Parsed<'a, Sig>, Stop>
     ensures shorter { IfOk result (λ r. length r.rest < length tokens.entry) }

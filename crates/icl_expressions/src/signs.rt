@@ -81,7 +81,7 @@ pub(crate) fn begins_product_sign(tokens: &Cursor) -> bool
     }
 }
 
-/// The operator that is the next token, if there is one. An expression has at most 256, and none behind a sized number.
+/// The operator that is the next token, if there is one. An expression has at most 256, and none after a sized number.
 #[tactic(auto, using(crate::proofs::Operators::operator_steps))]
 fn operator<'a>(
     sign: Option<SignAt>,

@@ -19,7 +19,7 @@ use Rattle.icl_lexer.specs.declared.words.ItemKeyword.TheVariants.{OfPort, OfReg
 use Rattle.icl_lexer.specs.Seen.{SeenToken, if_word, name_at, mark_at, seen_tokens}
 use Rattle.icl_lexer.specs.Values.{SeenRow, SeenEnumWord, SeenWhat, SeenItem, SeenModule}
 use Rattle.icl_lexer.specs.Grammar.{Of, name, mark, value, sig, sigs, parted}
-use Rattle.icl_lexer.specs.Modules.{port, register, alias, parameter as a_parameter, attribute, row, rows, mux, braced, child, enum_word, words, interface, link, meaning_behind, item, module_of, design}
+use Rattle.icl_lexer.specs.Modules.{port, register, alias, parameter as a_parameter, attribute, row, rows, mux, braced, child, enum_word, words, interface, link, meaning_after, item, module_of, design}
 use Rattle.icl_frames.specs.Written.{IsWrittenWhat, IsWrittenItem, IsWritten, DesignsAreWritten}
 use Rattle.ij_bits.proofs.Everywhere.{all_front, all_back, all_both}
 use Rattle.icl_lexer.proofs.Fronts.{seen_count}
@@ -267,7 +267,7 @@ word_written : (ts : List SeenToken) (w : SeenEnumWord) → Fit ts → enum_word
 unfolding enum_word
 word_written ts w f h = let g = halves h.0 h.1 ts h.3 f in subst (λ (x : SeenEnumWord). IsTrue (is_name x.name)) (sym h.5.5.5.5.1) (named h.0 h.2 g.first h.4)
 
-meaning_written : (w : ItemKeyword) (ts : List SeenToken) (m : SeenWhat) → Fit ts → (meaning_behind w).derives ts m → IsWrittenWhat m
+meaning_written : (w : ItemKeyword) (ts : List SeenToken) (m : SeenWhat) → Fit ts → (meaning_after w).derives ts m → IsWrittenWhat m
 unfolding port register alias a_parameter attribute child words interface link
 meaning_written (OfPort kind) ts m f h = subst IsWrittenWhat (sym h.5.5.1) tt
 meaning_written OfRegister ts m f h = subst IsWrittenWhat (sym h.5.5.1) tt

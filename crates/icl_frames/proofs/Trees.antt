@@ -10,7 +10,7 @@ use Rattle.icl_frames.specs.Laws.{parents_of, IsBelow, AreBelow, level_below, le
 use Rattle.ij_bits.proofs.Everywhere.{all_one}
 use Rattle.ij_bits.proofs.Contained.{map_in, first_in, later_in}
 
--- ---- lists with more behind
+-- ---- lists with more after
 
 pub get_kept : {A : Type 0} (xs ys : List A) (i : ℕ) (x : A) → slice_get xs i ≡ Some x → slice_get (xs ++ ys) i ≡ Some x
 get_kept [] ys i x h = absurd cc
@@ -51,7 +51,7 @@ frames_long frames = let l = levels_long [] (parents_of frames) in let m = lengt
 levels_one : (front : List Frame) (f : Frame) → levels_of (front ++ f ∷ []) ≡ levels_of front ++ level_below (levels_of front) f.parent ∷ []
 levels_one front f = ap (levels_from []) (map-append (λ (g : Frame). g.parent) front (f ∷ [])) ∙ levels_both [] (parents_of front) (f.parent ∷ [])
 
--- with more frames behind, each level before is the same
+-- with more frames after, each level before is the same
 level_kept : (front more : List Frame) (k : ℕ) → k < length front → get_or (levels_of (front ++ more)) k 0 ≡ get_or (levels_of front) k 0
 level_kept front more k lt =
     ap (λ (ps : List (Option ℕ)). get_or (levels_from [] ps) k 0) (map-append (λ (g : Frame). g.parent) front more)

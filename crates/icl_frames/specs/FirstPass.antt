@@ -90,7 +90,7 @@ pub record Added : Type 0 where
   pub wanted : List Request
   pub counts : Counts
 
--- an item behind others, in a cell that stands in these modules
+-- an item after others, in a cell that stands in these modules
 unfoldable pub look_at : List SeenModule → List (List ℕ) → Params → List SeenItem → Counts → SeenItem → Answer Added
 look_at blocks above ps before c item = do
   names ← new_names before item

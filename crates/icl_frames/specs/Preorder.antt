@@ -40,7 +40,7 @@ AreOfChildren blocks Is number parent params [] frames = frames ≡ []
 AreOfChildren blocks Is number parent params (d ∷ ds) frames =
     (xs : List Frame) × (ys : List Frame) × (frames ≡ xs ++ ys) × AreOfChild blocks Is number parent params d xs × AreOfChildren blocks Is (number + length xs) parent params ds ys
 
--- the frames of an instance, in so many levels: its own, and those of its children behind it
+-- the frames of an instance, in so many levels: its own, and those of its children after it
 abbrev pub AreOfInstance : List SeenModule → ℕ → OfInstance
 AreOfInstance blocks zero number parent name block given frames = ⊥
 AreOfInstance blocks (suc levels) number parent name block given [] = ⊥

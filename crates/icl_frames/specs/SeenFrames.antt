@@ -47,7 +47,7 @@ seen_progress s = record { frames = map seen_frame s.frames.items; counts = s.co
 
 -- ---- one cell more
 
--- what `enter_one` does behind the items of a cell
+-- what `enter_one` does after the items of a cell
 abbrev pub finished : Option ℕ → Request → Params → Passed → Answer Entered
 finished parent r ps s =
     finish parent r.block s >>= λ counts. Ok (record { frame = record { name = r.name; parent = parent; block = r.block; params = ps; bounds = s.bounds }; requests = s.requests; counts = counts })

@@ -366,7 +366,7 @@ fn distinct_modules(alloc: Global, modules: &[Module]) -> Result<(), ElabFault>
 }
 
 /// The cells of a design with this top module, in preorder (IEEE 1687-2014, ICL: Module, Instance, Parameter): the top, which has
-/// number 0, and behind each cell those of its instances, in the order of the text.
+/// number 0, and after each cell those of its instances, in the order of the text.
 ///
 /// The first fault on the way is the answer. Two modules of one name are `DoubleName` at the second word `Module`; a top that is
 /// no module is `NoModule`. Then each cell, before those in it: `Limit` of `Hierarchy` where it stands inside 64 others below the

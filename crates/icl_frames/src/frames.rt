@@ -147,7 +147,7 @@ pub struct Added<'a> {
     pub counts: Counts,
 }
 
-/// What an item adds, behind the items with these names.
+/// What an item adds, after the items with these names.
 #[tactic(auto, unfolding(crate::specs::FirstPass::look_at))]
 fn look_at<'a>(
     alloc: Global,

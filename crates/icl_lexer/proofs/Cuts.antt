@@ -3,8 +3,8 @@ use Rattle.std.proofs.Common.{◌≡◌, ℕ, suc, ◌+◌, ◌≤◌, List, [],
 use Rattle.std.proofs.lemmas.List.{drop-drop, length-take, take-append-drop}
 use Rattle.ij_text.specs.declared.Place.{Place}
 use Rattle.std.proofs.Math.Seq.{take-append_seam}
-use Rattle.ij_text.specs.Places.{first_place, place_at, place_behind}
-use Rattle.ij_text.proofs.Behind.{place_behind-append}
+use Rattle.ij_text.specs.Places.{first_place, place_at, place_after}
+use Rattle.ij_text.proofs.After.{place_after-append}
 use Rattle.icl_lexer.specs.Token.{Token}
 use Rattle.icl_lexer.specs.declared.token.PieceKind.{PieceKind}
 use Rattle.icl_lexer.specs.Cutting.{IsPiece, Piece, joined, AreLongest, IsCutUpTo, tokens_from, token_of}
@@ -15,7 +15,7 @@ pub record CutSoFar (text : List ℕ) (tokens : List Token) (start : ℕ) (at : 
   pub cut : IsCutUpTo text pieces (drop start text)
   pub tokens_are : tokens ≡ tokens_from 0 first_place pieces
   pub start_is : start ≡ length (joined pieces [])
-  pub at_is : at ≡ place_behind first_place (joined pieces [])
+  pub at_is : at ≡ place_after first_place (joined pieces [])
 
 pub joined_more : (ps qs : List Piece) (rest : List ℕ) → joined (ps ++ qs) rest ≡ joined ps (joined qs rest)
 joined_more [] qs rest = refl
@@ -33,24 +33,24 @@ longest_more (p ∷ ps) qs rest h k =
 length_both : (xs ys : List ℕ) (s : ℕ) → s + length (xs ++ ys) ≡ s + length xs + length ys
 length_both xs ys s = let e = length-append xs ys in omega (arith, e)
 
-pub tokens_more : (ps : List Piece) (s : ℕ) (at : Place) (qs : List Piece) → tokens_from s at (ps ++ qs) ≡ tokens_from s at ps ++ tokens_from (s + length (joined ps [])) (place_behind at (joined ps [])) qs
+pub tokens_more : (ps : List Piece) (s : ℕ) (at : Place) (qs : List Piece) → tokens_from s at (ps ++ qs) ≡ tokens_from s at ps ++ tokens_from (s + length (joined ps [])) (place_after at (joined ps [])) qs
 tokens_more [] s at qs = ap (λ n. tokens_from n at qs) (let e : s ≡ s + 0 = omega arith in e)
 tokens_more (p ∷ ps) s at qs =
     let front = token_of p.kind at s (s + length p.bytes) in
-    let others = tokens_from (s + length p.bytes) (place_behind at p.bytes) ps in
+    let others = tokens_from (s + length p.bytes) (place_after at p.bytes) ps in
     let end = s + length p.bytes + length (joined ps []) in
-    let place = place_behind (place_behind at p.bytes) (joined ps []) in
-    ap (λ (ts : List Token). front ++ ts) (tokens_more ps (s + length p.bytes) (place_behind at p.bytes) qs)
+    let place = place_after (place_after at p.bytes) (joined ps []) in
+    ap (λ (ts : List Token). front ++ ts) (tokens_more ps (s + length p.bytes) (place_after at p.bytes) qs)
     ∙ sym (append_assoc front others (tokens_from end place qs))
     ∙ ap (λ (k : ℕ). (front ++ others) ++ tokens_from k place qs) (sym (length_both p.bytes (joined ps []) s))
-    ∙ ap (λ (a : Place). (front ++ others) ++ tokens_from (s + length (p.bytes ++ joined ps [])) a qs) (sym (place_behind-append p.bytes at (joined ps [])))
+    ∙ ap (λ (a : Place). (front ++ others) ++ tokens_from (s + length (p.bytes ++ joined ps [])) a qs) (sym (place_after-append p.bytes at (joined ps [])))
 
 take_front : (text : List ℕ) (n len : ℕ) → len ≤ length (drop n text) → length (take len (drop n text)) ≡ len
 take_front text n len h = let e = length-take len (drop n text) in omega (arith, e, h)
 
 -- a piece at the end
 pub cut_more : (text : List ℕ) (tokens : List Token) (start : ℕ) (at : Place) (kind : PieceKind) (len : ℕ) → CutSoFar text tokens start at → IsPiece (drop start text) kind len
-    → CutSoFar text (tokens ++ token_of kind at start (start + len)) (start + len) (place_behind at (take len (drop start text)))
+    → CutSoFar text (tokens ++ token_of kind at start (start + len)) (start + len) (place_after at (take len (drop start text)))
 cut_more text tokens start at kind len so_far piece =
     let rest = drop start text in
     let p : Piece = record { kind = kind; bytes = take len rest } in
@@ -60,11 +60,11 @@ cut_more text tokens start at kind len so_far piece =
     let bytes : joined (ps ++ p ∷ []) [] ≡ joined ps [] ++ take len rest = joined_more ps (p ∷ []) [] ∙ joined_rest ps (take len rest ++ []) ∙ ap (λ (l : List ℕ). joined ps [] ++ l) (append-nil (take len rest)) in
     let is_piece : IsPiece (take len rest ++ drop (start + len) text) kind (length (take len rest)) = subst (λ n. IsPiece (take len rest ++ drop (start + len) text) kind n) (sym long) (subst (λ (l : List ℕ). IsPiece l kind len) (sym parts) piece) in
     let from : start ≡ 0 + length (joined ps []) = let e = so_far.start_is in omega (arith, e) in
-    let last : token_of kind at start (start + len) ≡ tokens_from (0 + length (joined ps [])) (place_behind first_place (joined ps [])) (p ∷ []) =
+    let last : token_of kind at start (start + len) ≡ tokens_from (0 + length (joined ps [])) (place_after first_place (joined ps [])) (p ∷ []) =
     ap (λ n. token_of kind at start (start + n)) (sym long)
     ∙ ap (λ s. token_of kind at s (s + length (take len rest))) from
     ∙ ap (λ a. token_of kind a (0 + length (joined ps [])) (0 + length (joined ps []) + length (take len rest))) so_far.at_is
-    ∙ sym (append-nil (token_of kind (place_behind first_place (joined ps [])) (0 + length (joined ps [])) (0 + length (joined ps []) + length (take len rest)))) in
+    ∙ sym (append-nil (token_of kind (place_after first_place (joined ps [])) (0 + length (joined ps [])) (0 + length (joined ps []) + length (take len rest)))) in
     record {
       pieces = ps ++ p ∷ [];
       cut = record {
@@ -75,7 +75,7 @@ cut_more text tokens start at kind len so_far piece =
           ∙ ap (λ (t : List Token). tokens_from 0 first_place ps ++ t) last
           ∙ sym (tokens_more ps 0 first_place (p ∷ []));
       start_is = let both = length-append (joined ps []) (take len rest) in let e = ap length bytes in omega (arith, both, e, long, so_far.start_is);
-      at_is = ap (λ a. place_behind a (take len rest)) so_far.at_is ∙ sym (place_behind-append (joined ps []) first_place (take len rest)) ∙ ap (place_behind first_place) (sym bytes);
+      at_is = ap (λ a. place_after a (take len rest)) so_far.at_is ∙ sym (place_after-append (joined ps []) first_place (take len rest)) ∙ ap (place_after first_place) (sym bytes);
     }
 
 -- the place where a cutting ends
@@ -84,7 +84,7 @@ place_of_cut text tokens start at so_far =
     let front = joined so_far.pieces [] in
     let whole : front ++ drop start text ≡ text = sym (joined_rest so_far.pieces (drop start text)) ∙ so_far.cut.whole in
     let taken : take start text ≡ front = ap (λ n. take n text) so_far.start_is ∙ ap (take (length front)) (sym whole) ∙ take-append_seam front (drop start text) in
-    so_far.at_is ∙ ap (place_behind first_place) (sym taken)
+    so_far.at_is ∙ ap (place_after first_place) (sym taken)
 
 -- nothing is cut at the start
 pub nothing_cut : (text : List ℕ) → CutSoFar text [] 0 first_place

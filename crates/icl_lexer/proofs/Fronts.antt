@@ -4,7 +4,7 @@ use Rattle.std.specs.Prelude.{slice_range}
 use Rattle.std.proofs.lemmas.Bool.{eqb-true}
 use Rattle.std.proofs.Math.Seq.{take-append_seam, drop-append_seam}
 use Rattle.ij_text.specs.declared.Place.{Place}
-use Rattle.ij_text.specs.Places.{first_place, place_behind}
+use Rattle.ij_text.specs.Places.{first_place, place_after}
 use Rattle.icl_lexer.specs.Token.{Token}
 use Rattle.icl_lexer.specs.declared.token.PieceKind.{PieceKind}
 use Rattle.icl_lexer.specs.declared.token.PieceKind.TheVariants.{Gap, Is}
@@ -73,24 +73,24 @@ enough : (n m : ℕ) (text : List ℕ) (at : Place) → length text ≤ n → le
 unfolding tokens_within
 enough zero m text at h k = sym (nothing_within m text at h)
 enough (suc n) zero text at h k = nothing_within (suc n) text at k
-enough (suc n) (suc m) text at h k = by (front text) (front_begins text) (λ rest behind. enough n m rest behind)
+enough (suc n) (suc m) text at h k = by (front text) (front_begins text) (λ rest after. enough n m rest after)
   where
-    by : (f : Option Match) → Begins text f → ((rest : List ℕ) (behind : Place) → length rest ≤ n → length rest ≤ m → tokens_within n rest behind ≡ tokens_within m rest behind) → tokens_of_front (tokens_within n) text at f ≡ tokens_of_front (tokens_within m) text at f
+    by : (f : Option Match) → Begins text f → ((rest : List ℕ) (after : Place) → length rest ≤ n → length rest ≤ m → tokens_within n rest after ≡ tokens_within m rest after) → tokens_of_front (tokens_within n) text at f ≡ tokens_of_front (tokens_within m) text at f
     by None none again = refl
     by (Some found) p again =
         ap (λ (ts : List SeenToken). seen_piece found.kind at (take found.len text) ++ ts)
-        (again (drop found.len text) (place_behind at (take found.len text)) (shorter text found.kind found.len n p h) (shorter text found.kind found.len m p k))
+        (again (drop found.len text) (place_after at (take found.len text)) (shorter text found.kind found.len n p h) (shorter text found.kind found.len m p k))
 
--- a piece, and the tokens behind it
+-- a piece, and the tokens after it
 pub tokens_step : (text : List ℕ) (at : Place) (kind : PieceKind) (len : ℕ) → IsPiece text kind len
-    → tokens_in text at ≡ seen_piece kind at (take len text) ++ tokens_in (drop len text) (place_behind at (take len text))
+    → tokens_in text at ≡ seen_piece kind at (take len text) ++ tokens_in (drop len text) (place_after at (take len text))
 unfolding tokens_in tokens_within
 tokens_step text at kind len p =
     let n = length text in
     enough n (suc n) text at (omega arith) (omega arith)
     ∙ ap (tokens_of_front (tokens_within n) text at) (front_is text kind len p)
     ∙ ap (λ (ts : List SeenToken). seen_piece kind at (take len text) ++ ts)
-    (enough n (length (drop len text)) (drop len text) (place_behind at (take len text)) (shorter text kind len n p (omega arith)) (omega arith))
+    (enough n (length (drop len text)) (drop len text) (place_after at (take len text)) (shorter text kind len n p (omega arith)) (omega arith))
 
 -- no token where no piece begins
 pub tokens_end : (text : List ℕ) (at : Place) → NoPiece text → tokens_in text at ≡ []
@@ -113,7 +113,7 @@ seen_one : (text : List ℕ) (kind : PieceKind) (at : Place) (start end : ℕ) (
 seen_one text Gap at start end bytes e = refl
 seen_one text (Is kind) at start end bytes e = ap (λ (l : List ℕ). record { kind = kind; at = at; text = l } ∷ []) e
 
--- behind some bytes
+-- after some bytes
 seen_from : (ps : List Piece) (text front : List ℕ) (at : Place) → front ++ joined ps [] ≡ text → AreLongest ps []
     → seen_tokens text (tokens_from (length front) at ps) ≡ tokens_in (joined ps []) at
 unfolding tokens_in tokens_within
@@ -122,18 +122,18 @@ seen_from (p ∷ ps) text front at e h =
     let start = length front in
     let len = length p.bytes in
     let rest = joined ps [] in
-    let behind = place_behind at p.bytes in
+    let after = place_after at p.bytes in
     let same : start + len - start ≡ len = omega arith in
     let taken : take len (p.bytes ++ rest) ≡ p.bytes = take-append_seam p.bytes rest in
     let cut : slice_range text start (start + len) ≡ p.bytes =
     ap (λ n. take n (drop start text)) same ∙ ap (λ (l : List ℕ). take len (drop start l)) (sym e) ∙ ap (take len) (drop-append_seam front (p.bytes ++ rest)) ∙ taken in
-    let others : seen_tokens text (tokens_from (start + len) behind ps) ≡ tokens_in rest behind =
-    ap (λ n. seen_tokens text (tokens_from n behind ps)) (sym (length-append front p.bytes)) ∙ seen_from ps text (front ++ p.bytes) behind (append_assoc front p.bytes rest ∙ e) h.1 in
-    seen_more text (token_of p.kind at start (start + len)) (tokens_from (start + len) behind ps)
-    ∙ ap (λ (l : List SeenToken). l ++ seen_tokens text (tokens_from (start + len) behind ps)) (seen_one text p.kind at start (start + len) p.bytes cut)
+    let others : seen_tokens text (tokens_from (start + len) after ps) ≡ tokens_in rest after =
+    ap (λ n. seen_tokens text (tokens_from n after ps)) (sym (length-append front p.bytes)) ∙ seen_from ps text (front ++ p.bytes) after (append_assoc front p.bytes rest ∙ e) h.1 in
+    seen_more text (token_of p.kind at start (start + len)) (tokens_from (start + len) after ps)
+    ∙ ap (λ (l : List SeenToken). l ++ seen_tokens text (tokens_from (start + len) after ps)) (seen_one text p.kind at start (start + len) p.bytes cut)
     ∙ ap (λ (l : List SeenToken). seen_piece p.kind at p.bytes ++ l) others
-    ∙ ap (λ (l : List ℕ). seen_piece p.kind at p.bytes ++ tokens_in l behind) (sym (drop-append_seam p.bytes rest))
-    ∙ ap (λ (l : List ℕ). seen_piece p.kind at l ++ tokens_in (drop len (p.bytes ++ rest)) (place_behind at l)) (sym taken)
+    ∙ ap (λ (l : List ℕ). seen_piece p.kind at p.bytes ++ tokens_in l after) (sym (drop-append_seam p.bytes rest))
+    ∙ ap (λ (l : List ℕ). seen_piece p.kind at l ++ tokens_in (drop len (p.bytes ++ rest)) (place_after at l)) (sym taken)
     ∙ sym (tokens_step (p.bytes ++ rest) at p.kind len h.0)
 
 pub seen_is : (text : List ℕ) (tokens : List Token) → AreTokens text tokens → seen_tokens text tokens ≡ tokens_in text first_place

@@ -86,7 +86,7 @@ run_out class (b ∷ bs) (suc n) h = run_out class bs n (omega (arith, h))
 no_slash_word : ((bs : List ℕ) → run in_name (Is Word) bs ≡ kind_of (47 ∷ bs)) → ⊥
 no_slash_word h = absurd (let no : None ≡ gap = h (47 ∷ []) in cc)
 
--- a byte that begins a word, and the bytes of names behind it, are a piece
+-- a byte that begins a word, and the bytes of names after it, are a piece
 pub word_piece : (b : ℕ) (rest : List ℕ) → ((bs : List ℕ) → run in_name (Is Word) bs ≡ kind_of (b ∷ bs)) → IsPiece (b ∷ rest) (Is Word) (suc (run_len in_name rest))
 word_piece b rest h = record {
   within = let le = run_len_le in_name rest in omega (arith, le);

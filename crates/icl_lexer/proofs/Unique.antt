@@ -1,7 +1,7 @@
 -- A text is cut in one way.
 use Rattle.std.proofs.Common.{◌≡◌, ℕ, zero, suc, ◌<◌, List, [], ◌∷◌, ◌++◌, length, take, drop, Option, Some, None, refl, sym, ap, subst, ◌∙◌, arith}
 use Rattle.std.proofs.Math.Seq.{take-append_seam, drop-append_seam}
-use Rattle.ij_text.specs.Places.{first_place, place_behind}
+use Rattle.ij_text.specs.Places.{first_place, place_after}
 use Rattle.icl_lexer.specs.Token.{Token}
 use Rattle.icl_lexer.specs.declared.token.PieceKind.{PieceKind}
 use Rattle.icl_lexer.specs.declared.fault.LexFault.{LexFault}
@@ -68,7 +68,7 @@ tokens_or_fault text ts f (ps, c, e) h = h.some (sym (cuts_unique text ps h.piec
 pub fault_unique : (text : List ℕ) (f g : LexFault) → HasFault text f → HasFault text g → f ≡ g
 fault_unique text f g h k =
     let one = cuts_unique text h.pieces k.pieces h.rest k.rest h.cut k.cut h.stuck k.stuck in
-    h.is ∙ ap (λ (r : List ℕ). fault_of r (place_behind first_place (joined h.pieces []))) one.1 ∙ ap (λ (ps : List Piece). fault_of k.rest (place_behind first_place (joined ps []))) one.0 ∙ sym k.is
+    h.is ∙ ap (λ (r : List ℕ). fault_of r (place_after first_place (joined h.pieces []))) one.1 ∙ ap (λ (ps : List Piece). fault_of k.rest (place_after first_place (joined ps []))) one.0 ∙ sym k.is
 
 pub tokenization_is_unique : (text : List ℕ) (ps qs : List Piece) → IsCutUpTo text ps [] → IsCutUpTo text qs [] → ps ≡ qs
 tokenization_is_unique text ps qs c d = (cuts_unique text ps qs [] [] c d nothing_there nothing_there).0

@@ -1,7 +1,7 @@
 -- How an ICL text is cut into pieces, its tokens and the gaps between them (IEEE 1687-2014).
 use Rattle.std.specs.Prelude.{◌≡◌, ◌≢◌, ℕ, ◌+◌, ◌<◌, ◌≤◌, ◌==◌, Bool, true, false, ◌&&◌, ◌||◌, cond, List, [], ◌∷◌, ◌++◌, length, take, Some, None}
 use Rattle.ij_text.specs.declared.Place.{Place}
-use Rattle.ij_text.specs.Places.{first_place, place_behind}
+use Rattle.ij_text.specs.Places.{first_place, place_after}
 use Rattle.icl_lexer.specs.Token.{Token}
 use Rattle.icl_lexer.specs.declared.token.PieceKind.{PieceKind}
 use Rattle.icl_lexer.specs.declared.token.PieceKind.TheVariants.{Gap, Is}
@@ -41,7 +41,7 @@ pub record Piece : Type 0 where
   pub kind : PieceKind
   pub bytes : List ℕ
 
--- the bytes of some pieces, in front of a rest
+-- the bytes of some pieces, before a rest
 abbrev pub joined : List Piece → List ℕ → List ℕ
 joined [] rest = rest
 joined (p ∷ ps) rest = p.bytes ++ joined ps rest
@@ -65,7 +65,7 @@ token_of (Is kind) at start end = record { kind = kind; at = at; start = start; 
 abbrev pub tokens_from : ℕ → Place → List Piece → List Token
 tokens_from start at [] = []
 tokens_from start at (p ∷ ps) =
-    token_of p.kind at start (start + length p.bytes) ++ tokens_from (start + length p.bytes) (place_behind at p.bytes) ps
+    token_of p.kind at start (start + length p.bytes) ++ tokens_from (start + length p.bytes) (place_after at p.bytes) ps
 
 abbrev pub Tokens : Type 0
 Tokens = List Token
@@ -88,4 +88,4 @@ pub record HasFault (text : List ℕ) (fault : LexFault) : Type 0 where
   pub cut : IsCutUpTo text pieces rest
   pub some : rest ≢ []
   pub stuck : NoPiece rest
-  pub is : fault ≡ fault_of rest (place_behind first_place (joined pieces []))
+  pub is : fault ≡ fault_of rest (place_after first_place (joined pieces []))

@@ -1,6 +1,6 @@
 -- Lists of bytes, and what they are as pieces.
 use Rattle.std.specs.Prelude.{◌≡◌, ◌++◌, ◌∷◌, [], Some, None, codes, refl}
-use Rattle.ij_text.specs.Places.{place_behind, first_place}
+use Rattle.ij_text.specs.Places.{place_after, first_place}
 use Rattle.icl_lexer.specs.declared.token.TokenKind.TheVariants.{Word, Decimal, Sized, Quoted, Param, Mark}
 use Rattle.icl_lexer.specs.declared.token.PieceKind.TheVariants.{Gap, Is}
 use Rattle.icl_lexer.specs.Pieces.{kind_of}
@@ -68,5 +68,5 @@ star_once = refl
 no_such_byte : kind_of (codes "#") ≡ None
 no_such_byte = refl
 
-a_place : place_behind first_place (codes "a" ++ (13 ∷ 10 ∷ 9 ∷ [])) ≡ record { line = 2; col = 2 }
+a_place : place_after first_place (codes "a" ++ (13 ∷ 10 ∷ 9 ∷ [])) ≡ record { line = 2; col = 2 }
 a_place = refl

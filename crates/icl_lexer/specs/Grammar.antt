@@ -32,7 +32,7 @@ name = one name_at
 
 -- ---- expressions
 
--- an expression; how many operators its outermost expression has up to here; and whether it is a sized number, behind
+-- an expression; how many operators its outermost expression has up to here; and whether it is a sized number, after
 -- which its innermost expression can't go on
 pub record Counted : Type 0 where
   pub formula : SeenExpr
@@ -86,7 +86,7 @@ abbrev pub too_many : Option Signed → Option Limit
 too_many None = None
 too_many (Some s) = Some OfExpression
 
--- an operator, of which there may be `spare` more; none behind a sized number
+-- an operator, of which there may be `spare` more; none after a sized number
 abbrev pub operator : ℕ → Bool → (SeenToken → Option Signed) → Of Signed
 operator zero lone sign = barred (λ t. too_many (sign t))
 operator (suc spare) true sign = none
@@ -142,7 +142,7 @@ expr = sum_of 64 0 >>= λ e. give e.formula
 
 -- ---- lists of parts
 
--- S, then any number of S behind a mark
+-- S, then any number of S after a mark
 abbrev pub parted : {A : Type 0} → ℕ → Of A → Of (List A)
 parted {A} c S = S >>= λ a. repeat (λ (xs : List A). mark c >>= λ m. S) appended (a ∷ [])
 
@@ -153,15 +153,15 @@ ended_by c S = S >>= λ a. mark c >>= λ e. give a
 unfoldable pub value : Of (List SeenExpr)
 value = parted 44 expr
 
--- an expression behind a mark
-abbrev pub expr_behind : ℕ → Of SeenExpr
-expr_behind c = mark c >>= λ m. expr
+-- an expression after a mark
+abbrev pub expr_after : ℕ → Of SeenExpr
+expr_after c = mark c >>= λ m. expr
 
 unfoldable pub range : Of SeenRange
 range = do
   at ← mark 91
   left ← expr
-  right ← maybe (expr_behind 58)
+  right ← maybe (expr_after 58)
   close ← mark 93
   give (record { at = at; left = left; right = right })
 
@@ -188,13 +188,13 @@ abbrev pub named_at : SeenToken → Option Named
 named_at t = if_word t.kind (Some (record { at = t.at; name = t.text })) None
 
 -- names with dots between them
-unfoldable pub path_behind : List ℕ → Of (List (List ℕ))
-path_behind first = repeat (λ (ns : List (List ℕ)). mark 46 >>= λ d. name) appended (first ∷ [])
+unfoldable pub path_after : List ℕ → Of (List (List ℕ))
+path_after first = repeat (λ (ns : List (List ℕ)). mark 46 >>= λ d. name) appended (first ∷ [])
 
 unfoldable pub named_sig : Of Located
 named_sig = do
   first ← one named_at
-  path ← path_behind first.name
+  path ← path_after first.name
   r ← maybe range
   give (record { at = first.at; what = APath path r })
 
@@ -259,7 +259,7 @@ prop_word_at t = if_word t.kind (prop_named t.text) None
 abbrev pub free_prop_at : BodyKind → List SeenProp → SeenToken → Option PropKeyword
 free_prop_at owner ps t = free_word owner ps (prop_word_at t)
 
--- an attribute behind its word
+-- an attribute after its word
 pub record AttributeSaid : Type 0 where
   pub name : List ℕ
   pub value : Option SeenExpr
@@ -267,7 +267,7 @@ pub record AttributeSaid : Type 0 where
 unfoldable pub attribute_said : Of AttributeSaid
 attribute_said = do
   n ← name
-  v ← maybe (expr_behind 61)
+  v ← maybe (expr_after 61)
   give (record { name = n; value = v })
 
 abbrev pub decimal_token : SeenToken → Option ℕ
@@ -283,21 +283,21 @@ sources Control = sigs
 sources Register = sigs
 sources Alias = sigs
 
--- what stands behind the word of a property; an attribute isn't kept
-unfoldable pub prop_behind : BodyKind → PropKeyword → Of (Option SeenProp)
-prop_behind owner Source = sources owner >>= λ s. give (Some (ASource s))
-prop_behind owner LaunchEdge = name >>= λ n. give (Some (ALaunchEdge n))
-prop_behind owner DefaultLoadValue = value >>= λ v. give (Some (ALoadValue v))
-prop_behind owner RefEnum = name >>= λ n. give (Some (ARefEnum n))
-prop_behind owner ActivePolarity = one decimal_token >>= λ n. give (Some (APolarity n))
-prop_behind owner ScanInSource = sig >>= λ s. give (Some (AScanInSource s))
-prop_behind owner CaptureSource = sigs >>= λ s. give (Some (ACaptureSource s))
-prop_behind owner ResetValue = value >>= λ v. give (Some (AResetValue v))
-prop_behind owner AccessTogether = give (Some ATogether)
-prop_behind owner Attribute = attribute_said >>= λ a. give None
+-- what stands after the word of a property; an attribute isn't kept
+unfoldable pub prop_after : BodyKind → PropKeyword → Of (Option SeenProp)
+prop_after owner Source = sources owner >>= λ s. give (Some (ASource s))
+prop_after owner LaunchEdge = name >>= λ n. give (Some (ALaunchEdge n))
+prop_after owner DefaultLoadValue = value >>= λ v. give (Some (ALoadValue v))
+prop_after owner RefEnum = name >>= λ n. give (Some (ARefEnum n))
+prop_after owner ActivePolarity = one decimal_token >>= λ n. give (Some (APolarity n))
+prop_after owner ScanInSource = sig >>= λ s. give (Some (AScanInSource s))
+prop_after owner CaptureSource = sigs >>= λ s. give (Some (ACaptureSource s))
+prop_after owner ResetValue = value >>= λ v. give (Some (AResetValue v))
+prop_after owner AccessTogether = give (Some ATogether)
+prop_after owner Attribute = attribute_said >>= λ a. give None
 
 unfoldable pub property : BodyKind → List SeenProp → Of (Option SeenProp)
-property owner ps = one (free_prop_at owner ps) >>= λ w. ended_by 59 (prop_behind owner w)
+property owner ps = one (free_prop_at owner ps) >>= λ w. ended_by 59 (prop_after owner w)
 
 abbrev pub with_property : List SeenProp → Option SeenProp → List SeenProp
 with_property ps None = ps

@@ -1,6 +1,6 @@
 -- What follows from the definition of a cutting.
 use Rattle.std.specs.Prelude.{◌≡◌, ℕ, ◌<◌, ◌≤◌, ◌⊎◌, List, [], ◌∷◌, length, take, slice_range, Some}
-use Rattle.ij_text.specs.Places.{first_place, place_behind}
+use Rattle.ij_text.specs.Places.{first_place, place_after}
 use Rattle.icl_lexer.specs.Token.{Token}
 use Rattle.icl_lexer.specs.declared.token.PieceKind.TheVariants.{Is}
 use Rattle.icl_lexer.specs.declared.fault.LexFault.{LexFault}
@@ -23,13 +23,13 @@ CutTextsHaveNoFault = (text : List ℕ) (tokens : List Token) (fault : LexFault)
 abbrev pub FaultsAreOne : Type 0
 FaultsAreOne = (text : List ℕ) (fault other : LexFault) → HasFault text fault → HasFault text other → fault ≡ other
 
--- the tokens stand in the text one behind the other from a byte on, each with its place, and the bytes of each are a
+-- the tokens stand in the text one after the other from a byte on, each with its place, and the bytes of each are a
 -- piece of its kind
 abbrev pub AreInText : List ℕ → ℕ → List Token → Type 0
 AreInText text from [] = from ≤ length text
 AreInText text from (t ∷ ts) =
     (from ≤ t.start) × (t.start < t.end) × (t.end ≤ length text)
-    × (t.at ≡ place_behind first_place (take t.start text))
+    × (t.at ≡ place_after first_place (take t.start text))
     × (kind_of (slice_range text t.start t.end) ≡ Some (Is t.kind))
     × (AreInText text t.end ts)
 

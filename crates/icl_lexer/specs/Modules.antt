@@ -16,7 +16,7 @@ use Rattle.icl_lexer.specs.declared.words.BodyKind.TheVariants.{ScanIn, ScanOut,
 use Rattle.icl_lexer.specs.Seen.{SeenToken, if_word}
 use Rattle.icl_lexer.specs.Words.{item_named, bind_named, member_named, link_named}
 use Rattle.icl_lexer.specs.Values.{SeenRange, SeenRow, SeenBind, ABoundPort, ABoundParameter, ABoundAttribute, SeenEnumWord, SeenLinkInstr, SeenWhat, APort, ARegister, AMux, AChild, AnAlias, SomeWords, AParameter, AnInterface, ALink, AnAttribute, SeenItem, SeenModule}
-use Rattle.icl_lexer.specs.Grammar.{Of, mark, word, name, expr_behind, value, parted, ended_by, range, sig, sigs, body, attribute_said}
+use Rattle.icl_lexer.specs.Grammar.{Of, mark, word, name, expr_after, value, parted, ended_by, range, sig, sigs, body, attribute_said}
 
 -- ---- ports
 
@@ -61,13 +61,13 @@ alias = do
 
 unfoldable pub parameter : Bool → Of SeenWhat
 parameter local = do
-  v ← expr_behind 61
+  v ← expr_after 61
   s ← mark 59
   give (AParameter local v)
 
 unfoldable pub attribute : Of SeenWhat
 attribute = do
-  v ← maybe (expr_behind 61)
+  v ← maybe (expr_after 61)
   s ← mark 59
   give (AnAttribute v)
 
@@ -121,19 +121,19 @@ bound_port at = do
 unfoldable pub bound_parameter : Place → Of SeenBind
 bound_parameter at = do
   n ← name
-  v ← expr_behind 61
+  v ← expr_after 61
   give (ABoundParameter at n v)
 
 unfoldable pub bound_attribute : Of SeenBind
 bound_attribute = attribute_said >>= λ a. give (ABoundAttribute a.name a.value)
 
-abbrev pub bind_behind : Place → BindKeyword → Of SeenBind
-bind_behind at BindsPort = bound_port at
-bind_behind at BindsParameter = bound_parameter at
-bind_behind at BindsAttribute = bound_attribute
+abbrev pub bind_after : Place → BindKeyword → Of SeenBind
+bind_after at BindsPort = bound_port at
+bind_after at BindsParameter = bound_parameter at
+bind_after at BindsAttribute = bound_attribute
 
 unfoldable pub bind : Of SeenBind
-bind = one bind_begin_at >>= λ b. ended_by 59 (bind_behind b.at b.word)
+bind = one bind_begin_at >>= λ b. ended_by 59 (bind_after b.at b.word)
 
 abbrev pub braced : {A : Type 0} → Of A → Of (List A)
 braced S = mark 123 >>= λ o. many S >>= λ xs. mark 125 >>= λ c. give xs
@@ -165,12 +165,12 @@ abbrev pub member_word_at : SeenToken → Option MemberKeyword
 member_word_at t = if_word t.kind (member_named t.text) None
 
 -- a port's name; attributes of an interface are read and not kept
-abbrev pub member_behind : MemberKeyword → Of (Option (List ℕ))
-member_behind MemberPort = name >>= λ n. give (Some n)
-member_behind MemberAttribute = attribute_said >>= λ a. give None
+abbrev pub member_after : MemberKeyword → Of (Option (List ℕ))
+member_after MemberPort = name >>= λ n. give (Some n)
+member_after MemberAttribute = attribute_said >>= λ a. give None
 
 unfoldable pub member : Of (Option (List ℕ))
-member = one member_word_at >>= λ w. ended_by 59 (member_behind w)
+member = one member_word_at >>= λ w. ended_by 59 (member_after w)
 
 abbrev pub with_member : List (List ℕ) → Option (List ℕ) → List (List ℕ)
 with_member ns None = ns
@@ -252,24 +252,24 @@ item_begun at (Some w) = Some (record { at = at; word = w })
 abbrev pub item_begin_at : SeenToken → Option ItemBegin
 item_begin_at t = item_begun t.at (item_word_at t)
 
--- what stands behind an item's word and name
-abbrev pub meaning_behind : ItemKeyword → Of SeenWhat
-meaning_behind (OfPort kind) = port kind
-meaning_behind OfRegister = register
-meaning_behind OfMux = mux
-meaning_behind OfChild = child
-meaning_behind OfAlias = alias
-meaning_behind OfEnum = words
-meaning_behind (OfParameter local) = parameter local
-meaning_behind OfAttribute = attribute
-meaning_behind OfInterface = interface
-meaning_behind OfLink = link
+-- what stands after an item's word and name
+abbrev pub meaning_after : ItemKeyword → Of SeenWhat
+meaning_after (OfPort kind) = port kind
+meaning_after OfRegister = register
+meaning_after OfMux = mux
+meaning_after OfChild = child
+meaning_after OfAlias = alias
+meaning_after OfEnum = words
+meaning_after (OfParameter local) = parameter local
+meaning_after OfAttribute = attribute
+meaning_after OfInterface = interface
+meaning_after OfLink = link
 
 unfoldable pub item : Of SeenItem
 item = do
   b ← one item_begin_at
   n ← name
-  m ← meaning_behind b.word
+  m ← meaning_after b.word
   give (record { at = b.at; name = n; what = m })
 
 -- ---- a design

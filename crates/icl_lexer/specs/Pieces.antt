@@ -24,7 +24,7 @@ is_digit_x b = is_ascii_hexdigit b || (b == 120 || b == 88)
 abbrev pub in_digits : ℕ → Bool
 in_digits b = is_digit_x b || b == 95
 
--- a comment behind `//` lasts up to the line feed, which isn't in it
+-- a comment after `//` lasts up to the line feed, which isn't in it
 abbrev pub in_line : ℕ → Bool
 in_line b = not (b == 10)
 
@@ -35,7 +35,7 @@ is_one_of (c ∷ cs) b = b == c || is_one_of cs b
 abbrev pub is_mark : ℕ → Bool
 is_mark b = is_one_of (codes "{}()[];:,.=~|+-*/%") b
 
--- ---- what a piece is whose first bytes are known, told by the bytes behind them: those up to the piece's end
+-- ---- what a piece is whose first bytes are known, told by the bytes after them: those up to the piece's end
 
 -- nothing may follow
 abbrev pub ends : PieceKind → List ℕ → Option PieceKind
@@ -47,12 +47,12 @@ abbrev pub run : (ℕ → Bool) → PieceKind → List ℕ → Option PieceKind
 run class kind [] = Some kind
 run class kind (b ∷ bs) = cond (class b) (run class kind bs) None
 
--- behind the base of a sized number: digits, the first of them no `_`
+-- after the base of a sized number: digits, the first of them no `_`
 abbrev pub digits : List ℕ → Option PieceKind
 digits [] = None
 digits (b ∷ bs) = cond (is_digit_x b) (run in_digits (Is Sized) bs) None
 
--- behind the `'` of a sized number
+-- after the `'` of a sized number
 abbrev pub base : List ℕ → Option PieceKind
 base [] = None
 base (b ∷ bs) = cond (is_base b) (digits bs) None
@@ -68,12 +68,12 @@ decimal bs = size in_decimal Decimal bs
 abbrev pub parameter : List ℕ → Option PieceKind
 parameter bs = size in_name Param bs
 
--- behind the `$` of a parameter
+-- after the `$` of a parameter
 abbrev pub dollar : List ℕ → Option PieceKind
 dollar [] = None
 dollar (b ∷ bs) = cond (begins_name b) (parameter bs) None
 
--- in quoted text, up to the `"` (34) that ends it: behind a backslash (92) any byte is a part of the text
+-- in quoted text, up to the `"` (34) that ends it: after a backslash (92) any byte is a part of the text
 abbrev pub quoted : Bool → List ℕ → Option PieceKind
 quoted escaped [] = None
 quoted true (b ∷ bs) = quoted false bs
@@ -85,7 +85,7 @@ block star [] = None
 block true (b ∷ bs) = cond (b == 47) (ends Gap bs) (block (b == 42) bs)
 block false (b ∷ bs) = block (b == 42) bs
 
--- behind a `/`: a mark, or a comment
+-- after a `/`: a mark, or a comment
 abbrev pub slash : List ℕ → Option PieceKind
 slash [] = Some (Is Mark)
 slash (b ∷ bs) = cond (b == 47) (run in_line Gap bs) (cond (b == 42) (block false bs) None)

@@ -2,7 +2,7 @@
 use Rattle.std.specs.Prelude.{◌≡◌, ℕ, zero, suc, ◌==◌, Bool, false, ◌&&◌, ◌++◌, cond, List, [], ◌∷◌, map, length, take, drop, slice_range, Option, Some, None}
 use Rattle.std.specs.Str.{bytes_eq}
 use Rattle.ij_text.specs.declared.Place.{Place}
-use Rattle.ij_text.specs.Places.{place_behind}
+use Rattle.ij_text.specs.Places.{place_after}
 use Rattle.icl_lexer.specs.Token.{Token}
 use Rattle.icl_lexer.specs.declared.token.TokenKind.{TokenKind}
 use Rattle.icl_lexer.specs.declared.token.TokenKind.TheVariants.{Word, Decimal, Sized, Quoted, Param, Mark}
@@ -63,7 +63,7 @@ word_at w t = cond (is_word w t) (Some t.at) None
 abbrev pub name_at : SeenToken → Option (List ℕ)
 name_at t = if_word t.kind (Some t.text) None
 
--- ---- the tokens of a text, one behind the other
+-- ---- the tokens of a text, one after the other
 
 -- a `/` that begins a comment is no mark
 abbrev pub unless_mark : Bool → Option Match → Option Match
@@ -79,11 +79,11 @@ abbrev pub seen_piece : PieceKind → Place → List ℕ → List SeenToken
 seen_piece Gap at bytes = []
 seen_piece (Is kind) at bytes = record { kind = kind; at = at; text = bytes } ∷ []
 
--- the tokens from a piece on, told those behind it
+-- the tokens from a piece on, told those after it
 abbrev pub tokens_of_front : (List ℕ → Place → List SeenToken) → List ℕ → Place → Option Match → List SeenToken
 tokens_of_front next text at None = []
 tokens_of_front next text at (Some found) =
-    seen_piece found.kind at (take found.len text) ++ next (drop found.len text) (place_behind at (take found.len text))
+    seen_piece found.kind at (take found.len text) ++ next (drop found.len text) (place_after at (take found.len text))
 
 -- the tokens of so many pieces at most, at the front of a text that stands at a place
 unfoldable pub tokens_within : ℕ → List ℕ → Place → List SeenToken

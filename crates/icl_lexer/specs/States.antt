@@ -8,7 +8,7 @@ use Rattle.icl_lexer.specs.declared.state.State.{State}
 use Rattle.icl_lexer.specs.declared.state.State.TheVariants.{Start, Whole, Word, Decimal, Dollar, Parameter, Apostrophe, Base, Digits, Quoted, Backslash, Slash, Line, Block, Star, Dead}
 use Rattle.icl_lexer.specs.Pieces.{kind_of, ends, run, in_digits, in_line, decimal, dollar, parameter, base, digits, quoted, slash, block, is_mark}
 
--- what a byte and those behind it are as a piece, where it begins no gap, word or decimal
+-- what a byte and those after it are as a piece, where it begins no gap, word or decimal
 abbrev pub kind_of_other : ℕ → List ℕ → Option PieceKind
 kind_of_other b bs =
     cond (b == 36) (dollar bs)

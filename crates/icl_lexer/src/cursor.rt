@@ -7,7 +7,7 @@ ghost use Rattle.icl_lexer.specs.Lexemes.{HasPlaces, seen_next, tok};
 use crate::lexeme::Lexeme;
 use crate::pieces::first_piece;
 use crate::token::{PieceKind, TokenKind};
-use ij_text::{Place, place_behind};
+use ij_text::{Place, place_after};
 use std::marker::Model;
 
 /// The tokens of a text from one of them on, each cut when it is reached. Takes no memory.
@@ -21,8 +21,8 @@ pub struct Cursor<'a> {
     at: Place,
     /// Its bytes.
     text: &'a [u8],
-    /// The text behind it.
-    behind: &'a [u8],
+    /// The text after it.
+    after: &'a [u8],
     /// How many tokens there are, this one included.
     left: usize,
 }
@@ -34,9 +34,9 @@ impl<'a> Model for Cursor<'a> {
 
     ghost Value = { List SeenToken };
 
-    ghost view = { λ c. tokens_at_hand c.kind c.at c.text.now c.behind.now };
+    ghost view = { λ c. tokens_at_hand c.kind c.at c.text.now c.after.now };
 
-    ghost invariant = { λ c. (c.left ≡ length (tokens_at_hand c.kind c.at c.text.now c.behind.now)) × HasPlaces c.at (length c.text.now + length c.behind.now) };
+    ghost invariant = { λ c. (c.left ≡ length (tokens_at_hand c.kind c.at c.text.now c.after.now)) × HasPlaces c.at (length c.text.now + length c.after.now) };
 }
 
 /// The tokens of a text that stands at a place, of which there are so many.
@@ -49,24 +49,24 @@ pub(crate) fn cursor_at<'a>(text: &'a [u8], at: Place, left: usize) -> Cursor<'a
     let mut at = at;
     while let Some(found) = first_piece(rest) {
         let text = &rest[..found.len];
-        let behind = &rest[found.len..];
+        let after = &rest[found.len..];
         if let PieceKind::Is(kind) = found.kind {
             return Cursor {
                 kind: Some(kind),
                 at,
                 text,
-                behind,
+                after,
                 left,
             };
         }
-        at = place_behind(at, text);
-        rest = behind;
+        at = place_after(at, text);
+        rest = after;
     }
     Cursor {
         kind: None,
         at,
         text: &rest[..0],
-        behind: rest,
+        after: rest,
         left,
     }
 }
@@ -98,13 +98,13 @@ impl<'a> Cursor<'a> {
         })
     }
 
-    /// The next token, and those behind it.
+    /// The next token, and those after it.
     pub fn next(self) -> Option<(Lexeme<'a>, Cursor<'a>)>
         ensures { seen_next result ≡ self.entry }
     {
         let first = self.first()?;
-        let behind = cursor_at(self.behind, place_behind(self.at, self.text), self.left - 1);
-        Some((first, behind))
+        let after = cursor_at(self.after, place_after(self.at, self.text), self.left - 1);
+        Some((first, after))
     }
 
     /// The same tokens once more.
@@ -115,7 +115,7 @@ impl<'a> Cursor<'a> {
             kind: self.kind,
             at: self.at,
             text: self.text,
-            behind: self.behind,
+            after: self.after,
             left: self.left,
         }
     }

@@ -72,7 +72,7 @@ impl<T> Few<T> {
 }
 
 impl<T: Drop> Few<T> {
-    /// The values, with one more behind them.
+    /// The values, with one more after them.
     pub fn with(self, alloc: Global, value: T) -> Result<Few<T>, OutOfMemory>
         ensures { IfOk result (λ f. f.items ≡ self.items ++ value ∷ []) }
     {

@@ -14,7 +14,7 @@ pub fn texts_are_cut_or_at_fault()
     ensures one { FaultsAreOne }
 {}
 
-/// The tokens of a text stand in it one behind the other, each with the place of its first byte, and the bytes of each
+/// The tokens of a text stand in it one after the other, each with the place of its first byte, and the bytes of each
 /// are a piece of its kind.
 pub fn tokens_are_in_the_text()
     ensures { TokensAreInText }

@@ -48,7 +48,7 @@ fn only_if(test: bool, state: State) -> State
     if test { state } else { State::Dead }
 }
 
-/// The state behind the first byte of a piece.
+/// The state after the first byte of a piece.
 #[inline]
 pub(crate) fn begin(b: u8) -> State
     ensures { (bs : List ℕ) → kind_from result bs ≡ kind_of (b ∷ bs) }
@@ -77,7 +77,7 @@ fn begin_other(b: u8) -> State
     }
 }
 
-/// The state behind a byte that may go on a decimal or a parameter.
+/// The state after a byte that may go on a decimal or a parameter.
 fn go_on_size(in_class: bool, state: State, b: u8) -> State
     ensures { (bs : List ℕ) → kind_from result bs ≡ cond in_class (kind_from state bs) (cond (b == 39) (base bs) None) }
 {
@@ -88,7 +88,7 @@ fn go_on_size(in_class: bool, state: State, b: u8) -> State
     }
 }
 
-/// The state behind a byte of quoted text.
+/// The state after a byte of quoted text.
 fn go_on_text(b: u8) -> State
     ensures { (bs : List ℕ) → kind_from result bs ≡ quoted false (b ∷ bs) }
 {
@@ -99,7 +99,7 @@ fn go_on_text(b: u8) -> State
     }
 }
 
-/// The state behind the byte behind a `/`.
+/// The state after the byte after a `/`.
 fn go_on_slash(b: u8) -> State
     ensures { (bs : List ℕ) → kind_from result bs ≡ slash (b ∷ bs) }
 {
@@ -110,14 +110,14 @@ fn go_on_slash(b: u8) -> State
     }
 }
 
-/// The state behind a byte of a comment that doesn't end it.
+/// The state after a byte of a comment that doesn't end it.
 fn go_on_block(b: u8) -> State
     ensures { (bs : List ℕ) → kind_from result bs ≡ block (b == 42) bs }
 {
     if b == b'*' { State::Star } else { State::Block }
 }
 
-/// The state behind a byte of a comment behind a `*` of it.
+/// The state after a byte of a comment after a `*` of it.
 fn go_on_star(b: u8) -> State
     ensures { (bs : List ℕ) → kind_from result bs ≡ block true (b ∷ bs) }
 {
@@ -129,7 +129,7 @@ fn go_on_star(b: u8) -> State
 }
 
 impl State {
-    /// The state behind one more byte.
+    /// The state after one more byte.
     pub fn next(self, b: u8) -> State
         ensures { (bs : List ℕ) → kind_from result bs ≡ kind_from self (b ∷ bs) }
     {

@@ -27,7 +27,7 @@ pub struct Module {
 pub struct Item {
     /// The place of the item's first word.
     pub at: Place,
-    /// The name behind that word.
+    /// The name after that word.
     pub name: SmallText,
     /// What the item declares.
     pub what: What,
@@ -162,7 +162,7 @@ pub struct Ends {
 pub struct Sig {
     /// The place of its first token.
     pub at: Place,
-    /// Whether a `~` stands in front.
+    /// Whether a `~` stands before.
     pub inverted: bool,
     /// What follows the `~`.
     pub what: SigWhat,

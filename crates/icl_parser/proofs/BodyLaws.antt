@@ -13,12 +13,12 @@ use Rattle.icl_lexer.specs.declared.words.PropKeyword.{PropKeyword}
 use Rattle.icl_lexer.specs.declared.words.PropKeyword.TheVariants.{Source, LaunchEdge, DefaultLoadValue, RefEnum, ActivePolarity, ScanInSource, CaptureSource, ResetValue, AccessTogether, Attribute}
 use Rattle.icl_lexer.specs.Seen.{SeenToken, if_word, if_mark, is_mark}
 use Rattle.icl_lexer.specs.Values.{SeenProp, ASource, ALaunchEdge, ALoadValue, ARefEnum, APolarity, AScanInSource, ACaptureSource, AResetValue, ATogether}
-use Rattle.icl_lexer.specs.Grammar.{Of, mark, expr_behind, ended_by, sources, free_word, free_prop_at, attribute_said, decimal_token, prop_behind, property, with_property, lacks, body_end, body}
-use Rattle.icl_expressions.specs.Reading.{Reading, gives, any, is_name, no_close, read_mark, read_maybe, read_ended, read_expr_behind}
-use Rattle.icl_parser.specs.Reading.{read_attribute_said, read_sources, read_prop_behind, read_free_prop, read_property, read_properties, read_unless, read_body_end, read_braced_body, read_body}
+use Rattle.icl_lexer.specs.Grammar.{Of, mark, expr_after, ended_by, sources, free_word, free_prop_at, attribute_said, decimal_token, prop_after, property, with_property, lacks, body_end, body}
+use Rattle.icl_expressions.specs.Reading.{Reading, gives, any, is_name, no_close, read_mark, read_maybe, read_ended, read_expr_after}
+use Rattle.icl_parser.specs.Reading.{read_attribute_said, read_sources, read_prop_after, read_free_prop, read_property, read_properties, read_unless, read_body_end, read_braced_body, read_body}
 use Rattle.icl_expressions.proofs.Tokens.{nothing, marks, marks_apart, mark_apart, no_mark_closes}
 use Rattle.icl_expressions.proofs.Symbols.{then_reads, mark_reads, made_reads, sign_marks}
-use Rattle.icl_expressions.proofs.SignalLaws.{value_reads, expr_behind_reads, maybe_reads, name_reads, path_marks, sig_reads, sigs_marks, sigs_reads}
+use Rattle.icl_expressions.proofs.SignalLaws.{value_reads, expr_after_reads, maybe_reads, name_reads, path_marks, sig_reads, sigs_marks, sigs_reads}
 use Rattle.icl_expressions.proofs.Lists.{parts_then_reads, ended_reads}
 use Rattle.std.proofs.lemmas.Bool.{or_from}
 
@@ -28,9 +28,9 @@ pub attribute_said_reads : Reads attribute_said is_name (marks (61 ∷ sign_mark
 unfolding attribute_said read_attribute_said
 attribute_said_reads =
     wider_reads
-    (then_reads (λ n. maybe (expr_behind 61) >>= λ v. give (record { name = n; value = v })) (is_mark 61) (marks (61 ∷ sign_marks)) true _ name_reads
-    (λ n. wider_reads (turn_reads (maybe (expr_behind 61)) (λ v. give (record { name = n; value = v })) (is_mark 61) (marks (61 ∷ sign_marks)) nothing nothing true true (read_maybe 61 (read_expr_behind 61)) _
-    (maybe_reads 61 (marks sign_marks) (expr_behind_reads 61)) (λ v. give_reads (record { name = n; value = v })) (λ t h. absurd cc))
+    (then_reads (λ n. maybe (expr_after 61) >>= λ v. give (record { name = n; value = v })) (is_mark 61) (marks (61 ∷ sign_marks)) true _ name_reads
+    (λ n. wider_reads (turn_reads (maybe (expr_after 61)) (λ v. give (record { name = n; value = v })) (is_mark 61) (marks (61 ∷ sign_marks)) nothing nothing true true (read_maybe 61 (read_expr_after 61)) _
+    (maybe_reads 61 (marks sign_marks) (expr_after_reads 61)) (λ v. give_reads (record { name = n; value = v })) (λ t h. absurd cc))
     (is_mark 61) (marks (61 ∷ sign_marks)) (λ t h. narrow (is_mark 61 t) h) (λ t h. h))
     (λ t h. refl))
     is_name (marks (61 ∷ sign_marks)) (λ t h. h) (λ t h. or_from _ _ h refl)
@@ -58,8 +58,8 @@ alone_reads a =
     wider_reads (turn_reads (give a) (λ b. mark 59 >>= λ e. give b) nothing nothing (is_mark 59) nothing true false (gives a) (λ b. read_in_turn (read_mark 59) (λ e. gives b)) (give_reads a) (λ b. made_reads (λ e. b) (mark_reads 59)) (λ t h. refl))
     any nothing (λ t h. refl) (λ t h. refl)
 
-prop_ended_reads : (owner : BodyKind) (w : PropKeyword) → Reads (ended_by 59 (prop_behind owner w)) any nothing false (read_ended 59 (read_prop_behind owner w))
-unfolding prop_behind read_prop_behind
+prop_ended_reads : (owner : BodyKind) (w : PropKeyword) → Reads (ended_by 59 (prop_after owner w)) any nothing false (read_ended 59 (read_prop_after owner w))
+unfolding prop_after read_prop_after
 prop_ended_reads owner Source = ended_reads 59 (made_reads (λ s. Some (ASource s)) (sources_reads owner)) (λ t h. marks_apart 59 sigs_marks refl t h)
 prop_ended_reads owner LaunchEdge = ended_reads 59 (made_reads (λ n. Some (ALaunchEdge n)) name_reads) (λ t h. refl)
 prop_ended_reads owner DefaultLoadValue = ended_reads 59 (made_reads (λ v. Some (ALoadValue v)) value_reads) (λ t h. marks_apart 59 (44 ∷ sign_marks) refl t h)
@@ -84,7 +84,7 @@ free_prop_reads owner ps = wider_reads (one_reads Limit (free_prop_at owner ps))
 
 pub property_reads : (owner : BodyKind) (ps : List SeenProp) → Reads (property owner ps) no_close nothing false (read_property owner ps)
 unfolding property read_property
-property_reads owner ps = then_reads (λ w. ended_by 59 (prop_behind owner w)) any nothing false (λ w. read_ended 59 (read_prop_behind owner w)) (free_prop_reads owner ps) (λ w. prop_ended_reads owner w) (λ t h. refl)
+property_reads owner ps = then_reads (λ w. ended_by 59 (prop_after owner w)) any nothing false (λ w. read_ended 59 (read_prop_after owner w)) (free_prop_reads owner ps) (λ w. prop_ended_reads owner w) (λ t h. refl)
 
 -- ---- bodies
 

@@ -16,9 +16,9 @@ use Rattle.icl_lexer.specs.declared.words.MemberKeyword.TheVariants.{MemberPort,
 use Rattle.icl_lexer.specs.Seen.{SeenToken, if_word, if_mark, is_mark}
 use Rattle.icl_lexer.specs.Values.{SeenLinkInstr, SomeWords, AnInterface, ALink, SeenModule}
 use Rattle.icl_lexer.specs.Grammar.{mark, name, value, ended_by}
-use Rattle.icl_lexer.specs.Modules.{braced, enum_word, words, member_word_at, member_behind, member, with_member, interface, selected, selecting, instruction, link_kind_at, entity, link, item_begun, item_begin_at, meaning_behind, item, module_of, design}
+use Rattle.icl_lexer.specs.Modules.{braced, enum_word, words, member_word_at, member_after, member, with_member, interface, selected, selecting, instruction, link_kind_at, entity, link, item_begun, item_begin_at, meaning_after, item, module_of, design}
 use Rattle.icl_expressions.specs.Reading.{Shrinks, gives, any, is_name, no_close, read_mark, read_ended}
-use Rattle.icl_parser.specs.Reading.{read_enum_word, read_many_words, read_words, read_member_word, read_member_behind, read_member, read_members, read_interface, read_selected, read_selecting, read_instruction, read_instructions, read_entity, read_link_kind, read_link, read_item_begin, read_meaning_behind, read_item, read_items, read_module, read_design}
+use Rattle.icl_parser.specs.Reading.{read_enum_word, read_many_words, read_words, read_member_word, read_member_after, read_member, read_members, read_interface, read_selected, read_selecting, read_instruction, read_instructions, read_entity, read_link_kind, read_link, read_item_begin, read_meaning_after, read_item, read_items, read_module, read_design}
 use Rattle.icl_expressions.proofs.Tokens.{nothing, marks_apart, no_mark_closes}
 use Rattle.icl_expressions.proofs.Symbols.{then_reads, mark_reads, made_reads, sign_marks}
 use Rattle.icl_expressions.proofs.Steps.{reads_shrink}
@@ -71,13 +71,13 @@ member_word_reads = wider_reads (one_reads Limit member_word_at) no_close nothin
     by_kind Param o h = absurd cc
     by_kind Mark o h = absurd cc
 
-member_ended_reads : (w : MemberKeyword) → Reads (ended_by 59 (member_behind w)) any nothing false (read_ended 59 (read_member_behind w))
+member_ended_reads : (w : MemberKeyword) → Reads (ended_by 59 (member_after w)) any nothing false (read_ended 59 (read_member_after w))
 member_ended_reads MemberPort = ended_reads 59 (made_reads (λ n. Some n) name_reads) (λ t h. refl)
 member_ended_reads MemberAttribute = ended_reads 59 (made_reads (λ a. None) attribute_said_reads) (λ t h. marks_apart 59 (61 ∷ sign_marks) refl t h)
 
 pub member_reads : Reads member no_close nothing false read_member
 unfolding member read_member
-member_reads = then_reads (λ w. ended_by 59 (member_behind w)) any nothing false (λ w. read_ended 59 (read_member_behind w)) member_word_reads member_ended_reads (λ t h. refl)
+member_reads = then_reads (λ w. ended_by 59 (member_after w)) any nothing false (λ w. read_ended 59 (read_member_after w)) member_word_reads member_ended_reads (λ t h. refl)
 
 interface_reads : Reads interface any nothing false read_interface
 unfolding interface read_interface read_members
@@ -159,8 +159,8 @@ item_begin_reads = wider_reads (one_reads Limit item_begin_at) no_close nothing 
     by_kind Param at o h = absurd cc
     by_kind Mark at o h = absurd cc
 
-meaning_reads : (w : ItemKeyword) → Reads (meaning_behind w) any nothing false (read_meaning_behind w)
-unfolding read_meaning_behind
+meaning_reads : (w : ItemKeyword) → Reads (meaning_after w) any nothing false (read_meaning_after w)
+unfolding read_meaning_after
 meaning_reads (OfPort kind) = port_reads kind
 meaning_reads OfRegister = register_reads
 meaning_reads OfMux = mux_reads
@@ -175,8 +175,8 @@ meaning_reads OfLink = link_reads
 pub item_reads : Reads item no_close nothing false read_item
 unfolding item read_item
 item_reads =
-    then_reads (λ b. name >>= λ n. meaning_behind b.word >>= λ m. give (record { at = b.at; name = n; what = m })) is_name nothing false _ item_begin_reads
-    (λ b. then_reads (λ n. meaning_behind b.word >>= λ m. give (record { at = b.at; name = n; what = m })) any nothing false _ name_reads
+    then_reads (λ b. name >>= λ n. meaning_after b.word >>= λ m. give (record { at = b.at; name = n; what = m })) is_name nothing false _ item_begin_reads
+    (λ b. then_reads (λ n. meaning_after b.word >>= λ m. give (record { at = b.at; name = n; what = m })) any nothing false _ name_reads
     (λ n. made_reads (λ m. record { at = b.at; name = n; what = m }) (meaning_reads b.word)) (λ t h. refl))
     (λ t h. refl)
 

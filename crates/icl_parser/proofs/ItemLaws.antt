@@ -15,14 +15,14 @@ use Rattle.icl_lexer.specs.declared.words.BodyKind.{BodyKind}
 use Rattle.icl_lexer.specs.declared.words.BodyKind.TheVariants.{ScanIn, ScanOut, DataIn, DataOut, Control, Register, Alias}
 use Rattle.icl_lexer.specs.Seen.{SeenToken, if_word, if_mark, is_mark, word_at}
 use Rattle.icl_lexer.specs.Values.{SeenRow, ABoundPort, ABoundParameter, ABoundAttribute, APort, ARegister, AMux, AChild, AnAlias, AParameter, AnAttribute}
-use Rattle.icl_lexer.specs.Grammar.{Of, mark, word, name, value, expr_behind, ended_by, parted, range, sig, sigs, body}
-use Rattle.icl_lexer.specs.Modules.{owner_of, port_range, port, register, alias, parameter, attribute, row, rows, mux, begun_by, bind_begin_at, bound_port, bound_parameter, bound_attribute, bind_behind, bind, braced, binds, child}
-use Rattle.icl_expressions.specs.Reading.{Reading, Shrinks, gives, any, is_name, no_close, read_mark, read_word, read_maybe, read_ended, read_many, read_braced, read_expr_behind, read_range}
-use Rattle.icl_parser.specs.Reading.{read_port_range, read_port, read_register, read_alias, read_parameter, read_attribute, read_values, read_row, read_rows, read_mux, read_bind_begin, read_bound_port, read_bound_parameter, read_bound_attribute, read_bind_behind, read_bind, read_many_binds, read_braced_binds, read_binds, read_child}
+use Rattle.icl_lexer.specs.Grammar.{Of, mark, word, name, value, expr_after, ended_by, parted, range, sig, sigs, body}
+use Rattle.icl_lexer.specs.Modules.{owner_of, port_range, port, register, alias, parameter, attribute, row, rows, mux, begun_by, bind_begin_at, bound_port, bound_parameter, bound_attribute, bind_after, bind, braced, binds, child}
+use Rattle.icl_expressions.specs.Reading.{Reading, Shrinks, gives, any, is_name, no_close, read_mark, read_word, read_maybe, read_ended, read_many, read_braced, read_expr_after, read_range}
+use Rattle.icl_parser.specs.Reading.{read_port_range, read_port, read_register, read_alias, read_parameter, read_attribute, read_values, read_row, read_rows, read_mux, read_bind_begin, read_bound_port, read_bound_parameter, read_bound_attribute, read_bind_after, read_bind, read_many_binds, read_braced_binds, read_binds, read_child}
 use Rattle.icl_expressions.proofs.Tokens.{nothing, marks, marks_apart, mark_apart, no_mark_closes}
 use Rattle.icl_expressions.proofs.Symbols.{then_reads, mark_reads, made_reads, sign_marks}
 use Rattle.icl_expressions.proofs.Steps.{reads_shrink}
-use Rattle.icl_expressions.proofs.SignalLaws.{value_reads, expr_behind_reads, maybe_reads, maybe_range_reads, name_reads, path_marks, sig_reads, sigs_marks, sigs_reads}
+use Rattle.icl_expressions.proofs.SignalLaws.{value_reads, expr_after_reads, maybe_reads, maybe_range_reads, name_reads, path_marks, sig_reads, sigs_marks, sigs_reads}
 use Rattle.icl_parser.proofs.BodyLaws.{attribute_said_reads, body_marks, body_reads}
 use Rattle.icl_expressions.proofs.Lists.{parted_reads, parts_reads, parts_then_reads, ended_reads}
 use Rattle.std.proofs.lemmas.Bool.{or_from}
@@ -89,15 +89,15 @@ pub parameter_reads : (local : Bool) → Reads (parameter local) any nothing fal
 unfolding parameter read_parameter
 parameter_reads local =
     wider_reads
-    (then_reads (λ v. mark 59 >>= λ s. give (AParameter local v)) (is_mark 59) nothing false _ (expr_behind_reads 61) (λ v. made_reads (λ s. AParameter local v) (mark_reads 59)) (λ t h. marks_apart 59 sign_marks refl t h))
+    (then_reads (λ v. mark 59 >>= λ s. give (AParameter local v)) (is_mark 59) nothing false _ (expr_after_reads 61) (λ v. made_reads (λ s. AParameter local v) (mark_reads 59)) (λ t h. marks_apart 59 sign_marks refl t h))
     any nothing (λ t h. refl) (λ t h. refl)
 
 pub attribute_reads : Reads attribute any nothing false read_attribute
 unfolding attribute read_attribute
 attribute_reads =
     wider_reads
-    (turn_reads (maybe (expr_behind 61)) (λ v. mark 59 >>= λ s. give (AnAttribute v)) (is_mark 61) (marks (61 ∷ sign_marks)) (is_mark 59) nothing true false (read_maybe 61 (read_expr_behind 61)) _
-    (maybe_reads 61 (marks sign_marks) (expr_behind_reads 61)) (λ v. made_reads (λ s. AnAttribute v) (mark_reads 59)) (λ t h. marks_apart 59 (61 ∷ sign_marks) refl t h))
+    (turn_reads (maybe (expr_after 61)) (λ v. mark 59 >>= λ s. give (AnAttribute v)) (is_mark 61) (marks (61 ∷ sign_marks)) (is_mark 59) nothing true false (read_maybe 61 (read_expr_after 61)) _
+    (maybe_reads 61 (marks sign_marks) (expr_after_reads 61)) (λ v. made_reads (λ s. AnAttribute v) (mark_reads 59)) (λ t h. marks_apart 59 (61 ∷ sign_marks) refl t h))
     any nothing (λ t h. refl) (λ t h. refl)
 
 -- ---- multiplexers
@@ -169,20 +169,20 @@ bound_port_reads at =
 bound_parameter_reads : (at : Place) → Reads (bound_parameter at) is_name (marks sign_marks) false (read_bound_parameter at)
 unfolding bound_parameter read_bound_parameter
 bound_parameter_reads at =
-    then_reads (λ n. expr_behind 61 >>= λ v. give (ABoundParameter at n v)) (is_mark 61) (marks sign_marks) false _ name_reads (λ n. made_reads (λ v. ABoundParameter at n v) (expr_behind_reads 61)) (λ t h. refl)
+    then_reads (λ n. expr_after 61 >>= λ v. give (ABoundParameter at n v)) (is_mark 61) (marks sign_marks) false _ name_reads (λ n. made_reads (λ v. ABoundParameter at n v) (expr_after_reads 61)) (λ t h. refl)
 
 bound_attribute_reads : Reads bound_attribute is_name (marks (61 ∷ sign_marks)) false read_bound_attribute
 unfolding bound_attribute read_bound_attribute
 bound_attribute_reads = made_reads (λ a. ABoundAttribute a.name a.value) attribute_said_reads
 
-bind_ended_reads : (at : Place) (w : BindKeyword) → Reads (ended_by 59 (bind_behind at w)) any nothing false (read_ended 59 (read_bind_behind at w))
+bind_ended_reads : (at : Place) (w : BindKeyword) → Reads (ended_by 59 (bind_after at w)) any nothing false (read_ended 59 (read_bind_after at w))
 bind_ended_reads at BindsPort = ended_reads 59 (bound_port_reads at) (λ t h. marks_apart 59 sigs_marks refl t h)
 bind_ended_reads at BindsParameter = ended_reads 59 (bound_parameter_reads at) (λ t h. marks_apart 59 sign_marks refl t h)
 bind_ended_reads at BindsAttribute = ended_reads 59 bound_attribute_reads (λ t h. marks_apart 59 (61 ∷ sign_marks) refl t h)
 
 pub bind_reads : Reads bind no_close nothing false read_bind
 unfolding bind read_bind
-bind_reads = then_reads (λ b. ended_by 59 (bind_behind b.at b.word)) any nothing false (λ b. read_ended 59 (read_bind_behind b.at b.word)) bind_begin_reads (λ b. bind_ended_reads b.at b.word) (λ t h. refl)
+bind_reads = then_reads (λ b. ended_by 59 (bind_after b.at b.word)) any nothing false (λ b. read_ended 59 (read_bind_after b.at b.word)) bind_begin_reads (λ b. bind_ended_reads b.at b.word) (λ t h. refl)
 
 pub bind_shrinks : Shrinks read_bind
 bind_shrinks = reads_shrink bind_reads

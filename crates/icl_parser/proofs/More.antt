@@ -1,4 +1,4 @@
--- What is read behind some members or modules.
+-- What is read after some members or modules.
 use Rattle.std.proofs.Common.{ℕ, List}
 use Rattle.ij_text.specs.Reading.{read_repeat}
 use Rattle.icl_lexer.specs.Seen.{SeenToken}

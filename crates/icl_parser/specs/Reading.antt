@@ -20,12 +20,12 @@ use Rattle.ij_text.specs.Symbol.{appended}
 use Rattle.icl_lexer.specs.Values.{SeenExpr, SeenRange, SeenSig, SeenProp, ASource, ALaunchEdge, ALoadValue, ARefEnum, APolarity, AScanInSource, ACaptureSource, AResetValue, ATogether, SeenRow, SeenBind, ABoundPort, ABoundParameter, ABoundAttribute, SeenEnumWord, SeenLinkInstr, SeenWhat, APort, ARegister, AMux, AChild, AnAlias, SomeWords, AParameter, AnInterface, ALink, AnAttribute, SeenItem, SeenModule}
 use Rattle.icl_lexer.specs.Grammar.{free_prop_at, AttributeSaid, with_property, lacks}
 use Rattle.icl_lexer.specs.Modules.{owner_of, BindBegin, bind_begin_at, member_word_at, with_member, Selected, link_kind_at, ItemBegin, item_begin_at}
-use Rattle.icl_expressions.specs.Reading.{Reading, no_close, any, gives, read_mark, read_word, read_name, read_ended, read_maybe, read_parted, read_many, read_braced, read_value, read_expr_behind, read_range, read_sig, read_sigs, read_decimal}
+use Rattle.icl_expressions.specs.Reading.{Reading, no_close, any, gives, read_mark, read_word, read_name, read_ended, read_maybe, read_parted, read_many, read_braced, read_value, read_expr_after, read_range, read_sig, read_sigs, read_decimal}
 
 -- ---- properties and bodies
 
 unfoldable pub read_attribute_said : Reading AttributeSaid
-read_attribute_said = read_in_turn read_name (λ n. read_in_turn (read_maybe 61 (read_expr_behind 61)) (λ v. gives (record { name = n; value = v })))
+read_attribute_said = read_in_turn read_name (λ n. read_in_turn (read_maybe 61 (read_expr_after 61)) (λ v. gives (record { name = n; value = v })))
 
 abbrev pub read_one_sig : Reading (List SeenSig)
 read_one_sig = read_in_turn read_sig (λ s. gives (s ∷ []))
@@ -42,23 +42,23 @@ read_sources Alias = read_sigs
 abbrev pub read_some : {A : Type 0} → Reading A → (A → SeenProp) → Reading (Option SeenProp)
 read_some r make = read_in_turn r (λ a. gives (Some (make a)))
 
-unfoldable pub read_prop_behind : BodyKind → PropKeyword → Reading (Option SeenProp)
-read_prop_behind owner Source = read_some (read_sources owner) ASource
-read_prop_behind owner LaunchEdge = read_some read_name ALaunchEdge
-read_prop_behind owner DefaultLoadValue = read_some read_value ALoadValue
-read_prop_behind owner RefEnum = read_some read_name ARefEnum
-read_prop_behind owner ActivePolarity = read_some read_decimal APolarity
-read_prop_behind owner ScanInSource = read_some read_sig AScanInSource
-read_prop_behind owner CaptureSource = read_some read_sigs ACaptureSource
-read_prop_behind owner ResetValue = read_some read_value AResetValue
-read_prop_behind owner AccessTogether = gives (Some ATogether)
-read_prop_behind owner Attribute = read_in_turn read_attribute_said (λ a. gives None)
+unfoldable pub read_prop_after : BodyKind → PropKeyword → Reading (Option SeenProp)
+read_prop_after owner Source = read_some (read_sources owner) ASource
+read_prop_after owner LaunchEdge = read_some read_name ALaunchEdge
+read_prop_after owner DefaultLoadValue = read_some read_value ALoadValue
+read_prop_after owner RefEnum = read_some read_name ARefEnum
+read_prop_after owner ActivePolarity = read_some read_decimal APolarity
+read_prop_after owner ScanInSource = read_some read_sig AScanInSource
+read_prop_after owner CaptureSource = read_some read_sigs ACaptureSource
+read_prop_after owner ResetValue = read_some read_value AResetValue
+read_prop_after owner AccessTogether = gives (Some ATogether)
+read_prop_after owner Attribute = read_in_turn read_attribute_said (λ a. gives None)
 
 abbrev pub read_free_prop : BodyKind → List SeenProp → Reading PropKeyword
 read_free_prop owner ps = read_one (free_prop_at owner ps)
 
 unfoldable pub read_property : BodyKind → List SeenProp → Reading (Option SeenProp)
-read_property owner ps = read_in_turn (read_free_prop owner ps) (λ w. read_ended 59 (read_prop_behind owner w))
+read_property owner ps = read_in_turn (read_free_prop owner ps) (λ w. read_ended 59 (read_prop_after owner w))
 
 unfoldable pub read_properties : BodyKind → Reading (List SeenProp)
 read_properties owner = read_repeat no_close (read_property owner) with_property []
@@ -98,10 +98,10 @@ unfoldable pub read_alias : Reading SeenWhat
 read_alias = read_in_turn (read_maybe 91 read_range) (λ r. read_in_turn (read_mark 61) (λ e. read_in_turn read_sigs (λ ss. read_in_turn (read_body Alias) (λ ps. gives (AnAlias r ss ps)))))
 
 unfoldable pub read_parameter : Bool → Reading SeenWhat
-read_parameter local = read_in_turn (read_expr_behind 61) (λ v. read_in_turn (read_mark 59) (λ s. gives (AParameter local v)))
+read_parameter local = read_in_turn (read_expr_after 61) (λ v. read_in_turn (read_mark 59) (λ s. gives (AParameter local v)))
 
 unfoldable pub read_attribute : Reading SeenWhat
-read_attribute = read_in_turn (read_maybe 61 (read_expr_behind 61)) (λ v. read_in_turn (read_mark 59) (λ s. gives (AnAttribute v)))
+read_attribute = read_in_turn (read_maybe 61 (read_expr_after 61)) (λ v. read_in_turn (read_mark 59) (λ s. gives (AnAttribute v)))
 
 unfoldable pub read_values : Reading (List (List SeenExpr))
 read_values = read_parted 124 read_value
@@ -119,21 +119,21 @@ unfoldable pub read_bound_port : Place → Reading SeenBind
 read_bound_port at = read_in_turn read_name (λ n. read_in_turn (read_maybe 91 read_range) (λ r. read_in_turn (read_mark 61) (λ e. read_in_turn read_sigs (λ ss. gives (ABoundPort at n r ss)))))
 
 unfoldable pub read_bound_parameter : Place → Reading SeenBind
-read_bound_parameter at = read_in_turn read_name (λ n. read_in_turn (read_expr_behind 61) (λ v. gives (ABoundParameter at n v)))
+read_bound_parameter at = read_in_turn read_name (λ n. read_in_turn (read_expr_after 61) (λ v. gives (ABoundParameter at n v)))
 
 unfoldable pub read_bound_attribute : Reading SeenBind
 read_bound_attribute = read_in_turn read_attribute_said (λ a. gives (ABoundAttribute a.name a.value))
 
-abbrev pub read_bind_behind : Place → BindKeyword → Reading SeenBind
-read_bind_behind at BindsPort = read_bound_port at
-read_bind_behind at BindsParameter = read_bound_parameter at
-read_bind_behind at BindsAttribute = read_bound_attribute
+abbrev pub read_bind_after : Place → BindKeyword → Reading SeenBind
+read_bind_after at BindsPort = read_bound_port at
+read_bind_after at BindsParameter = read_bound_parameter at
+read_bind_after at BindsAttribute = read_bound_attribute
 
 abbrev pub read_bind_begin : Reading BindBegin
 read_bind_begin = read_one bind_begin_at
 
 unfoldable pub read_bind : Reading SeenBind
-read_bind = read_in_turn read_bind_begin (λ b. read_ended 59 (read_bind_behind b.at b.word))
+read_bind = read_in_turn read_bind_begin (λ b. read_ended 59 (read_bind_after b.at b.word))
 
 unfoldable pub read_many_binds : Reading (List SeenBind)
 read_many_binds = read_many read_bind
@@ -156,15 +156,15 @@ read_many_words = read_many read_enum_word
 unfoldable pub read_words : Reading SeenWhat
 read_words = read_in_turn (read_braced read_many_words) (λ ws. gives (SomeWords ws))
 
-abbrev pub read_member_behind : MemberKeyword → Reading (Option (List ℕ))
-read_member_behind MemberPort = read_in_turn read_name (λ n. gives (Some n))
-read_member_behind MemberAttribute = read_in_turn read_attribute_said (λ a. gives None)
+abbrev pub read_member_after : MemberKeyword → Reading (Option (List ℕ))
+read_member_after MemberPort = read_in_turn read_name (λ n. gives (Some n))
+read_member_after MemberAttribute = read_in_turn read_attribute_said (λ a. gives None)
 
 abbrev pub read_member_word : Reading MemberKeyword
 read_member_word = read_one member_word_at
 
 unfoldable pub read_member : Reading (Option (List ℕ))
-read_member = read_in_turn read_member_word (λ w. read_ended 59 (read_member_behind w))
+read_member = read_in_turn read_member_word (λ w. read_ended 59 (read_member_after w))
 
 unfoldable pub read_members : Reading (List (List ℕ))
 read_members = read_repeat no_close (λ (ns : List (List ℕ)). read_member) with_member []
@@ -193,23 +193,23 @@ read_link_kind = read_one link_kind_at
 unfoldable pub read_link : Reading SeenWhat
 read_link = read_in_turn (read_word (codes "Of")) (λ of. read_in_turn read_link_kind (λ k. read_in_turn (read_mark 123) (λ o. read_in_turn read_entity (λ e. read_in_turn read_instructions (λ is. read_in_turn (read_mark 125) (λ c. gives (ALink k e is)))))))
 
-unfoldable pub read_meaning_behind : ItemKeyword → Reading SeenWhat
-read_meaning_behind (OfPort kind) = read_port kind
-read_meaning_behind OfRegister = read_register
-read_meaning_behind OfMux = read_mux
-read_meaning_behind OfChild = read_child
-read_meaning_behind OfAlias = read_alias
-read_meaning_behind OfEnum = read_words
-read_meaning_behind (OfParameter local) = read_parameter local
-read_meaning_behind OfAttribute = read_attribute
-read_meaning_behind OfInterface = read_interface
-read_meaning_behind OfLink = read_link
+unfoldable pub read_meaning_after : ItemKeyword → Reading SeenWhat
+read_meaning_after (OfPort kind) = read_port kind
+read_meaning_after OfRegister = read_register
+read_meaning_after OfMux = read_mux
+read_meaning_after OfChild = read_child
+read_meaning_after OfAlias = read_alias
+read_meaning_after OfEnum = read_words
+read_meaning_after (OfParameter local) = read_parameter local
+read_meaning_after OfAttribute = read_attribute
+read_meaning_after OfInterface = read_interface
+read_meaning_after OfLink = read_link
 
 abbrev pub read_item_begin : Reading ItemBegin
 read_item_begin = read_one item_begin_at
 
 unfoldable pub read_item : Reading SeenItem
-read_item = read_in_turn read_item_begin (λ b. read_in_turn read_name (λ n. read_in_turn (read_meaning_behind b.word) (λ m. gives (record { at = b.at; name = n; what = m }))))
+read_item = read_in_turn read_item_begin (λ b. read_in_turn read_name (λ n. read_in_turn (read_meaning_after b.word) (λ m. gives (record { at = b.at; name = n; what = m }))))
 
 unfoldable pub read_items : Reading (List SeenItem)
 read_items = read_many read_item

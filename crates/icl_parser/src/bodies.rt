@@ -9,11 +9,11 @@ ghost use Rattle.icl_lexer.specs.Grammar.{is_prop, stands, takes, lacks, with_pr
 ghost use Rattle.icl_expressions.specs.Seen.{seen_read, Gives};
 ghost use Rattle.icl_parser.specs.SeenParts.{seen_said};
 ghost use Rattle.icl_expressions.specs.Reading.{read_put};
-ghost use Rattle.icl_parser.specs.Reading.{read_free_prop, read_attribute_said, read_one_sig, read_sources, read_prop_behind, read_property, read_properties, read_body_end, read_braced_body, read_body};
+ghost use Rattle.icl_parser.specs.Reading.{read_free_prop, read_attribute_said, read_one_sig, read_sources, read_prop_after, read_property, read_properties, read_body_end, read_braced_body, read_body};
 
 use crate::words::prop_word;
 use icl_expressions::{
-    Parsed, Stop, before_close, begins_mark, maybe_expr_behind, pushed, read_decimal, read_mark,
+    Parsed, Stop, before_close, begins_mark, maybe_expr_after, pushed, read_decimal, read_mark,
     read_name, read_sig, read_sigs, read_value,
 };
 use icl_lexer::{BodyKind, Cursor, Expr, Lexeme, Prop, PropKeyword, Sig, SmallText};
@@ -111,14 +111,14 @@ fn free_prop(owner: BodyKind, props: &[Prop], t: &Lexeme) -> Option<PropKeyword>
 
 // ---- properties
 
-/// An attribute behind its word.
+/// An attribute after its word.
 #[derive(Drop)]
 pub(crate) struct Said {
     pub name: SmallText,
     pub value: Option<Expr>,
 }
 
-/// An attribute behind its word.
+/// An attribute after its word.
 #[tactic(auto, unfolding(crate::specs::Reading::read_attribute_said))]
 pub(crate) fn read_attribute_said<'a>(
     alloc: Global,
@@ -128,7 +128,7 @@ pub(crate) fn read_attribute_said<'a>(
     ensures gives { Gives (seen_read seen_said) result (read_attribute_said tokens.entry) }
 {
     let name = read_name(alloc, tokens)?;
-    let (name, value) = beside(name.value, maybe_expr_behind(alloc, name.rest, b'='))?;
+    let (name, value) = beside(name.value, maybe_expr_after(alloc, name.rest, b'='))?;
     Ok(Parsed {
         value: Said {
             name,
@@ -162,7 +162,7 @@ fn read_sources<'a>(
     }
 }
 
-/// A property in front of the rest.
+/// A property before the rest.
 fn some<'a>(prop: Prop, rest: Cursor<'a>) -> Parsed<'a, Option<Prop>>
     ensures value { option_map seen_prop result.value ≡ Some (seen_prop prop) }
     ensures rest { result.rest ≡ rest.entry }
@@ -173,16 +173,16 @@ fn some<'a>(prop: Prop, rest: Cursor<'a>) -> Parsed<'a, Option<Prop>>
     }
 }
 
-/// What stands behind the word of a property. An attribute isn't kept.
-#[tactic(auto, unfolding(crate::specs::Reading::read_prop_behind))]
-fn read_prop_behind<'a>(
+/// What stands after the word of a property. An attribute isn't kept.
+#[tactic(auto, unfolding(crate::specs::Reading::read_prop_after))]
+fn read_prop_after<'a>(
     alloc: Global,
     owner: BodyKind,
     word: PropKeyword,
     tokens: Cursor<'a>,
 ) -> Result<Parsed<'a, Option<Prop>>, Stop>
     ensures shorter { IfOk result (λ r. length r.rest ≤ length tokens.entry) }
-    ensures gives { Gives (seen_read (option_map seen_prop)) result (read_prop_behind owner word tokens.entry) }
+    ensures gives { Gives (seen_read (option_map seen_prop)) result (read_prop_after owner word tokens.entry) }
 {
     match word {
         PropKeyword::Source => {
@@ -259,7 +259,7 @@ fn read_property<'a>(
     ensures gives { Gives (seen_read (option_map seen_prop)) result (read_property owner (map seen_prop props.now) tokens.entry) }
 {
     let word = read_free_prop(owner, props, tokens)?;
-    let prop = read_prop_behind(alloc, owner, word.value, word.rest)?;
+    let prop = read_prop_after(alloc, owner, word.value, word.rest)?;
     let (prop, end) = beside(prop.value, read_mark(prop.rest, b';'))?;
     Ok(Parsed {
         value: prop,
@@ -269,7 +269,7 @@ fn read_property<'a>(
 
 // ---- bodies
 
-/// Properties with the next one behind them, if it is kept.
+/// Properties with the next one after them, if it is kept.
 fn with<'a>(
     props: List<Prop>,
     next: Parsed<'a, Option<Prop>>,

@@ -1,4 +1,4 @@
-// What stands behind others of its kind.
+// What stands after others of its kind.
 ghost use Rattle.std.specs.Prelude.{◌<◌, ◌≤◌, IfOk, length};
 ghost use Rattle.ij_bits.specs.Room.{seen_list};
 ghost use Rattle.ij_text.specs.Symbol.{appended};
@@ -10,7 +10,7 @@ use icl_lexer::Cursor;
 use ij_bits::{List, beside};
 use std::alloc::Global;
 
-/// What stands behind others of its kind, without a mark between them.
+/// What stands after others of its kind, without a mark between them.
 pub(crate) trait Entry: Sized {
     /// The entry without where it lies in memory.
     ghost Plain: { Type 0 };
@@ -39,7 +39,7 @@ pub(crate) fn with_next<'a, T: Entry + Drop>(
 }
 
 /// Entries with those that follow, up to a `}` or the end of the tokens.
-pub(crate) fn read_behind<'a, T: Entry + Drop>(
+pub(crate) fn read_after<'a, T: Entry + Drop>(
     alloc: Global,
     first: Parsed<'a, List<T>>,
 ) -> Result<Parsed<'a, List<T>>, Stop>
@@ -67,7 +67,7 @@ pub(crate) fn read_many<'a, T: Entry + Drop>(
         value: List::new(alloc),
         rest: tokens,
     };
-    read_behind(alloc, none)
+    read_after(alloc, none)
 }
 
 /// Entries in braces.

@@ -7,13 +7,13 @@ ghost use Rattle.icl_lexer.specs.Views.{seen_range, seen_row, seen_bind, seen_wh
 ghost use Rattle.icl_lexer.specs.Modules.{owner_of};
 ghost use Rattle.icl_expressions.specs.Seen.{seen_read, Gives};
 ghost use Rattle.icl_parser.specs.SeenParts.{seen_bind_begin};
-ghost use Rattle.icl_parser.specs.Reading.{read_port_range, read_port, read_register, read_alias, read_parameter, read_attribute, read_row, read_rows, read_mux, read_bound_port, read_bound_parameter, read_bound_attribute, read_bind_behind, read_bind_begin, read_bind, read_binds, read_child};
+ghost use Rattle.icl_parser.specs.Reading.{read_port_range, read_port, read_register, read_alias, read_parameter, read_attribute, read_row, read_rows, read_mux, read_bound_port, read_bound_parameter, read_bound_attribute, read_bind_after, read_bind_begin, read_bind, read_binds, read_child};
 
 use crate::bodies::{read_attribute_said, read_body};
-use crate::entries::{Entry, read_behind, read_braced};
+use crate::entries::{Entry, read_after, read_braced};
 use crate::words::bind_word;
 use icl_expressions::{
-    Parsed, Stop, begins_mark, maybe_expr_behind, maybe_range, pushed, read_expr_behind, read_mark,
+    Parsed, Stop, begins_mark, maybe_expr_after, maybe_range, pushed, read_expr_after, read_mark,
     read_name, read_parted, read_sig, read_sigs, read_word,
 };
 use icl_lexer::{Bind, BindKeyword, BodyKind, Cursor, MuxRow, PortKind, Range, What};
@@ -54,7 +54,7 @@ fn read_port_range<'a>(
     }
 }
 
-/// A port behind its name.
+/// A port after its name.
 #[tactic(auto, unfolding(crate::specs::Reading::read_port))]
 pub(crate) fn read_port<'a>(
     alloc: Global,
@@ -77,7 +77,7 @@ pub(crate) fn read_port<'a>(
     })
 }
 
-/// A scan register behind its name.
+/// A scan register after its name.
 #[tactic(auto, unfolding(crate::specs::Reading::read_register))]
 pub(crate) fn read_register<'a>(alloc: Global, tokens: Cursor<'a>) -> Result<Parsed<'a, What>, Stop>
     ensures shorter { IfOk result (λ r. length r.rest < length tokens.entry) }
@@ -97,7 +97,7 @@ pub(crate) fn read_register<'a>(alloc: Global, tokens: Cursor<'a>) -> Result<Par
     })
 }
 
-/// An alias behind its name.
+/// An alias after its name.
 #[tactic(auto, unfolding(crate::specs::Reading::read_alias))]
 pub(crate) fn read_alias<'a>(alloc: Global, tokens: Cursor<'a>) -> Result<Parsed<'a, What>, Stop>
     ensures shorter { IfOk result (λ r. length r.rest < length tokens.entry) }
@@ -118,7 +118,7 @@ pub(crate) fn read_alias<'a>(alloc: Global, tokens: Cursor<'a>) -> Result<Parsed
     })
 }
 
-/// A parameter behind its name.
+/// A parameter after its name.
 #[tactic(auto, unfolding(crate::specs::Reading::read_parameter))]
 pub(crate) fn read_parameter<'a>(
     alloc: Global,
@@ -128,7 +128,7 @@ pub(crate) fn read_parameter<'a>(
     ensures shorter { IfOk result (λ r. length r.rest < length tokens.entry) }
     ensures gives { Gives (seen_read seen_what) result (read_parameter local tokens.entry) }
 {
-    let value = read_expr_behind(alloc, tokens, b'=')?;
+    let value = read_expr_after(alloc, tokens, b'=')?;
     let (value, end) = beside(value.value, read_mark(value.rest, b';'))?;
     Ok(Parsed {
         value: What::Parameter { local, value },
@@ -136,7 +136,7 @@ pub(crate) fn read_parameter<'a>(
     })
 }
 
-/// An attribute of a module behind its name.
+/// An attribute of a module after its name.
 #[tactic(auto, unfolding(crate::specs::Reading::read_attribute))]
 pub(crate) fn read_attribute<'a>(
     alloc: Global,
@@ -145,7 +145,7 @@ pub(crate) fn read_attribute<'a>(
     ensures shorter { IfOk result (λ r. length r.rest < length tokens.entry) }
     ensures gives { Gives (seen_read seen_what) result (read_attribute tokens.entry) }
 {
-    let value = maybe_expr_behind(alloc, tokens, b'=')?;
+    let value = maybe_expr_after(alloc, tokens, b'=')?;
     let (value, end) = beside(value.value, read_mark(value.rest, b';'))?;
     Ok(Parsed {
         value: What::Attribute { value },
@@ -188,10 +188,10 @@ fn read_rows<'a>(alloc: Global, tokens: Cursor<'a>) -> Result<Parsed<'a, List<Mu
 {
     let first = MuxRow::read(alloc, tokens)?;
     let rows = pushed(List::new(alloc), first)?;
-    read_behind(alloc, rows)
+    read_after(alloc, rows)
 }
 
-/// A multiplexer behind its name.
+/// A multiplexer after its name.
 #[tactic(auto, unfolding(crate::specs::Reading::read_mux))]
 pub(crate) fn read_mux<'a>(alloc: Global, tokens: Cursor<'a>) -> Result<Parsed<'a, What>, Stop>
     ensures shorter { IfOk result (λ r. length r.rest < length tokens.entry) }
@@ -211,7 +211,7 @@ pub(crate) fn read_mux<'a>(alloc: Global, tokens: Cursor<'a>) -> Result<Parsed<'
 
 // ---- instances
 
-/// A binding of a port behind its word.
+/// A binding of a port after its word.
 #[tactic(auto, unfolding(crate::specs::Reading::read_bound_port))]
 fn read_bound_port<'a>(
     alloc: Global,
@@ -238,7 +238,7 @@ fn read_bound_port<'a>(
     })
 }
 
-/// A binding of a parameter behind its word.
+/// A binding of a parameter after its word.
 #[tactic(auto, unfolding(crate::specs::Reading::read_bound_parameter))]
 fn read_bound_parameter<'a>(
     alloc: Global,
@@ -249,7 +249,7 @@ fn read_bound_parameter<'a>(
     ensures gives { Gives (seen_read seen_bind) result (read_bound_parameter at tokens.entry) }
 {
     let name = read_name(alloc, tokens)?;
-    let (name, value) = beside(name.value, read_expr_behind(alloc, name.rest, b'='))?;
+    let (name, value) = beside(name.value, read_expr_after(alloc, name.rest, b'='))?;
     Ok(Parsed {
         value: Bind::Parameter {
             at,
@@ -260,7 +260,7 @@ fn read_bound_parameter<'a>(
     })
 }
 
-/// An attribute of an instance behind its word.
+/// An attribute of an instance after its word.
 #[tactic(auto, unfolding(crate::specs::Reading::read_bound_attribute))]
 fn read_bound_attribute<'a>(alloc: Global, tokens: Cursor<'a>) -> Result<Parsed<'a, Bind>, Stop>
     ensures shorter { IfOk result (λ r. length r.rest < length tokens.entry) }
@@ -276,15 +276,15 @@ fn read_bound_attribute<'a>(alloc: Global, tokens: Cursor<'a>) -> Result<Parsed<
     })
 }
 
-/// What stands behind the word of a binding.
-fn read_bind_behind<'a>(
+/// What stands after the word of a binding.
+fn read_bind_after<'a>(
     alloc: Global,
     at: Place,
     word: BindKeyword,
     tokens: Cursor<'a>,
 ) -> Result<Parsed<'a, Bind>, Stop>
     ensures shorter { IfOk result (λ r. length r.rest < length tokens.entry) }
-    ensures gives { Gives (seen_read seen_bind) result (read_bind_behind at word tokens.entry) }
+    ensures gives { Gives (seen_read seen_bind) result (read_bind_after at word tokens.entry) }
 {
     match word {
         BindKeyword::BindsPort => read_bound_port(alloc, at, tokens),
@@ -328,7 +328,7 @@ impl Entry for Bind {
 
     fn read<'a>(alloc: Global, tokens: Cursor<'a>) -> Result<Parsed<'a, Bind>, Stop> {
         let begin = read_bind_begin(tokens)?;
-        let bind = read_bind_behind(alloc, begin.value.at, begin.value.word, begin.rest)?;
+        let bind = read_bind_after(alloc, begin.value.at, begin.value.word, begin.rest)?;
         let (bind, end) = beside(bind.value, read_mark(bind.rest, b';'))?;
         Ok(Parsed {
             value: bind,
@@ -353,7 +353,7 @@ fn read_binds<'a>(alloc: Global, tokens: Cursor<'a>) -> Result<Parsed<'a, List<B
     })
 }
 
-/// An instance behind its name.
+/// An instance after its name.
 #[tactic(auto, unfolding(crate::specs::Reading::read_child))]
 pub(crate) fn read_child<'a>(alloc: Global, tokens: Cursor<'a>) -> Result<Parsed<'a, What>, Stop>
     ensures shorter { IfOk result (λ r. length r.rest < length tokens.entry) }

@@ -9,7 +9,7 @@ ghost use Rattle.icl_lexer.specs.Modules.{with_member};
 ghost use Rattle.icl_expressions.specs.Seen.{seen_read, Gives};
 ghost use Rattle.icl_parser.specs.SeenParts.{seen_selected};
 ghost use Rattle.icl_expressions.specs.Reading.{read_put};
-ghost use Rattle.icl_parser.specs.Reading.{read_enum_word, read_words, read_member_word, read_member_behind, read_member, read_members, read_interface, read_selected, read_selecting, read_instruction, read_entity, read_link_kind, read_link};
+ghost use Rattle.icl_parser.specs.Reading.{read_enum_word, read_words, read_member_word, read_member_after, read_member, read_members, read_interface, read_selected, read_selecting, read_instruction, read_entity, read_link_kind, read_link};
 
 use crate::bodies::read_attribute_said;
 use crate::entries::{Entry, read_braced, read_many};
@@ -48,7 +48,7 @@ impl Entry for EnumWord {
     }
 }
 
-/// An enumeration behind its name.
+/// An enumeration after its name.
 #[tactic(auto, using(crate::proofs::DesignLaws::enum_word_shrinks), unfolding(crate::specs::Reading::read_words, crate::specs::Reading::read_many_words))]
 pub(crate) fn read_words<'a>(alloc: Global, tokens: Cursor<'a>) -> Result<Parsed<'a, What>, Stop>
     ensures shorter { IfOk result (λ r. length r.rest < length tokens.entry) }
@@ -77,14 +77,14 @@ fn read_member_word<'a>(tokens: Cursor<'a>) -> Result<Parsed<'a, MemberKeyword>,
     }
 }
 
-/// What stands behind the word of a member. An attribute isn't kept.
-fn read_member_behind<'a>(
+/// What stands after the word of a member. An attribute isn't kept.
+fn read_member_after<'a>(
     alloc: Global,
     word: MemberKeyword,
     tokens: Cursor<'a>,
 ) -> Result<Parsed<'a, Option<SmallText>>, Stop>
     ensures shorter { IfOk result (λ r. length r.rest < length tokens.entry) }
-    ensures gives { Gives (seen_read (option_map bytes_of)) result (read_member_behind word tokens.entry) }
+    ensures gives { Gives (seen_read (option_map bytes_of)) result (read_member_after word tokens.entry) }
 {
     match word {
         MemberKeyword::MemberPort => {
@@ -111,7 +111,7 @@ fn read_member<'a>(alloc: Global, tokens: Cursor<'a>) -> Result<Parsed<'a, Optio
     ensures gives { Gives (seen_read (option_map bytes_of)) result (read_member tokens.entry) }
 {
     let word = read_member_word(tokens)?;
-    let name = read_member_behind(alloc, word.value, word.rest)?;
+    let name = read_member_after(alloc, word.value, word.rest)?;
     let (name, end) = beside(name.value, read_mark(name.rest, b';'))?;
     Ok(Parsed {
         value: name,
@@ -119,7 +119,7 @@ fn read_member<'a>(alloc: Global, tokens: Cursor<'a>) -> Result<Parsed<'a, Optio
     })
 }
 
-/// Names with the next one behind them, if it is kept.
+/// Names with the next one after them, if it is kept.
 fn with<'a>(
     names: List<SmallText>,
     next: Parsed<'a, Option<SmallText>>,
@@ -162,7 +162,7 @@ fn read_members<'a>(alloc: Global, tokens: Cursor<'a>) -> Result<Parsed<'a, List
     Ok(names)
 }
 
-/// A scan interface behind its name.
+/// A scan interface after its name.
 #[tactic(auto, unfolding(crate::specs::Reading::read_interface))]
 pub(crate) fn read_interface<'a>(
     alloc: Global,
@@ -279,7 +279,7 @@ fn read_link_kind<'a>(tokens: Cursor<'a>) -> Result<Parsed<'a, LinkKind>, Stop>
     }
 }
 
-/// An access link behind its name.
+/// An access link after its name.
 #[tactic(auto, using(crate::proofs::DesignLaws::instruction_shrinks), unfolding(crate::specs::Reading::read_link, crate::specs::Reading::read_instructions))]
 pub(crate) fn read_link<'a>(alloc: Global, tokens: Cursor<'a>) -> Result<Parsed<'a, What>, Stop>
     ensures shorter { IfOk result (λ r. length r.rest < length tokens.entry) }

@@ -5,7 +5,7 @@ ghost use Rattle.icl_lexer.specs.Values.{SeenItem, SeenModule};
 ghost use Rattle.icl_lexer.specs.Views.{seen_item, seen_module, seen_what};
 ghost use Rattle.icl_expressions.specs.Seen.{seen_read, Gives};
 ghost use Rattle.icl_parser.specs.SeenParts.{seen_item_begin};
-ghost use Rattle.icl_parser.specs.Reading.{read_item_begin, read_meaning_behind, read_item, read_module, whole_design};
+ghost use Rattle.icl_parser.specs.Reading.{read_item_begin, read_meaning_after, read_item, read_module, whole_design};
 
 use crate::entries::{Entry, read_braced, with_next};
 use crate::items::{
@@ -43,15 +43,15 @@ fn read_item_begin<'a>(tokens: Cursor<'a>) -> Result<Parsed<'a, ItemBegin>, Stop
     }
 }
 
-/// What stands behind the word and the name of an item.
-#[tactic(auto, unfolding(crate::specs::Reading::read_meaning_behind))]
-fn read_meaning_behind<'a>(
+/// What stands after the word and the name of an item.
+#[tactic(auto, unfolding(crate::specs::Reading::read_meaning_after))]
+fn read_meaning_after<'a>(
     alloc: Global,
     word: ItemKeyword,
     tokens: Cursor<'a>,
 ) -> Result<Parsed<'a, What>, Stop>
     ensures shorter { IfOk result (λ r. length r.rest < length tokens.entry) }
-    ensures gives { Gives (seen_read seen_what) result (read_meaning_behind word tokens.entry) }
+    ensures gives { Gives (seen_read seen_what) result (read_meaning_after word tokens.entry) }
 {
     match word {
         ItemKeyword::OfPort(kind) => read_port(alloc, kind, tokens),
@@ -81,7 +81,7 @@ impl Entry for Item {
         let name = read_name(alloc, begin.rest)?;
         let (name, what) = beside(
             name.value,
-            read_meaning_behind(alloc, begin.value.word, name.rest),
+            read_meaning_after(alloc, begin.value.word, name.rest),
         )?;
         Ok(Parsed {
             value: Item {

@@ -47,7 +47,7 @@ fn fault(
 }
 
 /// All tokens but the first one.
-fn behind_first<'a>(tokens: &Cursor<'a>) -> Cursor<'a>
+fn after_first<'a>(tokens: &Cursor<'a>) -> Cursor<'a>
     ensures { result ≡ drop 1 tokens.now }
 {
     match tokens.again().next() {
@@ -62,7 +62,7 @@ fn rest_of<'a>(tokens: Cursor<'a>, left: usize) -> Cursor<'a>
 {
     let mut rest = tokens;
     while rest.len() > left {
-        rest = behind_first(&rest);
+        rest = after_first(&rest);
     }
     rest
 }

@@ -14,7 +14,7 @@ use Rattle.icl_lexer.specs.Seen.{SeenToken}
 use Rattle.icl_lexer.specs.Tokens.{decimal_at}
 use Rattle.icl_lexer.specs.Words.{prop_word, prop_named}
 use Rattle.icl_lexer.specs.Values.{SeenProp, ASource, ALaunchEdge, ALoadValue, ARefEnum, APolarity, AScanInSource, ACaptureSource, AResetValue, ATogether}
-use Rattle.icl_lexer.specs.Grammar.{Of, name, value, sig, sigs, sources, prop_behind, property, with_property, body, body_end, lacks, takes, stands, is_prop, free_word, free_prop_at, prop_word_at, decimal_token, mark as a_mark}
+use Rattle.icl_lexer.specs.Grammar.{Of, name, value, sig, sigs, sources, prop_after, property, with_property, body, body_end, lacks, takes, stands, is_prop, free_word, free_prop_at, prop_word_at, decimal_token, mark as a_mark}
 use Rattle.icl_printer.specs.Layout.{Spelling, word, mark}
 use Rattle.icl_printer.specs.Canonical.{in_turn, braced, value_tokens, signal_tokens, signals_tokens, name_tokens, property_tokens}
 use Rattle.icl_printer.specs.Again.{spellings, IsSpelled, AllSpelled, placeless_value, placeless_signal, placeless_signals, placeless_property}
@@ -164,28 +164,28 @@ same_stands w ps qs e = sym (stands_placeless w qs) ∙ ap (stands w) e ∙ stan
 p_prop_word : (owner : BodyKind) (qs : List SeenProp) (w : PropKeyword) → is_free owner qs w ≡ true → Printed (one (free_prop_at owner qs)) itself (word (prop_word w) ∷ []) w
 p_prop_word owner qs w free = p_token (word (prop_word w)) w (λ at. w) (word_spelled w) (λ at. ap (free_word owner qs) (named_again w) ∙ ap (λ b. cond b (Some w) None) free) (λ at. refl)
 
--- ---- what stands behind them
+-- ---- what stands after them
 
-pub record Behind (owner : BodyKind) (w : PropKeyword) (p : SeenProp) : Type 0 where
+pub record After (owner : BodyKind) (w : PropKeyword) (p : SeenProp) : Type 0 where
   pub middle : List Spelling
   pub tokens_are : property_tokens p ≡ word (prop_word w) ∷ (middle ++ (mark 59 ∷ []))
-  pub printed : Printed (prop_behind owner w) (option_map placeless_property) middle (Some p)
+  pub printed : Printed (prop_after owner w) (option_map placeless_property) middle (Some p)
 
 -- a property of one part
 made_of : {A A' : Type 0} (owner : BodyKind) (w : PropKeyword) (S : Of A) (make : A → SeenProp) (bare : A → A') (canon : A → List Spelling) → Law S bare canon
     → ((v : A) → property_tokens (make v) ≡ word (prop_word w) ∷ (canon v ++ (mark 59 ∷ []))) → ((x y : A) → bare x ≡ bare y → placeless_property (make x) ≡ placeless_property (make y))
-    → ((x : SeenProp) (cs : List Spelling) → Printed (S >>= λ v. give (Some (make v))) (option_map placeless_property) cs (Some x) → Printed (prop_behind owner w) (option_map placeless_property) cs (Some x))
-    → (ts : List SeenToken) (o : Option SeenProp) → AllSpelled (spellings ts) → (S >>= λ v. give (Some (make v))).derives ts o → (p : SeenProp) → o ≡ Some p → Behind owner w p
+    → ((x : SeenProp) (cs : List Spelling) → Printed (S >>= λ v. give (Some (make v))) (option_map placeless_property) cs (Some x) → Printed (prop_after owner w) (option_map placeless_property) cs (Some x))
+    → (ts : List SeenToken) (o : Option SeenProp) → AllSpelled (spellings ts) → (S >>= λ v. give (Some (make v))).derives ts o → (p : SeenProp) → o ≡ Some p → After owner w p
 made_of owner w S make bare canon law tokens same as_is ts o good h p is =
     let g = halves h.0 h.1 ts h.3 good in
     let e : Some (make h.2) ≡ Some p = sym h.5.1 ∙ is in
     let made : make h.2 ≡ p = cc in
-    let here : Behind owner w (make h.2) = record {
+    let here : After owner w (make h.2) = record {
       middle = canon h.2;
       tokens_are = tokens h.2;
       printed = as_is (make h.2) (canon h.2) (p_last (law h.0 h.2 g.0 h.4) (λ v ev. ap Some (same v h.2 ev)));
     } in
-    subst (Behind owner w) made here
+    subst (After owner w) made here
 
 sources_law : (owner : BodyKind) → Law (sources owner) placeless_signals signals_tokens
 sources_law ScanOut ts ss good h =
@@ -214,23 +214,23 @@ decimal_law ts n good h =
     let few = some_polarity o.token.kind o.token.text n o.takes in
     p_token (record { kind = Decimal; text = decimal n }) n (λ at. n) (decimal_kind n few) (λ at. decimal_again n few) (λ at. refl)
 
-behind_is : (owner : BodyKind) (w : PropKeyword) (ts : List SeenToken) (o : Option SeenProp) → AllSpelled (spellings ts) → (prop_behind owner w).derives ts o → (p : SeenProp) → o ≡ Some p → Behind owner w p
-unfolding prop_behind
-behind_is owner Source ts o good h p is = made_of owner Source (sources owner) ASource placeless_signals signals_tokens (sources_law owner) (λ v. refl) (λ x y e. ap ASource e) (λ x cs q. q) ts o good h p is
-behind_is owner LaunchEdge ts o good h p is = made_of owner LaunchEdge name ALaunchEdge itself name_tokens name_law (λ v. refl) (λ x y e. ap ALaunchEdge e) (λ x cs q. q) ts o good h p is
-behind_is owner DefaultLoadValue ts o good h p is = made_of owner DefaultLoadValue value ALoadValue placeless_value value_tokens value_law (λ v. refl) (λ x y e. ap ALoadValue e) (λ x cs q. q) ts o good h p is
-behind_is owner RefEnum ts o good h p is = made_of owner RefEnum name ARefEnum itself name_tokens name_law (λ v. refl) (λ x y e. ap ARefEnum e) (λ x cs q. q) ts o good h p is
-behind_is owner ActivePolarity ts o good h p is =
+after_is : (owner : BodyKind) (w : PropKeyword) (ts : List SeenToken) (o : Option SeenProp) → AllSpelled (spellings ts) → (prop_after owner w).derives ts o → (p : SeenProp) → o ≡ Some p → After owner w p
+unfolding prop_after
+after_is owner Source ts o good h p is = made_of owner Source (sources owner) ASource placeless_signals signals_tokens (sources_law owner) (λ v. refl) (λ x y e. ap ASource e) (λ x cs q. q) ts o good h p is
+after_is owner LaunchEdge ts o good h p is = made_of owner LaunchEdge name ALaunchEdge itself name_tokens name_law (λ v. refl) (λ x y e. ap ALaunchEdge e) (λ x cs q. q) ts o good h p is
+after_is owner DefaultLoadValue ts o good h p is = made_of owner DefaultLoadValue value ALoadValue placeless_value value_tokens value_law (λ v. refl) (λ x y e. ap ALoadValue e) (λ x cs q. q) ts o good h p is
+after_is owner RefEnum ts o good h p is = made_of owner RefEnum name ARefEnum itself name_tokens name_law (λ v. refl) (λ x y e. ap ARefEnum e) (λ x cs q. q) ts o good h p is
+after_is owner ActivePolarity ts o good h p is =
     made_of owner ActivePolarity (one decimal_token) APolarity itself (λ n. record { kind = Decimal; text = decimal n } ∷ []) decimal_law (λ v. refl) (λ x y e. ap APolarity e) (λ x cs q. q) ts o good h p is
-behind_is owner ScanInSource ts o good h p is = made_of owner ScanInSource sig AScanInSource placeless_signal signal_tokens sig_law (λ v. refl) (λ x y e. ap AScanInSource e) (λ x cs q. q) ts o good h p is
-behind_is owner CaptureSource ts o good h p is = made_of owner CaptureSource sigs ACaptureSource placeless_signals signals_tokens sigs_law (λ v. refl) (λ x y e. ap ACaptureSource e) (λ x cs q. q) ts o good h p is
-behind_is owner ResetValue ts o good h p is = made_of owner ResetValue value AResetValue placeless_value value_tokens value_law (λ v. refl) (λ x y e. ap AResetValue e) (λ x cs q. q) ts o good h p is
-behind_is owner AccessTogether ts o good h p is =
+after_is owner ScanInSource ts o good h p is = made_of owner ScanInSource sig AScanInSource placeless_signal signal_tokens sig_law (λ v. refl) (λ x y e. ap AScanInSource e) (λ x cs q. q) ts o good h p is
+after_is owner CaptureSource ts o good h p is = made_of owner CaptureSource sigs ACaptureSource placeless_signals signals_tokens sigs_law (λ v. refl) (λ x y e. ap ACaptureSource e) (λ x cs q. q) ts o good h p is
+after_is owner ResetValue ts o good h p is = made_of owner ResetValue value AResetValue placeless_value value_tokens value_law (λ v. refl) (λ x y e. ap AResetValue e) (λ x cs q. q) ts o good h p is
+after_is owner AccessTogether ts o good h p is =
     let e : Some ATogether ≡ Some p = sym h.1 ∙ is in
     let made : ATogether ≡ p = cc in
-    let here : Behind owner AccessTogether ATogether = record { middle = []; tokens_are = refl; printed = p_give (Some ATogether) (Some ATogether) refl } in
-    subst (Behind owner AccessTogether) made here
-behind_is owner Attribute ts o good h p is = absurd (let e : None ≡ Some p = sym h.5.1 ∙ is in cc)
+    let here : After owner AccessTogether ATogether = record { middle = []; tokens_are = refl; printed = p_give (Some ATogether) (Some ATogether) refl } in
+    subst (After owner AccessTogether) made here
+after_is owner Attribute ts o good h p is = absurd (let e : None ≡ Some p = sym h.5.1 ∙ is in cc)
 
 property_law : (owner : BodyKind) (ps : List SeenProp) (ts : List SeenToken) (o : Option SeenProp) → AllSpelled (spellings ts) → (property owner ps).derives ts o → (p : SeenProp) → o ≡ Some p
     → (qs : List SeenProp) → map placeless_property qs ≡ map placeless_property ps → Printed (property owner qs) (option_map placeless_property) (property_tokens p) (Some p)
@@ -240,13 +240,13 @@ property_law owner ps ts o good h p is qs same =
     let h2 = h.5 in
     let g2 = halves h2.0 h2.1 h.1 h2.3 g1.1 in
     let w = h.2 in
-    let b = behind_is owner w h2.0 h2.2 g2.0 h2.4 p (sym h2.5.5.1 ∙ is) in
+    let b = after_is owner w h2.0 h2.2 g2.0 h2.4 p (sym h2.5.5.1 ∙ is) in
     let t = single (free_prop_at owner ps) h.0 w h.4 in
     let free : is_free owner ps w ≡ true = free_is owner ps (prop_word_at t.token) w t.takes in
     let again : is_free owner qs w ≡ true = ap (λ c. takes owner w && not c) (same_stands w ps qs same) ∙ free in
     subst (λ (x : List Spelling). Printed (property owner qs) (option_map placeless_property) x (Some p)) (sym b.tokens_are)
     (p_turn (p_prop_word owner qs w again)
-    (λ v ev. subst (λ u. Printed (prop_behind owner u >>= λ a. a_mark 59 >>= λ e. give a) (option_map placeless_property) (b.middle ++ (mark 59 ∷ [])) (Some p)) (sym ev)
+    (λ v ev. subst (λ u. Printed (prop_after owner u >>= λ a. a_mark 59 >>= λ e. give a) (option_map placeless_property) (b.middle ++ (mark 59 ∷ [])) (Some p)) (sym ev)
     (p_turn b.printed (λ a ea. p_last (p_mark 59 no_place refl refl) (λ c ec. ea)))))
 
 -- ---- bodies

@@ -16,7 +16,7 @@ use Rattle.icl_printer.proofs.Leaves.{Sound, IsLeaf, IsTight, IsSizedNumber, lea
 use Rattle.icl_printer.proofs.Chains.{ops, around, inner, nest, counted}
 use Rattle.icl_printer.proofs.Formulas.{formula_again}
 
--- a formula that is derived with at most d levels of parentheses, where it has to bind so tightly, behind so many operators
+-- a formula that is derived with at most d levels of parentheses, where it has to bind so tightly, after so many operators
 pub record Derived (d level used : ℕ) (c : Counted) : Type 0 where
   pub sound : Sound c.formula
   pub count : c.used ≡ used + ops c.formula

@@ -8,7 +8,7 @@ use Rattle.icl_lexer.specs.declared.words.ItemKeyword.TheVariants.{OfPort, OfReg
 use Rattle.icl_lexer.specs.Seen.{SeenToken}
 use Rattle.icl_lexer.specs.Words.{port_word, port_named, data_port_named, control_port_named, to_port_named, other_item_named, item_named}
 use Rattle.icl_lexer.specs.Values.{SeenWhat, APort, ARegister, AMux, AChild, AnAlias, SomeWords, AParameter, AnInterface, ALink, AnAttribute, SeenItem, SeenModule}
-use Rattle.icl_lexer.specs.Modules.{ItemBegin, item_begun, item_begin_at, meaning_behind, item, module_of, design}
+use Rattle.icl_lexer.specs.Modules.{ItemBegin, item_begun, item_begin_at, meaning_after, item, module_of, design}
 use Rattle.icl_printer.specs.Layout.{Spelling, word}
 use Rattle.icl_printer.specs.Canonical.{parameter_word, item_tokens, thing_tokens, module_tokens, tokens_of}
 use Rattle.icl_printer.specs.Again.{spellings, IsSpelled, AllSpelled, placeless_meaning, placeless_thing, placeless_block, placeless_design, PrintedTokensDeriveIt}
@@ -108,13 +108,13 @@ p_item_begin b = p_token (word (item_word b.word)) b (λ at. record { at = at; w
 
 -- ---- items
 
--- what stands behind the word and the name of an item
+-- what stands after the word and the name of an item
 record Meant (w : ItemKeyword) (m : SeenWhat) : Type 0 where
   middle : List Spelling
   tokens_are : (n : List ℕ) → item_tokens n m ≡ word (item_word w) ∷ word n ∷ middle
-  printed : Printed (meaning_behind w) placeless_meaning middle m
+  printed : Printed (meaning_after w) placeless_meaning middle m
 
-meaning_law : (w : ItemKeyword) (ts : List SeenToken) (m : SeenWhat) → AllSpelled (spellings ts) → (meaning_behind w).derives ts m → Meant w m
+meaning_law : (w : ItemKeyword) (ts : List SeenToken) (m : SeenWhat) → AllSpelled (spellings ts) → (meaning_after w).derives ts m → Meant w m
 meaning_law (OfPort k) ts m good h =
     let r = port_law k ts m good h in
     subst (Meant (OfPort k)) (sym r.2) (let z : Meant (OfPort k) (APort k r.0 r.1) = record { middle = _; tokens_are = λ n. refl; printed = r.3 } in z)
@@ -160,7 +160,7 @@ item_law ts t good h =
     subst (λ (y : List Spelling). Printed item placeless_thing y x) (sym (r.tokens_are h2.2))
     (p_turn (p_item_begin h.2)
     (λ b eb. p_turn (name_law h2.0 h2.2 g2.0 h2.4)
-    (λ n en. subst (λ u. Printed (meaning_behind u >>= λ m. give (record { at = b.at; name = n; what = m })) placeless_thing r.middle x) (sym eb)
+    (λ n en. subst (λ u. Printed (meaning_after u >>= λ m. give (record { at = b.at; name = n; what = m })) placeless_thing r.middle x) (sym eb)
     (p_last r.printed (λ m em. cc (en, em)))))) in
     subst (λ z. Printed item placeless_thing (thing_tokens z) z) (sym h3.5.1) again
 

@@ -87,7 +87,7 @@ as_factor_operand f d used g = by_cases (nat_lt (binding f) 3) refl
 
 -- ---- operations
 
--- the count behind an operation's right operand
+-- the count after an operation's right operand
 count_is : (used m n : ℕ) → used + m + 1 + n ≡ used + (m + (1 + n))
 count_is used m n = omega arith
 

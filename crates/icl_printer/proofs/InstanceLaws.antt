@@ -15,14 +15,14 @@ use Rattle.icl_lexer.specs.Seen.{SeenToken}
 use Rattle.icl_lexer.specs.Words.{link_word, link_named, bind_named, member_named}
 use Rattle.icl_lexer.specs.Values.{SeenBind, ABoundPort, ABoundParameter, ABoundAttribute, SeenEnumWord, SeenLinkInstr, SeenWhat, AChild, SomeWords, AnInterface, ALink}
 use Rattle.icl_lexer.specs.Grammar.{Of, ended_by, AttributeSaid}
-use Rattle.icl_lexer.specs.Modules.{BindBegin, begun_by, bind_begin_at, bound_port, bound_parameter, bound_attribute, bind_behind, bind, binds, braced as a_braced, child, enum_word, words, member_word_at, member_behind, member, with_member, interface, Selected, selected, selecting, instruction, link_kind_at, entity, link}
+use Rattle.icl_lexer.specs.Modules.{BindBegin, begun_by, bind_begin_at, bound_port, bound_parameter, bound_attribute, bind_after, bind, binds, braced as a_braced, child, enum_word, words, member_word_at, member_after, member, with_member, interface, Selected, selected, selecting, instruction, link_kind_at, entity, link}
 use Rattle.icl_printer.specs.Layout.{Spelling, word, mark}
-use Rattle.icl_printer.specs.Canonical.{in_turn, behind, braced, if_there, name_tokens, formula_tokens, range_tokens, signals_tokens, binding_tokens, enum_tokens, member_tokens, instruction_tokens}
+use Rattle.icl_printer.specs.Canonical.{in_turn, after, braced, if_there, name_tokens, formula_tokens, range_tokens, signals_tokens, binding_tokens, enum_tokens, member_tokens, instruction_tokens}
 use Rattle.icl_printer.specs.Again.{spellings, IsSpelled, AllSpelled, placeless_binding, placeless_word, placeless_meaning}
 use Rattle.icl_printer.proofs.Printed.{Printed, Law, p_turn, p_last, p_left, p_right, p_mark, p_word, p_token, itself, name_law, halves}
 use Rattle.icl_printer.proofs.Loops.{many_law}
 use Rattle.icl_printer.proofs.KeptLoops.{keeps}
-use Rattle.icl_printer.proofs.SignalLaws.{value_law, behind_expr_law, maybe_range_law, sigs_law, same_itself}
+use Rattle.icl_printer.proofs.SignalLaws.{value_law, after_expr_law, maybe_range_law, sigs_law, same_itself}
 use Rattle.icl_printer.proofs.ItemLaws.{attribute_said_law}
 use Rattle.ij_text.specs.Places.{no_place}
 
@@ -47,11 +47,11 @@ bind_spelled BindsAttribute = refl
 p_bind_begin : (b : BindBegin) → Printed (one bind_begin_at) (λ z. z.word) (word (bind_word b.word) ∷ []) b
 p_bind_begin b = p_token (word (bind_word b.word)) b (λ at. record { at = at; word = b.word }) (bind_spelled b.word) (λ at. ap (begun_by at) (bind_again b.word)) (λ at. refl)
 
--- what stands behind the word of a binding: with any place the same
+-- what stands after the word of a binding: with any place the same
 record Bound (w : BindKeyword) (b : SeenBind) : Type 0 where
   middle : List Spelling
   tokens_are : binding_tokens b ≡ word (bind_word w) ∷ (middle ++ (mark 59 ∷ []))
-  printed : (at : Place) → Printed (bind_behind at w) placeless_binding middle b
+  printed : (at : Place) → Printed (bind_after at w) placeless_binding middle b
 
 bound_port_law : (at : Place) (ts : List SeenToken) (b : SeenBind) → AllSpelled (spellings ts) → (bound_port at).derives ts b → Bound BindsPort b
 unfolding bound_port
@@ -82,7 +82,7 @@ bound_parameter_law at ts b good h =
     let here : Bound BindsParameter (ABoundParameter at h.2 h2.2) = record {
       middle = word h.2 ∷ mark 61 ∷ formula_tokens h2.2;
       tokens_are = refl;
-      printed = λ p. p_turn (name_law h.0 h.2 g1.0 h.4) (λ n en. p_last (behind_expr_law 61 refl refl h2.0 h2.2 g2.0 h2.4) (λ v ev. cc (en, ev)));
+      printed = λ p. p_turn (name_law h.0 h.2 g1.0 h.4) (λ n en. p_last (after_expr_law 61 refl refl h2.0 h2.2 g2.0 h2.4) (λ v ev. cc (en, ev)));
     } in
     subst (Bound BindsParameter) (sym h2.5.1) here
 
@@ -91,16 +91,16 @@ unfolding bound_attribute
 bound_attribute_law ts b good h =
     let g1 = halves h.0 h.1 ts h.3 good in
     let here : Bound BindsAttribute (ABoundAttribute h.2.name h.2.value) = record {
-      middle = word h.2.name ∷ if_there (behind 61 formula_tokens) h.2.value;
+      middle = word h.2.name ∷ if_there (after 61 formula_tokens) h.2.value;
       tokens_are = refl;
       printed = λ p. p_last (attribute_said_law h.0 h.2 g1.0 h.4) (λ a ea. ap (λ (z : AttributeSaid). ABoundAttribute z.name z.value) ea);
     } in
     subst (Bound BindsAttribute) (sym h.5.1) here
 
-bind_behind_law : (at : Place) (w : BindKeyword) (ts : List SeenToken) (b : SeenBind) → AllSpelled (spellings ts) → (bind_behind at w).derives ts b → Bound w b
-bind_behind_law at BindsPort ts b good h = bound_port_law at ts b good h
-bind_behind_law at BindsParameter ts b good h = bound_parameter_law at ts b good h
-bind_behind_law at BindsAttribute ts b good h = bound_attribute_law ts b good h
+bind_after_law : (at : Place) (w : BindKeyword) (ts : List SeenToken) (b : SeenBind) → AllSpelled (spellings ts) → (bind_after at w).derives ts b → Bound w b
+bind_after_law at BindsPort ts b good h = bound_port_law at ts b good h
+bind_after_law at BindsParameter ts b good h = bound_parameter_law at ts b good h
+bind_after_law at BindsAttribute ts b good h = bound_attribute_law ts b good h
 
 bind_law : Law bind placeless_binding binding_tokens
 unfolding bind
@@ -108,11 +108,11 @@ bind_law ts b good h =
     let g1 = halves h.0 h.1 ts h.3 good in
     let h2 = h.5 in
     let g2 = halves h2.0 h2.1 h.1 h2.3 g1.1 in
-    let r = bind_behind_law h.2.at h.2.word h2.0 h2.2 g2.0 h2.4 in
+    let r = bind_after_law h.2.at h.2.word h2.0 h2.2 g2.0 h2.4 in
     let again : Printed bind placeless_binding (binding_tokens h2.2) h2.2 =
     subst (λ (x : List Spelling). Printed bind placeless_binding x h2.2) (sym r.tokens_are)
     (p_turn (p_bind_begin h.2)
-    (λ w ew. subst (λ u. Printed (ended_by 59 (bind_behind w.at u)) placeless_binding (r.middle ++ (mark 59 ∷ [])) h2.2) (sym ew)
+    (λ w ew. subst (λ u. Printed (ended_by 59 (bind_after w.at u)) placeless_binding (r.middle ++ (mark 59 ∷ [])) h2.2) (sym ew)
     (p_turn (r.printed w.at) (λ x ex. p_last (p_mark 59 no_place refl refl) (λ c ec. ex))))) in
     subst (λ z. Printed bind placeless_binding (binding_tokens z) z) (sym h2.5.5.1) again
 
@@ -184,16 +184,16 @@ member_law : (xs : List (List ℕ)) (ts : List SeenToken) (o : Option (List ℕ)
 unfolding member
 member_law xs ts o good h x is zs same = by_word h.2 (h.5.4) (sym h.5.5.5.1 ∙ is) (halves h.5.0 h.5.1 h.1 h.5.3 (halves h.0 h.1 ts h.3 good).1).0
   where
-    by_word : (w : MemberKeyword) → (member_behind w).derives h.5.0 h.5.2 → h.5.2 ≡ Some x → AllSpelled (spellings h.5.0) → Printed member (option_map itself) (member_tokens x) (Some x)
+    by_word : (w : MemberKeyword) → (member_after w).derives h.5.0 h.5.2 → h.5.2 ≡ Some x → AllSpelled (spellings h.5.0) → Printed member (option_map itself) (member_tokens x) (Some x)
     by_word MemberAttribute d e g = absurd (let none : None ≡ Some x = sym d.5.1 ∙ e in cc)
     by_word MemberPort d e g =
         let some : Some d.2 ≡ Some x = sym d.5.1 ∙ e in
         let name_is : d.2 ≡ x = cc in
         let n = halves d.0 d.1 h.5.0 d.3 g in
-        let kept : Printed (member_behind MemberPort) (option_map itself) (name_tokens d.2) (Some d.2) = p_last (name_law d.0 d.2 n.0 d.4) (λ y ey. ap Some ey) in
+        let kept : Printed (member_after MemberPort) (option_map itself) (name_tokens d.2) (Some d.2) = p_last (name_law d.0 d.2 n.0 d.4) (λ y ey. ap Some ey) in
         subst (λ y. Printed member (option_map itself) (member_tokens y) (Some y)) name_is
         (p_turn (p_token {bare = itself} (word (codes "Port")) MemberPort (λ at. MemberPort) refl member_takes (λ at. refl))
-        (λ w ew. subst (λ u. Printed (ended_by 59 (member_behind u)) (option_map itself) (word d.2 ∷ mark 59 ∷ []) (Some d.2)) (sym ew)
+        (λ w ew. subst (λ u. Printed (ended_by 59 (member_after u)) (option_map itself) (word d.2 ∷ mark 59 ∷ []) (Some d.2)) (sym ew)
         (p_turn kept (λ a ea. p_last (p_mark 59 no_place refl refl) (λ c ec. ea)))))
 
 pub interface_law : (ts : List SeenToken) (m : SeenWhat) → AllSpelled (spellings ts) → interface.derives ts m

@@ -1,4 +1,4 @@
--- What stands behind the word and the name of an item, printed and derived again.
+-- What stands after the word and the name of an item, printed and derived again.
 use Rattle.std.proofs.Common.{◌≡◌, Bool, List, [], ◌∷◌, ◌++◌, map, Option, None, refl, sym, ap, subst}
 use Rattle.std.specs.Prelude.{codes}
 use Rattle.std.specs.Option.{option_map}
@@ -10,11 +10,11 @@ use Rattle.icl_lexer.specs.Values.{SeenExpr, SeenRange, SeenSig, SeenProp, SeenR
 use Rattle.icl_lexer.specs.Grammar.{value, AttributeSaid, attribute_said}
 use Rattle.icl_lexer.specs.Modules.{owner_of, port_range, port, register, alias, parameter, attribute, row, rows, mux}
 use Rattle.icl_printer.specs.Layout.{word, mark}
-use Rattle.icl_printer.specs.Canonical.{in_turn, behind, braced, if_there, formula_tokens, value_tokens, range_tokens, signals_tokens, property_tokens, row_tokens}
+use Rattle.icl_printer.specs.Canonical.{in_turn, after, braced, if_there, formula_tokens, value_tokens, range_tokens, signals_tokens, property_tokens, row_tokens}
 use Rattle.icl_printer.specs.Again.{spellings, AllSpelled, placeless_formula, placeless_value, placeless_span, placeless_row, placeless_meaning}
 use Rattle.icl_printer.proofs.Printed.{Printed, Law, p_turn, p_last, p_give, p_mark, p_word, name_law, halves}
 use Rattle.icl_printer.proofs.Loops.{appends, parted_law}
-use Rattle.icl_printer.proofs.SignalLaws.{value_law, behind_expr_law, maybe_expr_law, maybe_range_law, sig_law, sigs_law}
+use Rattle.icl_printer.proofs.SignalLaws.{value_law, after_expr_law, maybe_expr_law, maybe_range_law, sig_law, sigs_law}
 use Rattle.icl_printer.proofs.BodyLaws.{body_law}
 use Rattle.ij_text.specs.Places.{no_place}
 
@@ -81,10 +81,10 @@ pub parameter_law : (local : Bool) (ts : List SeenToken) (m : SeenWhat) → AllS
 unfolding parameter
 parameter_law local ts m good h =
     let g1 = halves h.0 h.1 ts h.3 good in
-    (h.2, h.5.5.1, p_turn (behind_expr_law 61 refl refl h.0 h.2 g1.0 h.4) (λ v ev. p_last (p_mark 59 no_place refl refl) (λ s es. ap (AParameter local) ev)))
+    (h.2, h.5.5.1, p_turn (after_expr_law 61 refl refl h.0 h.2 g1.0 h.4) (λ v ev. p_last (p_mark 59 no_place refl refl) (λ s es. ap (AParameter local) ev)))
 
 pub attribute_law : (ts : List SeenToken) (m : SeenWhat) → AllSpelled (spellings ts) → attribute.derives ts m
-    → (v : Option SeenExpr) × (m ≡ AnAttribute v) × (Printed attribute placeless_meaning (if_there (behind 61 formula_tokens) v ++ (mark 59 ∷ [])) (AnAttribute v))
+    → (v : Option SeenExpr) × (m ≡ AnAttribute v) × (Printed attribute placeless_meaning (if_there (after 61 formula_tokens) v ++ (mark 59 ∷ [])) (AnAttribute v))
 unfolding attribute
 attribute_law ts m good h =
     let g1 = halves h.0 h.1 ts h.3 good in
@@ -134,11 +134,11 @@ mux_law ts m good h =
 -- ---- instances
 
 pub attribute_said_law : (ts : List SeenToken) (a : AttributeSaid) → AllSpelled (spellings ts) → attribute_said.derives ts a
-    → Printed attribute_said (λ z. let b : AttributeSaid = record { name = z.name; value = option_map placeless_formula z.value } in b) (word a.name ∷ if_there (behind 61 formula_tokens) a.value) a
+    → Printed attribute_said (λ z. let b : AttributeSaid = record { name = z.name; value = option_map placeless_formula z.value } in b) (word a.name ∷ if_there (after 61 formula_tokens) a.value) a
 unfolding attribute_said
 attribute_said_law ts a good h =
     let g1 = halves h.0 h.1 ts h.3 good in
     let h2 = h.5 in
     let g2 = halves h2.0 h2.1 h.1 h2.3 g1.1 in
-    subst (λ z. Printed attribute_said (λ z. let b : AttributeSaid = record { name = z.name; value = option_map placeless_formula z.value } in b) (word z.name ∷ if_there (behind 61 formula_tokens) z.value) z) (sym h2.5.1)
+    subst (λ z. Printed attribute_said (λ z. let b : AttributeSaid = record { name = z.name; value = option_map placeless_formula z.value } in b) (word z.name ∷ if_there (after 61 formula_tokens) z.value) z) (sym h2.5.1)
     (p_turn (name_law h.0 h.2 g1.0 h.4) (λ n en. p_last (maybe_expr_law 61 refl refl h2.0 h2.2 g2.0 h2.4) (λ v ev. cc (en, ev))))

@@ -13,7 +13,7 @@ use Rattle.icl_printer.proofs.Loops.{snoc_same}
 module _ {A A' : Type 0} (part : List A → Of (Option A)) (keep : List A → Option A → List A) (bare : A → A') (canon : A → List Spelling)
     (keep_none : (xs : List A) → keep xs None ≡ xs) (keep_some : (xs : List A) (x : A) → keep xs (Some x) ≡ xs ++ x ∷ [])
     (law : (xs : List A) (ts : List SeenToken) (o : Option A) → AllSpelled (spellings ts) → (part xs).derives ts o → (x : A) → o ≡ Some x → (zs : List A) → map bare zs ≡ map bare xs → Printed (part zs) (option_map bare) (canon x) (Some x)) where
-  -- what the loop keeps behind xs
+  -- what the loop keeps after xs
   pub record Keeps (xs last : List A) : Type 0 where
     pub more : List A
     pub is : last ≡ xs ++ more

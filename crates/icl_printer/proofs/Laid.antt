@@ -2,7 +2,7 @@
 use Rattle.std.proofs.Common.{◌≡◌, ◌<◌, ◌≤◌, ◌+◌, ◌-◌, ℕ, suc, Option, List, [], ◌∷◌, ◌++◌, length, get_or, take, drop, arith, map, Bool, true, false, IsTrue, ◌↔◌, refl, sym, ap, ◌∙◌, subst, append_assoc, append-nil, add-one}
 use Rattle.std.proofs.Math.Seq.{drop-cons, take-length}
 use Rattle.std.proofs.Math.ListN.{drop_of_length-le}
-use Rattle.icl_printer.specs.Canonical.{in_turn, behind, separated, braced}
+use Rattle.icl_printer.specs.Canonical.{in_turn, after, separated, braced}
 use Rattle.ij_io.specs.Bytes.{Adds, AddsPart}
 use Rattle.ij_io.proofs.Adding.{adds_both, adds_front, adds_then_part, with_none}
 use Rattle.ij_io.proofs.Fronts.{AddsFront, front_next, front_part, front_all}
@@ -112,14 +112,14 @@ pub none_added : (old : Option (List ℕ)) → Adds old old (layout [])
 unfolding layout
 none_added old = record { added = with_none old }
 
--- a first part, and the others behind it
+-- a first part, and the others after it
 pub cut_first : {T A : Type 0} (c : ℕ) (f : A → List Spelling) (v : T → A) (xs : List T) (x : T) → 1 ≤ length xs → x ≡ get_or xs 0 x
-    → separated c f (map v xs) ≡ f (v x) ++ in_turn (behind c f) (map v (take (length xs - 1) (drop 1 xs)))
+    → separated c f (map v xs) ≡ f (v x) ++ in_turn (after c f) (map v (take (length xs - 1) (drop 1 xs)))
 cut_first c f v [] x h is = absurd (omega arith)
 cut_first {T} c f v (y ∷ ys) x h is =
     let count : length (y ∷ ys) - 1 ≡ length ys = omega arith in
     let rest : take (length (y ∷ ys) - 1) ys ≡ ys = ap (λ n. take n ys) count ∙ take-length ys in
-    ap (λ (z : T). f (v z) ++ in_turn (behind c f) (map v ys)) (sym is) ∙ ap (λ (zs : List T). f (v x) ++ in_turn (behind c f) (map v zs)) (sym rest)
+    ap (λ (z : T). f (v z) ++ in_turn (after c f) (map v ys)) (sym is) ∙ ap (λ (zs : List T). f (v x) ++ in_turn (after c f) (map v zs)) (sym rest)
 
 pub separated_none : {T A : Type 0} (c : ℕ) (f : A → List Spelling) (v : T → A) (xs : List T) → length xs < 1 → separated c f (map v xs) ≡ []
 separated_none c f v [] h = refl

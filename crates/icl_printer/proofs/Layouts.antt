@@ -3,7 +3,7 @@ use Rattle.std.proofs.Common.{◌≡◌, ◌+◌, ◌-◌, ℕ, List, [], ◌∷
 use Rattle.std.specs.Prelude.{slice_range}
 use Rattle.std.proofs.lemmas.List.{take_at, drop_at}
 use Rattle.ij_text.specs.declared.Place.{Place}
-use Rattle.ij_text.specs.Places.{first_place, place_behind}
+use Rattle.ij_text.specs.Places.{first_place, place_after}
 use Rattle.icl_lexer.specs.Token.{Token}
 use Rattle.icl_lexer.specs.declared.token.PieceKind.TheVariants.{Gap, Is}
 use Rattle.icl_lexer.specs.Cutting.{Piece, joined, AreLongest, tokens_from, AreTokens}
@@ -16,7 +16,7 @@ use Rattle.icl_printer.specs.Again.{spellings, AllSpelled, DesignsAreReadAgain}
 use Rattle.icl_printer.proofs.Stops.{blank_is, token_piece, blank_piece}
 use Rattle.icl_printer.proofs.DesignLaws.{design_law}
 
--- each token, and the blank behind it
+-- each token, and the blank after it
 pub pieces_of : List Spelling → List Piece
 pieces_of [] = []
 pieces_of (s ∷ ss) = record { kind = Is s.kind; bytes = s.text } ∷ record { kind = Gap; bytes = blank_of s.kind s.text ∷ [] } ∷ pieces_of ss
@@ -52,11 +52,11 @@ tokens_again (s ∷ ss) src before start at whole is =
     let b = blank_of s.kind s.text in
     let rest = joined (pieces_of ss) [] in
     let here : slice_range src start (start + length s.text) ≡ s.text = ap (λ (x : List ℕ). slice_range x start (start + length s.text)) whole ∙ text_here before s.text (b ∷ rest) start is in
-    let behind : src ≡ (before ++ (s.text ++ b ∷ [])) ++ rest =
+    let after : src ≡ (before ++ (s.text ++ b ∷ [])) ++ rest =
     whole ∙ ap (λ (x : List ℕ). before ++ x) (sym (append_assoc s.text (b ∷ []) rest)) ∙ sym (append_assoc before (s.text ++ b ∷ []) rest) in
     let count : start + length s.text + 1 ≡ length (before ++ (s.text ++ b ∷ [])) = omega (arith, length-append before (s.text ++ b ∷ []), length-append s.text (b ∷ [])) in
-    let others = tokens_again ss src (before ++ (s.text ++ b ∷ [])) (start + length s.text + 1) (place_behind (place_behind at s.text) (b ∷ [])) behind count in
-    ap (λ (x : List ℕ). let y : Spelling = record { kind = s.kind; text = x } in y ∷ spellings (seen_tokens src (tokens_from (start + length s.text + 1) (place_behind (place_behind at s.text) (b ∷ [])) (pieces_of ss)))) here
+    let others = tokens_again ss src (before ++ (s.text ++ b ∷ [])) (start + length s.text + 1) (place_after (place_after at s.text) (b ∷ [])) after count in
+    ap (λ (x : List ℕ). let y : Spelling = record { kind = s.kind; text = x } in y ∷ spellings (seen_tokens src (tokens_from (start + length s.text + 1) (place_after (place_after at s.text) (b ∷ [])) (pieces_of ss)))) here
     ∙ ap (λ (x : List Spelling). s ∷ x) others
 
 pub are_tokens : (ss : List Spelling) → AllSpelled ss → AreTokens (layout ss) (tokens_from 0 first_place (pieces_of ss))

@@ -5,7 +5,7 @@ use Rattle.ij_text.specs.Symbol.{give, ◌>>=◌, repeat, many, Parts, appended,
 use Rattle.icl_lexer.specs.Seen.{SeenToken}
 use Rattle.icl_lexer.specs.Grammar.{Of, mark as a_mark, parted}
 use Rattle.icl_printer.specs.Layout.{Spelling, mark}
-use Rattle.icl_printer.specs.Canonical.{in_turn, behind, separated, if_there}
+use Rattle.icl_printer.specs.Canonical.{in_turn, after, separated, if_there}
 use Rattle.icl_printer.specs.Again.{spellings, IsSpelled, AllSpelled}
 use Rattle.icl_printer.proofs.Printed.{cut, all_append, all_front, all_back, Printed, Law, p_turn, p_last, p_give, p_left, p_right, p_mark, turned, nothing_spelled}
 use Rattle.std.proofs.lemmas.List.{map-append}
@@ -58,17 +58,17 @@ many_law {A} S bare canon law ts xs good h =
     let a = appends S bare canon law h.0 ts [] xs good h.1 in
     subst (λ (ys : List A). Printed (many S) (map bare) (in_turn canon ys) xs) (sym a.is) (a.printed [] refl)
 
--- ---- behind marks
+-- ---- after marks
 
-pub behind_law : {A A' : Type 0} (c : ℕ) (S : Of A) (bare : A → A') (canon : A → List Spelling) → IsSpelled (mark c) → (c == c) ≡ true → Law S bare canon → Law (a_mark c >>= λ m. S) bare (behind c canon)
-behind_law c S bare canon ok same law ts a good h =
+pub after_law : {A A' : Type 0} (c : ℕ) (S : Of A) (bare : A → A') (canon : A → List Spelling) → IsSpelled (mark c) → (c == c) ≡ true → Law S bare canon → Law (a_mark c >>= λ m. S) bare (after c canon)
+after_law c S bare canon ok same law ts a good h =
     let m = turned (a_mark c) (λ m. S) ts a good h in
     p_turn (p_mark c m.value ok same) (λ at e. law m.back a m.good_rest m.rest)
 
 pub parted_law : {A A' : Type 0} (c : ℕ) (S : Of A) (bare : A → A') (canon : A → List Spelling) → IsSpelled (mark c) → (c == c) ≡ true → Law S bare canon → Law (parted c S) (map bare) (separated c canon)
 parted_law {A} c S bare canon ok same law ts xs good h =
     let f = turned S (λ a. repeat (λ (ys : List A). a_mark c >>= λ m. S) appended (a ∷ [])) ts xs good h in
-    let a = appends (a_mark c >>= λ m. S) bare (behind c canon) (behind_law c S bare canon ok same law) f.rest.0 f.back (f.value ∷ []) xs f.good_rest f.rest.1 in
+    let a = appends (a_mark c >>= λ m. S) bare (after c canon) (after_law c S bare canon ok same law) f.rest.0 f.back (f.value ∷ []) xs f.good_rest f.rest.1 in
     subst (λ (ys : List A). Printed (parted c S) (map bare) (separated c canon ys) xs) (sym a.is)
     (p_turn (law f.front f.value f.good f.derived) (λ y e. a.printed (y ∷ []) (ap (λ z. z ∷ []) e)))
 

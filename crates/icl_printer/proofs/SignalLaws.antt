@@ -11,12 +11,12 @@ use Rattle.ij_text.specs.Numbers.{decimal_from}
 use Rattle.icl_lexer.specs.Seen.{SeenToken, if_word}
 use Rattle.icl_lexer.specs.Tokens.{decimal_of}
 use Rattle.icl_lexer.specs.Values.{ADecimal, ASized, AParam, ANumber, APath}
-use Rattle.icl_lexer.specs.Grammar.{expr, value, range, expr_behind, Located, number_located, number_of, number_at, as_decimal, Named, named_at, name, path_behind, named_sig, plain_sig, sig, sigs, mark as a_mark}
+use Rattle.icl_lexer.specs.Grammar.{expr, value, range, expr_after, Located, number_located, number_of, number_at, as_decimal, Named, named_at, name, path_after, named_sig, plain_sig, sig, sigs, mark as a_mark}
 use Rattle.icl_printer.specs.Layout.{Spelling, word, mark}
-use Rattle.icl_printer.specs.Canonical.{behind, if_there, formula_tokens, value_tokens, range_tokens, name_tokens, meant_tokens, signal_tokens, signals_tokens}
+use Rattle.icl_printer.specs.Canonical.{after, if_there, formula_tokens, value_tokens, range_tokens, name_tokens, meant_tokens, signal_tokens, signals_tokens}
 use Rattle.icl_printer.specs.Again.{spellings, IsSpelled, AllSpelled, placeless_formula, placeless_value, placeless_span, placeless_meant, placeless_signal, placeless_signals}
 use Rattle.icl_printer.proofs.Printed.{Printed, Law, p_turn, p_last, p_left, p_right, p_mark, p_token, itself, name_law, single, halves}
-use Rattle.icl_printer.proofs.Loops.{appends, behind_law, parted_law, maybe_law}
+use Rattle.icl_printer.proofs.Loops.{appends, after_law, parted_law, maybe_law}
 use Rattle.icl_printer.proofs.Bytes.{decimal_kind, decimal_again, small_is, param_text}
 use Rattle.icl_printer.proofs.Derived.{expr_law}
 use Rattle.ij_text.specs.Places.{no_place}
@@ -25,11 +25,11 @@ pub value_law : Law value placeless_value value_tokens
 unfolding value
 value_law = parted_law 44 expr placeless_formula formula_tokens refl refl expr_law
 
-pub behind_expr_law : (c : ℕ) → IsSpelled (mark c) → (c == c) ≡ true → Law (expr_behind c) placeless_formula (behind c formula_tokens)
-behind_expr_law c ok same = behind_law c expr placeless_formula formula_tokens ok same expr_law
+pub after_expr_law : (c : ℕ) → IsSpelled (mark c) → (c == c) ≡ true → Law (expr_after c) placeless_formula (after c formula_tokens)
+after_expr_law c ok same = after_law c expr placeless_formula formula_tokens ok same expr_law
 
-pub maybe_expr_law : (c : ℕ) → IsSpelled (mark c) → (c == c) ≡ true → Law (maybe (expr_behind c)) (option_map placeless_formula) (if_there (behind c formula_tokens))
-maybe_expr_law c ok same = maybe_law (expr_behind c) placeless_formula (behind c formula_tokens) (behind_expr_law c ok same)
+pub maybe_expr_law : (c : ℕ) → IsSpelled (mark c) → (c == c) ≡ true → Law (maybe (expr_after c)) (option_map placeless_formula) (if_there (after c formula_tokens))
+maybe_expr_law c ok same = maybe_law (expr_after c) placeless_formula (after c formula_tokens) (after_expr_law c ok same)
 
 pub range_law : Law range placeless_span range_tokens
 unfolding range
@@ -112,7 +112,7 @@ pub same_itself : {A : Type 0} (xs ys : List A) → map itself xs ≡ map itself
 same_itself xs ys e = sym (map_itself xs) ∙ e ∙ map_itself ys
 
 named_sig_law : Law named_sig placeless_located located_tokens
-unfolding named_sig path_behind
+unfolding named_sig path_after
 named_sig_law ts l good h =
     let g1 = halves h.0 h.1 ts h.3 good in
     let h2 = h.5 in
@@ -120,7 +120,7 @@ named_sig_law ts l good h =
     let h3 = h2.5 in
     let g3 = halves h3.0 h3.1 h2.1 h3.3 g2.1 in
     let first = named_law h.0 h.2 g1.0 h.4 in
-    let more = appends (a_mark 46 >>= λ d. name) itself (behind 46 name_tokens) (behind_law 46 name itself name_tokens refl refl name_law) h2.4.0 h2.0 (h.2.name ∷ []) h2.2 g2.0 h2.4.1 in
+    let more = appends (a_mark 46 >>= λ d. name) itself (after 46 name_tokens) (after_law 46 name itself name_tokens refl refl name_law) h2.4.0 h2.0 (h.2.name ∷ []) h2.2 g2.0 h2.4.1 in
     let r = maybe_range_law h3.0 h3.2 g3.0 h3.4 in
     let path : List (List ℕ) = h.2.name ∷ more.more in
     let x : Located = record { at = h.2.at; what = APath path h3.2 } in

@@ -15,8 +15,8 @@ use Rattle.icl_lexer.specs.Cutting.{IsPiece, opens_comment}
 use Rattle.icl_printer.specs.Layout.{blank_of, ends_line}
 use Rattle.icl_printer.proofs.Bytes.{is_of, run_never, block_never}
 
--- a blank that stands behind a token
-pub record IsBehind (b : ℕ) : Type 0 where
+-- a blank that stands after a token
+pub record IsAfter (b : ℕ) : Type 0 where
   pub gap : (bs : List ℕ) → kind_of (b ∷ bs) ≡ ends Gap bs
   pub in_a_word : in_name b ≡ false
   pub in_a_decimal : in_decimal b ≡ false
@@ -25,17 +25,17 @@ pub record IsBehind (b : ℕ) : Type 0 where
   pub stroke : (b == 47) ≡ false
   pub star : (b == 42) ≡ false
 
-line_end : IsBehind 10
+line_end : IsAfter 10
 line_end = record { gap = λ bs. refl; in_a_word = refl; in_a_decimal = refl; in_some_digits = refl; quote = refl; stroke = refl; star = refl }
 
-space : IsBehind 32
+space : IsAfter 32
 space = record { gap = λ bs. refl; in_a_word = refl; in_a_decimal = refl; in_some_digits = refl; quote = refl; stroke = refl; star = refl }
 
-pub blank_is : (k : TokenKind) (text : List ℕ) → IsBehind (blank_of k text)
+pub blank_is : (k : TokenKind) (text : List ℕ) → IsAfter (blank_of k text)
 blank_is Mark [] = space
 blank_is Mark (c ∷ []) = by_cases (ends_line c)
   where
-    by_cases : (e : Bool) → IsBehind (cond e 10 32)
+    by_cases : (e : Bool) → IsAfter (cond e 10 32)
     by_cases true = line_end
     by_cases false = space
 blank_is Mark (c ∷ d ∷ text) = space
@@ -49,9 +49,9 @@ abbrev is_token : PieceKind → Bool
 is_token Gap = false
 is_token (Is k) = true
 
--- ---- what is a piece of its own is none with a blank behind it
+-- ---- what is a piece of its own is none with a blank after it
 
-module _ (b : ℕ) (is : IsBehind b) (more : List ℕ) (k : TokenKind) where
+module _ (b : ℕ) (is : IsAfter b) (more : List ℕ) (k : TokenKind) where
   cond_stops : (c : Bool) (x y x' y' : Option PieceKind) → (x ≡ Some (Is k) → x' ≡ None) → (y ≡ Some (Is k) → y' ≡ None) → cond c x y ≡ Some (Is k) → cond c x' y' ≡ None
   cond_stops true x y x' y' f g h = f h
   cond_stops false x y x' y' f g h = g h
@@ -116,19 +116,19 @@ module _ (b : ℕ) (is : IsBehind b) (more : List ℕ) (k : TokenKind) where
 
 -- ---- pieces
 
-no_mark_comment : (a b : ℕ) (rest : List ℕ) → IsBehind b → opens_comment (a ∷ b ∷ rest) ≡ false
+no_mark_comment : (a b : ℕ) (rest : List ℕ) → IsAfter b → opens_comment (a ∷ b ∷ rest) ≡ false
 no_mark_comment a b rest is = ap (λ c. a == 47 && (c || b == 42)) is.stroke ∙ ap (λ c. a == 47 && c) is.star ∙ and_false (a == 47)
   where
     and_false : (c : Bool) → (c && false) ≡ false
     and_false true = refl
     and_false false = refl
 
-no_comment : (text : List ℕ) (b : ℕ) (rest : List ℕ) (k : TokenKind) → IsBehind b → kind_of text ≡ Some (Is k) → opens_comment (text ++ b ∷ rest) ≡ true → 1 < length text
+no_comment : (text : List ℕ) (b : ℕ) (rest : List ℕ) (k : TokenKind) → IsAfter b → kind_of text ≡ Some (Is k) → opens_comment (text ++ b ∷ rest) ≡ true → 1 < length text
 no_comment [] b rest k is h o = absurd (cc)
 no_comment (a ∷ []) b rest k is h o = absurd (let never = no_mark_comment a b rest is in cc)
 no_comment (a ∷ c ∷ text) b rest k is h o = omega arith
 
-pub token_piece : (text : List ℕ) (k : TokenKind) (b : ℕ) (rest : List ℕ) → IsBehind b → kind_of text ≡ Some (Is k) → IsPiece (text ++ b ∷ rest) (Is k) (length text)
+pub token_piece : (text : List ℕ) (k : TokenKind) (b : ℕ) (rest : List ℕ) → IsAfter b → kind_of text ≡ Some (Is k) → IsPiece (text ++ b ∷ rest) (Is k) (length text)
 token_piece text k b rest is h = record {
   within = omega (arith, length-append text (b ∷ rest));
   one = ap kind_of (take_at text (b ∷ rest) (length text) refl) ∙ h;
@@ -139,17 +139,17 @@ token_piece text k b rest is h = record {
   no_comment = no_comment text b rest k is h;
 }
 
-longer_gap : (b : ℕ) (rest : List ℕ) (n : ℕ) → IsBehind b → 1 < n → n ≤ length (b ∷ rest) → kind_of (take n (b ∷ rest)) ≡ None
+longer_gap : (b : ℕ) (rest : List ℕ) (n : ℕ) → IsAfter b → 1 < n → n ≤ length (b ∷ rest) → kind_of (take n (b ∷ rest)) ≡ None
 longer_gap b [] n is above fits = absurd (omega arith)
 longer_gap b (x ∷ rest) zero is above fits = absurd (omega arith)
 longer_gap b (x ∷ rest) (suc zero) is above fits = absurd (omega arith)
 longer_gap b (x ∷ rest) (suc (suc m)) is above fits = is.gap (x ∷ take m rest)
 
-no_gap_comment : (b : ℕ) (rest : List ℕ) → IsBehind b → opens_comment (b ∷ rest) ≡ true → 1 < 1
+no_gap_comment : (b : ℕ) (rest : List ℕ) → IsAfter b → opens_comment (b ∷ rest) ≡ true → 1 < 1
 no_gap_comment b [] is h = absurd (cc)
 no_gap_comment b (x ∷ rest) is h = absurd (let never : opens_comment (b ∷ x ∷ rest) ≡ false = ap (λ c. c && (x == 47 || x == 42)) is.stroke in cc)
 
-pub blank_piece : (b : ℕ) (rest : List ℕ) → IsBehind b → IsPiece (b ∷ rest) Gap 1
+pub blank_piece : (b : ℕ) (rest : List ℕ) → IsAfter b → IsPiece (b ∷ rest) Gap 1
 blank_piece b rest is = record {
   within = omega arith;
   one = is.gap [];

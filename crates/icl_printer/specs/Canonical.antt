@@ -16,14 +16,14 @@ abbrev pub in_turn : {A : Type 0} → (A → List Spelling) → List A → List 
 in_turn f [] = []
 in_turn f (x ∷ xs) = f x ++ in_turn f xs
 
--- behind a mark
-abbrev pub behind : {A : Type 0} → ℕ → (A → List Spelling) → A → List Spelling
-behind c f x = mark c ∷ f x
+-- after a mark
+abbrev pub after : {A : Type 0} → ℕ → (A → List Spelling) → A → List Spelling
+after c f x = mark c ∷ f x
 
 -- with a mark between two
 abbrev pub separated : {A : Type 0} → ℕ → (A → List Spelling) → List A → List Spelling
 separated c f [] = []
-separated c f (x ∷ xs) = f x ++ in_turn (behind c f) xs
+separated c f (x ∷ xs) = f x ++ in_turn (after c f) xs
 
 -- in braces, or `;` where there is none
 abbrev pub braced : {A : Type 0} → (A → List Spelling) → List A → List Spelling
@@ -81,7 +81,7 @@ abbrev pub value_tokens : List SeenExpr → List Spelling
 value_tokens = separated 44 formula_tokens
 
 abbrev pub range_tokens : SeenRange → List Spelling
-range_tokens r = mark 91 ∷ (formula_tokens r.left ++ (if_there (behind 58 formula_tokens) r.right ++ (mark 93 ∷ [])))
+range_tokens r = mark 91 ∷ (formula_tokens r.left ++ (if_there (after 58 formula_tokens) r.right ++ (mark 93 ∷ [])))
 
 -- ---- signals
 
@@ -121,7 +121,7 @@ abbrev pub row_tokens : SeenRow → List Spelling
 row_tokens r = separated 124 value_tokens r.values ++ (mark 58 ∷ (signal_tokens r.source ++ (mark 59 ∷ [])))
 
 abbrev pub attribute_tokens : List ℕ → Option SeenExpr → List Spelling
-attribute_tokens n v = word (codes "Attribute") ∷ word n ∷ (if_there (behind 61 formula_tokens) v ++ (mark 59 ∷ []))
+attribute_tokens n v = word (codes "Attribute") ∷ word n ∷ (if_there (after 61 formula_tokens) v ++ (mark 59 ∷ []))
 
 abbrev pub port_binding_tokens : List ℕ → Option SeenRange → List SeenSig → List Spelling
 port_binding_tokens n r ss = word (codes "InputPort") ∷ word n ∷ (if_there range_tokens r ++ (mark 61 ∷ (signals_tokens ss ++ (mark 59 ∷ []))))

@@ -46,7 +46,7 @@ fn word_of(kind: PortKind) -> &'static [u8]
     }
 }
 
-/// Writes a word of the grammar and a name behind it.
+/// Writes a word of the grammar and a name after it.
 pub(crate) fn put_named<K: Sink>(text: &[u8], name: &SmallText, k: &mut K) -> Result<(), StoreFault>
     ensures whole { OnOk result (Adds (K.taken k.old) (K.taken k.new) (layout (word text.now ∷ word name.now.items ∷ []))) }
     ensures part { OnErr result (AddsPart (K.taken k.old) (K.taken k.new) (layout (word text.now ∷ word name.now.items ∷ []))) }

@@ -6,7 +6,7 @@ ghost use Rattle.icl_printer.specs.Layout.{layout};
 ghost use Rattle.icl_printer.specs.Canonical.{sign_mark, binding_of, binding, formula_tokens};
 ghost use Rattle.icl_lexer.specs.Views.{seen_expr};
 
-use crate::put::{Put, put_if_there_behind, put_mark_if, put_separated};
+use crate::put::{Put, put_if_there_after, put_mark_if, put_separated};
 use crate::token::{Piece, put_tokens};
 use icl_lexer::{Expr, Few, Range, Sign};
 use ij_io::{Sink, StoreFault};
@@ -132,7 +132,7 @@ impl Put for Range {
         let ends = &*self.ends;
         put_tokens(&[Piece::Mark(b'[')], k)?;
         ends.left.put(k)?;
-        put_if_there_behind(b':', &ends.right, k)?;
+        put_if_there_after(b':', &ends.right, k)?;
         put_tokens(&[Piece::Mark(b']')], k)?;
         Ok(())
     }

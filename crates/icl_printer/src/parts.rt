@@ -8,7 +8,7 @@ ghost use Rattle.icl_printer.specs.Layout.{layout};
 ghost use Rattle.icl_printer.specs.Canonical.{attribute_tokens, port_binding_tokens, parameter_binding_tokens};
 ghost use Rattle.icl_lexer.specs.Views.{seen_expr, seen_range, seen_sig};
 
-use crate::put::{Put, put_if_there_behind, put_separated};
+use crate::put::{Put, put_if_there_after, put_separated};
 use crate::token::{Piece, put_tokens};
 use icl_lexer::{Bind, EnumWord, Expr, Few, LinkInstr, MuxRow, Range, Sig, SmallText};
 use ij_bits::List;
@@ -65,7 +65,7 @@ pub(crate) fn put_attribute<K: Sink>(
     ensures cause { HasCause (K.faults k.old) (K.faults k.new) result StoreFault.Failed }
 {
     put_tokens(&[Piece::Word(b"Attribute"), Piece::Name(name)], k)?;
-    put_if_there_behind(b'=', value, k)?;
+    put_if_there_after(b'=', value, k)?;
     put_tokens(&[Piece::Mark(b';')], k)?;
     Ok(())
 }

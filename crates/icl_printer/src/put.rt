@@ -4,7 +4,7 @@ ghost use Rattle.ij_io.specs.Bytes.{Adds, AddsPart};
 ghost use Rattle.ij_io.specs.Causes.{HasCause};
 ghost use Rattle.std.specs.Option.{option_map};
 ghost use Rattle.icl_printer.specs.Layout.{Spelling, word, mark, layout};
-ghost use Rattle.icl_printer.specs.Canonical.{in_turn, behind, separated, braced, if_there, mark_if};
+ghost use Rattle.icl_printer.specs.Canonical.{in_turn, after, separated, braced, if_there, mark_if};
 
 use crate::token::{Piece, put_tokens};
 use ij_bits::List;
@@ -20,7 +20,7 @@ pub(crate) trait Put {
     /// The tokens that are written.
     ghost tokens: { Plain → List Spelling };
 
-    /// Writes the part's tokens, each with the blank behind it.
+    /// Writes the part's tokens, each with the blank after it.
     fn put<K: Sink>(&self, k: &mut K) -> Result<(), StoreFault>
         ensures whole { OnOk result (Adds (K.taken k.old) (K.taken k.new) (layout (tokens (view self.now)))) }
         ensures part { OnErr result (AddsPart (K.taken k.old) (K.taken k.new) (layout (tokens (view self.now)))) }
@@ -39,22 +39,22 @@ pub(crate) fn put_all<T: Put, K: Sink>(parts: &List<T>, k: &mut K) -> Result<(),
     Ok(())
 }
 
-/// Writes parts, each behind a mark.
-fn put_each_behind<T: Put, K: Sink>(mark: u8, parts: &[T], k: &mut K) -> Result<(), StoreFault>
-    ensures whole { OnOk result (Adds (K.taken k.old) (K.taken k.new) (layout (in_turn (behind mark T.tokens) (map T.view parts.now)))) }
-    ensures part { OnErr result (AddsPart (K.taken k.old) (K.taken k.new) (layout (in_turn (behind mark T.tokens) (map T.view parts.now)))) }
+/// Writes parts, each after a mark.
+fn put_each_after<T: Put, K: Sink>(mark: u8, parts: &[T], k: &mut K) -> Result<(), StoreFault>
+    ensures whole { OnOk result (Adds (K.taken k.old) (K.taken k.new) (layout (in_turn (after mark T.tokens) (map T.view parts.now)))) }
+    ensures part { OnErr result (AddsPart (K.taken k.old) (K.taken k.new) (layout (in_turn (after mark T.tokens) (map T.view parts.now)))) }
     ensures cause { HasCause (K.faults k.old) (K.faults k.new) result StoreFault.Failed }
 {
     for part in parts {
-        put_behind(mark, part, k)?;
+        put_after(mark, part, k)?;
     }
     Ok(())
 }
 
-/// Writes a mark and a part behind it.
-pub(crate) fn put_behind<T: Put, K: Sink>(mark: u8, part: &T, k: &mut K) -> Result<(), StoreFault>
-    ensures whole { OnOk result (Adds (K.taken k.old) (K.taken k.new) (layout (behind mark T.tokens (T.view part.now)))) }
-    ensures part { OnErr result (AddsPart (K.taken k.old) (K.taken k.new) (layout (behind mark T.tokens (T.view part.now)))) }
+/// Writes a mark and a part after it.
+pub(crate) fn put_after<T: Put, K: Sink>(mark: u8, part: &T, k: &mut K) -> Result<(), StoreFault>
+    ensures whole { OnOk result (Adds (K.taken k.old) (K.taken k.new) (layout (after mark T.tokens (T.view part.now)))) }
+    ensures part { OnErr result (AddsPart (K.taken k.old) (K.taken k.new) (layout (after mark T.tokens (T.view part.now)))) }
     ensures cause { HasCause (K.faults k.old) (K.faults k.new) result StoreFault.Failed }
 {
     put_tokens(&[Piece::Mark(mark)], k)?;
@@ -74,7 +74,7 @@ pub(crate) fn put_separated<T: Put, K: Sink>(
 {
     if let [first, rest @ ..] = parts {
         first.put(k)?;
-        put_each_behind(mark, rest, k)?;
+        put_each_after(mark, rest, k)?;
     }
     Ok(())
 }
@@ -95,19 +95,19 @@ pub(crate) fn put_braced<T: Put, K: Sink>(parts: &List<T>, k: &mut K) -> Result<
     Ok(())
 }
 
-/// Writes a part that may be absent behind a mark.
-pub(crate) fn put_if_there_behind<T: Put, K: Sink>(
+/// Writes a part that may be absent after a mark.
+pub(crate) fn put_if_there_after<T: Put, K: Sink>(
     mark: u8,
     part: &Option<T>,
     k: &mut K,
 ) -> Result<(), StoreFault>
-    ensures whole { OnOk result (Adds (K.taken k.old) (K.taken k.new) (layout (if_there (behind mark T.tokens) (option_map T.view part.now)))) }
-    ensures part { OnErr result (AddsPart (K.taken k.old) (K.taken k.new) (layout (if_there (behind mark T.tokens) (option_map T.view part.now)))) }
+    ensures whole { OnOk result (Adds (K.taken k.old) (K.taken k.new) (layout (if_there (after mark T.tokens) (option_map T.view part.now)))) }
+    ensures part { OnErr result (AddsPart (K.taken k.old) (K.taken k.new) (layout (if_there (after mark T.tokens) (option_map T.view part.now)))) }
     ensures cause { HasCause (K.faults k.old) (K.faults k.new) result StoreFault.Failed }
 {
     match part {
         None => {}
-        Some(part) => put_behind(mark, part, k)?,
+        Some(part) => put_after(mark, part, k)?,
     }
     Ok(())
 }

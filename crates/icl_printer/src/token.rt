@@ -1,8 +1,8 @@
-// Single tokens, each with the blank behind it.
+// Single tokens, each with the blank after it.
 ghost use Rattle.std.specs.Prelude.{◌≡◌, OnOk, OnErr, map};
 ghost use Rattle.ij_io.specs.Bytes.{Adds, AddsPart};
 ghost use Rattle.ij_io.specs.Causes.{HasCause};
-ghost use Rattle.icl_printer.specs.Layout.{layout, gap_behind, with_blank};
+ghost use Rattle.icl_printer.specs.Layout.{layout, gap_after, with_blank};
 ghost use Rattle.icl_printer.specs.Pieces.{spelled};
 
 use icl_lexer::SmallText;
@@ -24,9 +24,9 @@ pub(crate) enum Piece<'a> {
     Param(&'a SmallText),
 }
 
-/// The blank behind a mark: a line end behind `;`, `{` and `}`, and a space behind any other.
-fn gap_behind(mark: u8) -> u8
-    ensures { result ≡ gap_behind mark }
+/// The blank after a mark: a line end after `;`, `{` and `}`, and a space after any other.
+fn gap_after(mark: u8) -> u8
+    ensures { result ≡ gap_after mark }
 {
     match mark {
         b';' | b'{' | b'}' => b'\n',
@@ -34,7 +34,7 @@ fn gap_behind(mark: u8) -> u8
     }
 }
 
-/// Writes a token and the blank behind it.
+/// Writes a token and the blank after it.
 #[tactic(auto, unfolding(ij_io::specs::Words::words_text))]
 fn put_token<K: Sink>(piece: &Piece, k: &mut K) -> Result<(), StoreFault>
     ensures whole { OnOk result (Adds (K.taken k.old) (K.taken k.new) (with_blank (spelled piece.now))) }
@@ -44,7 +44,7 @@ fn put_token<K: Sink>(piece: &Piece, k: &mut K) -> Result<(), StoreFault>
     match piece {
         Piece::Word(word) => put_words(k, &[Word::Text(word), Word::Text(b" ")]),
         Piece::Name(name) => put_words(k, &[Word::Text(name.as_slice()), Word::Text(b" ")]),
-        Piece::Mark(mark) => k.write(&[*mark, gap_behind(*mark)]),
+        Piece::Mark(mark) => k.write(&[*mark, gap_after(*mark)]),
         Piece::Decimal(n) => put_words(k, &[Word::Number(u64::from(*n)), Word::Text(b" ")]),
         Piece::Sized(text) => put_words(k, &[Word::Text(text.as_slice()), Word::Text(b" ")]),
         Piece::Quoted(text) => put_words(
@@ -66,7 +66,7 @@ fn put_token<K: Sink>(piece: &Piece, k: &mut K) -> Result<(), StoreFault>
     }
 }
 
-/// Writes tokens, each with the blank behind it.
+/// Writes tokens, each with the blank after it.
 pub(crate) fn put_tokens<K: Sink>(pieces: &[Piece], k: &mut K) -> Result<(), StoreFault>
     ensures whole { OnOk result (Adds (K.taken k.old) (K.taken k.new) (layout (map spelled pieces.now))) }
     ensures part { OnErr result (AddsPart (K.taken k.old) (K.taken k.new) (layout (map spelled pieces.now))) }

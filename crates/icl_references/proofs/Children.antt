@@ -60,13 +60,13 @@ module _ (p : ℕ × Frame → Bool) where
   abbrev last_one : ℕ → Frame → Option ℕ
   last_one n f = cond (p (n, f)) (Some n) None
 
-  one_behind : (s : ℕ) (fs : List Frame) (f : Frame) → found s (fs ++ f ∷ []) ≡ or_else (found s fs) (last_one (s + length fs) f)
-  one_behind s [] f = let z : s + 0 ≡ s = omega arith in rw z (by_test (p (s, f)))
+  one_after : (s : ℕ) (fs : List Frame) (f : Frame) → found s (fs ++ f ∷ []) ≡ or_else (found s fs) (last_one (s + length fs) f)
+  one_after s [] f = let z : s + 0 ≡ s = omega arith in rw z (by_test (p (s, f)))
     where
       by_test : (b : Bool) → option_map (λ (c : ℕ × Frame). c.0) (cond b (Some (s, f)) None) ≡ cond b (Some s) None
       by_test true = refl
       by_test false = refl
-  one_behind s (g ∷ fs) f = by_test (p (s, g)) (one_behind (s + 1) fs f)
+  one_after s (g ∷ fs) f = by_test (p (s, g)) (one_after (s + 1) fs f)
     where
       by_test : (b : Bool) → found (s + 1) (fs ++ f ∷ []) ≡ or_else (found (s + 1) fs) (last_one (s + 1 + length fs) f)
           → option_map (λ (c : ℕ × Frame). c.0) (cond b (Some (s, g)) (find p (enumerate_from (s + 1) (fs ++ f ∷ [])))) ≡ or_else (option_map (λ (c : ℕ × Frame). c.0) (cond b (Some (s, g)) (find p (enumerate_from (s + 1) fs)))) (last_one (s + length (g ∷ fs)) f)
@@ -83,7 +83,7 @@ or_none (Some n) = refl
 module _ (fs : List Frame) (f : Frame) (old new : List Scope) (h : AreAllChildren fs old) where
   pub top_more : f.parent ≡ None → AreAllChildren (fs ++ f ∷ []) old
   top_more top cell c lt e name =
-      h cell c lt e name ∙ sym (one_behind (is_child_cell cell name) 0 fs f ∙ ap (λ (o : Option ℕ). or_else (found (is_child_cell cell name) 0 fs) (cond (is_in o cell && bytes_eq name f.name) (Some (0 + length fs)) None)) top ∙ or_none (found (is_child_cell cell name) 0 fs))
+      h cell c lt e name ∙ sym (one_after (is_child_cell cell name) 0 fs f ∙ ap (λ (o : Option ℕ). or_else (found (is_child_cell cell name) 0 fs) (cond (is_in o cell && bytes_eq name f.name) (Some (0 + length fs)) None)) top ∙ or_none (found (is_child_cell cell name) 0 fs))
 
   pub child_more : (parent n : ℕ) (name : List ℕ) → f.parent ≡ Some parent → f.name ≡ name → n ≡ length fs → length new ≡ length old → IsChildAdded old new parent name n → AreAllChildren (fs ++ f ∷ []) new
   child_more parent n name p e m long added cell d lt is asked =
@@ -96,4 +96,4 @@ module _ (fs : List Frame) (f : Frame) (old new : List Scope) (h : AreAllChildre
       ∙ ap (λ (x : List ℕ). or_else o (cond (parent == cell && bytes_eq asked x) (Some n) None)) (sym e)
       ∙ ap (λ (x : Option ℕ). or_else o (cond (is_in x cell && bytes_eq asked f.name) (Some n) None)) (sym p)
       ∙ ap (λ (x : ℕ). or_else o (cond (is_in f.parent cell && bytes_eq asked f.name) (Some x) None)) k
-      ∙ sym (one_behind (is_child_cell cell asked) 0 fs f)
+      ∙ sym (one_after (is_child_cell cell asked) 0 fs f)

@@ -37,9 +37,9 @@ module _ (name : List ℕ) where
   abbrev pub is_named : Member → Bool
   is_named m = is_signal m.item.what && bytes_eq name m.item.name
 
-  behind : (n : ℕ) (m : Member) (ms : List Member) (k : Option ℕ) → is_named m ≡ false → Finds k (find is_named ms) ms (suc n) → Finds k (find is_named (m ∷ ms)) (m ∷ ms) n
-  behind n m ms None e h = rw e h
-  behind n m ms (Some k) e h = record {
+  after : (n : ℕ) (m : Member) (ms : List Member) (k : Option ℕ) → is_named m ≡ false → Finds k (find is_named ms) ms (suc n) → Finds k (find is_named (m ∷ ms)) (m ∷ ms) n
+  after n m ms None e h = rw e h
+  after n m ms (Some k) e h = record {
     place = suc h.place;
     number = let f = h.number in omega (arith, f);
     there = let f = h.there in omega (arith, f);
@@ -51,7 +51,7 @@ module _ (name : List ℕ) where
 
   by_name : (n : ℕ) (m : Member) (ms : List Member) (k : Option ℕ) (b : Bool) → is_named m ≡ b → Finds k (find is_named ms) ms (suc n) → Finds (cond b (Some n) k) (find is_named (m ∷ ms)) (m ∷ ms) n
   by_name n m ms k true e h = first n m ms e
-  by_name n m ms k false e h = behind n m ms k e h
+  by_name n m ms k false e h = after n m ms k e h
 
   pub finds : (n : ℕ) (items : List SeenItem) (bs : List Bounds) → Finds (part_from n is_signal items name) (find is_named (members_from n (parts_in items) bs)) (members_from n (parts_in items) bs) n
   finds n [] bs = refl

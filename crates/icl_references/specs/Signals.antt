@@ -1,5 +1,5 @@
 -- What a signal names, bit by bit (IEEE 1687-2014, ICL: scan sources, data signals, aliases and control signals). The order of
--- faults is: a name that isn't there, a wrong kind, a bad range; a width that differs comes behind the whole list.
+-- faults is: a name that isn't there, a wrong kind, a bad range; a width that differs comes after the whole list.
 use Rattle.std.specs.Prelude.{ℕ, ◌==◌, Bool, true, false, not, ◌&&◌, ◌||◌, cond, List, [], ◌∷◌, map, length, Option, Some, None, is_some, unwrap_or, Ok, Err}
 use Rattle.std.specs.List.{list_all}
 use Rattle.ij_bits.specs.BitLists.{flip_if}

@@ -75,6 +75,6 @@ abbrev pub IsChildAdded : List Scope → List Scope → ℕ → List ℕ → ℕ
 IsChildAdded old new parent name number = (cell : ℕ) (c d : Scope) → cell < length old → c ≡ get_or old cell c → d ≡ get_or new cell d
     → (n : List ℕ) → entry_of d n ≡ or_else (entry_of c n) (cond (parent == cell && bytes_eq n name) (Some number) None)
 
--- a cell more, behind all that were there, is among the children
+-- a cell more, after all that were there, is among the children
 abbrev pub IsFrameAdded : List Scope → List Scope → Frame → ℕ → Type 0
 IsFrameAdded old new frame number = (frames : List Frame) → AreAllChildren frames old → number ≡ length frames → AreAllChildren (frames ++ frame ∷ []) new

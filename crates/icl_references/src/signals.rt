@@ -32,7 +32,7 @@ fn is_scan_out_of(b: Bounds, i: Bounds) -> bool
     i.right == b.right && (i.left == b.right || i.left == b.left)
 }
 
-/// Looks at the range behind a register where its scan-out is wanted.
+/// Looks at the range after a register where its scan-out is wanted.
 fn register_named(
     alloc: Global,
     tables: &Tables,
@@ -57,7 +57,7 @@ fn register_named(
     }
 }
 
-/// Looks at the range behind what a scan signal names.
+/// Looks at the range after what a scan signal names.
 fn scan_named(
     alloc: Global,
     tables: &Tables,

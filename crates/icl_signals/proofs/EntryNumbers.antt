@@ -57,15 +57,15 @@ module _ (R : Entry → Entry → Type 0) (test : Entry → Bool) (across : (e f
   all_both P [] ys p q = q
   all_both P (x ∷ xs) ys p q = (p.0, all_both P xs ys p.1 q)
 
-  all_behind : (t s i : ℕ) (ps : List PartOf) → t < s → AllByRecursion (λ (e : Entry). t < e.cell) (map (entry_of s) (enumerate_from i ps))
-  all_behind t s i [] lt = tt
-  all_behind t s i (p ∷ ps) lt = (lt, all_behind t s (i + 1) ps lt)
+  all_after : (t s i : ℕ) (ps : List PartOf) → t < s → AllByRecursion (λ (e : Entry). t < e.cell) (map (entry_of s) (enumerate_from i ps))
+  all_after t s i [] lt = tt
+  all_after t s i (p ∷ ps) lt = (lt, all_after t s (i + 1) ps lt)
 
   later_cells : (t s : ℕ) (cells : List CellOf) → t < s → AllByRecursion (λ (e : Entry). t < e.cell) (flat_map entries_in (enumerate_from s cells))
   later_cells t s [] lt = tt
   later_cells t s (c ∷ cells) lt =
       all_both (λ (e : Entry). t < e.cell) (entries_in (s, c)) (flat_map entries_in (enumerate_from (s + 1) cells))
-      (all_behind t s 0 c.parts lt) (later_cells t (s + 1) cells (omega (arith, lt)))
+      (all_after t s 0 c.parts lt) (later_cells t (s + 1) cells (omega (arith, lt)))
 
   crossing : (s : ℕ) (es fs : List Entry) → AllByRecursion (λ (e : Entry). e.cell ≡ s) es
       → AllByRecursion (λ (f : Entry). s < f.cell) fs → AllByRecursion (λ e. AllByRecursion (R e) fs) es

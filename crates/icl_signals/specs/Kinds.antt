@@ -1,4 +1,4 @@
--- What the network numbers (IEEE 1687-2014, ICL: ScanRegister, ScanMux, data ports, Alias), and how many stand in front.
+-- What the network numbers (IEEE 1687-2014, ICL: ScanRegister, ScanMux, data ports, Alias), and how many stand before.
 use Rattle.std.specs.Prelude.{ℕ, ◌+◌, Bool, true, false, cond, List, [], ◌∷◌, get_or}
 use Rattle.icl_elab.specs.WellFormed.{is_register, is_mux, is_thing, is_data_out, is_data_in}
 use Rattle.icl_references.specs.Roles.{Role, ScanInput, ScanOutput, DataInput, DataOutput, PartOf, CellOf, part_width}
@@ -27,20 +27,20 @@ is_port role = false
 abbrev pub one_if : Bool → ℕ
 one_if b = cond b 1 0
 
--- for each item, how many that pass a test stand in front of it, behind a number of earlier ones
-abbrev pub in_front : {A : Type 0} → (A → Bool) → ℕ → List A → List ℕ
-in_front test n [] = []
-in_front test n (x ∷ xs) = n ∷ in_front test (n + one_if (test x)) xs
+-- for each item, how many that pass a test stand before it, after a number of earlier ones
+abbrev pub before : {A : Type 0} → (A → Bool) → ℕ → List A → List ℕ
+before test n [] = []
+before test n (x ∷ xs) = n ∷ before test (n + one_if (test x)) xs
 
 -- how many there are with these
 abbrev pub with_all : {A : Type 0} → (A → Bool) → ℕ → List A → ℕ
 with_all test n [] = n
 with_all test n (x ∷ xs) = with_all test (n + one_if (test x)) xs
 
--- for each part of each cell, how many of a kind stand in front of it in the whole hierarchy
+-- for each part of each cell, how many of a kind stand before it in the whole hierarchy
 abbrev pub numbers_from : Kind → ℕ → List CellOf → List (List ℕ)
 numbers_from kind n [] = []
-numbers_from kind n (c ∷ cs) = in_front (is_of kind) n c.parts ∷ numbers_from kind (with_all (is_of kind) n c.parts) cs
+numbers_from kind n (c ∷ cs) = before (is_of kind) n c.parts ∷ numbers_from kind (with_all (is_of kind) n c.parts) cs
 
 -- the number at a part, 0 for one that isn't there
 abbrev pub number_at : List (List ℕ) → ℕ → ℕ → ℕ
@@ -52,20 +52,20 @@ number_at table cell part = get_or (get_or table cell []) part 0
 abbrev pub port_bits : PartOf → ℕ
 port_bits p = cond (is_port p.role) (part_width p) 0
 
--- for each part how many bits of ports stand in front of it, behind a number of earlier ones
-abbrev pub bits_in_front : ℕ → List PartOf → List ℕ
-bits_in_front n [] = []
-bits_in_front n (p ∷ ps) = n ∷ bits_in_front (n + port_bits p) ps
+-- for each part how many bits of ports stand before it, after a number of earlier ones
+abbrev pub bits_before : ℕ → List PartOf → List ℕ
+bits_before n [] = []
+bits_before n (p ∷ ps) = n ∷ bits_before (n + port_bits p) ps
 
 -- how many there are with these parts
 abbrev pub with_bits : ℕ → List PartOf → ℕ
 with_bits n [] = n
 with_bits n (p ∷ ps) = with_bits (n + port_bits p) ps
 
--- for each part of each cell, how many bits of ports stand in front of it in the whole hierarchy
+-- for each part of each cell, how many bits of ports stand before it in the whole hierarchy
 abbrev pub places_from : ℕ → List CellOf → List (List ℕ)
 places_from n [] = []
-places_from n (c ∷ cs) = bits_in_front n c.parts ∷ places_from (with_bits n c.parts) cs
+places_from n (c ∷ cs) = bits_before n c.parts ∷ places_from (with_bits n c.parts) cs
 
 -- how many there are with these cells
 abbrev pub all_bits : ℕ → List CellOf → ℕ

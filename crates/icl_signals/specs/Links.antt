@@ -19,7 +19,7 @@ named_link link parts = find (λ p. is_access_link p.role && bytes_eq link p.nam
 abbrev pub seen_ends : NetworkEnds → EndsOf
 seen_ends e = record { entry = e.entry; exit = e.exit; exit_place = e.exit_place }
 
--- the one number of a list, where one was found in front of it
+-- the one number of a list, where one was found before it
 abbrev pub only_with : Option ℕ → List ℕ → Option ℕ
 only_with None ports = only ports
 only_with (Some port) ports = cond (list_all (λ p. p == port) ports) (Some port) None

@@ -33,7 +33,7 @@ pub(crate) fn next(number: u32) -> Result<u32, OutOfMemory>
     }
 }
 
-/// Parts with those of a kind in a cell behind them.
+/// Parts with those of a kind in a cell after them.
 fn with_cell<'a>(
     kind: Kind,
     number: u32,

@@ -14,7 +14,7 @@ use ij_bits::OutOfMemory;
 use std::alloc::Global;
 
 /// Where a trace ends that goes on, after so many moves, with a bit whose end is known.
-fn behind(moves: u64, inverted: bool, found: Found) -> Option<Found>
+fn after(moves: u64, inverted: bool, found: Found) -> Option<Found>
     ensures looks { IfSome result (λ f. f.looks ≡ moves + found.looks) }
     ensures end { IfSome result (λ f. f.end ≡ turned_end inverted found.end) }
 {
@@ -37,7 +37,7 @@ fn find(wiring: &Wiring, ends: &[Option<Note>], start: Wire) -> Option<Found>
     let mut until = 1u64;
     for moves in 0..u64::MAX {
         if let Some(found) = known(wiring, ends, wire) {
-            return behind(moves, inverted, found);
+            return after(moves, inverted, found);
         }
         match one_move(wiring, inverted, wire) {
             Next::Ended(end) => {

@@ -3,7 +3,7 @@ ghost use Rattle.std.specs.Prelude.{◌≡◌, ◌∷◌, [], map, filter, IfOk}
 ghost use Rattle.icl_declarations.specs.Faults.{each};
 ghost use Rattle.icl_elab.specs.WellFormed.{is_data_out, is_instrument};
 ghost use Rattle.icl_references.specs.Roles.{seen_cell};
-ghost use Rattle.icl_signals.specs.Refusals.{Gives, behind};
+ghost use Rattle.icl_signals.specs.Refusals.{Gives, after};
 ghost use Rattle.icl_signals.specs.Wirings.{IsWiring, cells_of};
 ghost use Rattle.icl_signals.specs.Told.{seen_entry};
 ghost use Rattle.icl_signals.specs.Inside.{numbered};
@@ -127,7 +127,7 @@ fn with_instrument(
     found: List<Inst>,
 ) -> Result<List<Inst>, ConnectFault>
     requires { IsWiring wiring.now }
-    ensures { Gives (λ all. map seen_inst all.items) result (behind (map seen_inst found.items) (each (instrument_of (cells_of wiring.now) wiring.now.entry) (filter (λ c. is_instrument c.1) ((number, seen_cell cell.now) ∷ [])))) }
+    ensures { Gives (λ all. map seen_inst all.items) result (after (map seen_inst found.items) (each (instrument_of (cells_of wiring.now) wiring.now.entry) (filter (λ c. is_instrument c.1) ((number, seen_cell cell.now) ∷ [])))) }
 {
     let mut all = found;
     if is_instrument(cell) {

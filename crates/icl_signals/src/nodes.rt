@@ -31,7 +31,7 @@ fn path_at(nodes: &[Node], node: u32) -> &[Name]
     }
 }
 
-/// The path of a cell, behind those of the cells before it.
+/// The path of a cell, after those of the cells before it.
 fn path_of(alloc: Global, nodes: &[Node], cell: &Cell) -> Result<List<Name>, OutOfMemory>
     ensures { IfOk result (λ path. map (λ name. name.items) path.items ≡ path_with (map (λ node. node.path) (map seen_node nodes.now)) (seen_cell cell.now) cell.now.parent) }
 {

@@ -1,7 +1,7 @@
-// The numbers of registers, multiplexers, things, instruments and their outputs: for each, how many of its kind stand in front.
+// The numbers of registers, multiplexers, things, instruments and their outputs: for each, how many of its kind stand before.
 ghost use Rattle.std.specs.Prelude.{◌≡◌, ◌+◌, map, get_or, IfOk};
 ghost use Rattle.icl_references.specs.Roles.{seen_part, seen_cell};
-ghost use Rattle.icl_signals.specs.Kinds.{is_of, one_if, in_front, with_all, numbers_from, number_at};
+ghost use Rattle.icl_signals.specs.Kinds.{is_of, one_if, before, with_all, numbers_from, number_at};
 
 use crate::parts::{Kind, is_of};
 use icl_elab::{Cell, Part};
@@ -21,17 +21,22 @@ fn more(count: u32, is_one: bool) -> Result<u32, OutOfMemory>
     }
 }
 
-/// For each part how many of a kind stand in front of it, and how many there are behind the last one.
+/// For each part how many of a kind stand before it, and how many there are after the last one.
 #[derive(Drop)]
-pub(crate) struct InFront {
+pub(crate) struct Before {
     /// For each part.
     numbers: Vec<u32>,
-    /// Behind the last one.
+    /// After the last one.
     count: u32,
 }
 
-fn in_front(alloc: Global, kind: Kind, count: u32, parts: &[Part]) -> Result<InFront, OutOfMemory>
-    ensures numbers { IfOk result (λ f. f.numbers.items ≡ in_front (is_of kind) count (map seen_part parts.now)) }
+fn counts_before(
+    alloc: Global,
+    kind: Kind,
+    count: u32,
+    parts: &[Part],
+) -> Result<Before, OutOfMemory>
+    ensures numbers { IfOk result (λ f. f.numbers.items ≡ before (is_of kind) count (map seen_part parts.now)) }
     ensures count { IfOk result (λ f. f.count ≡ with_all (is_of kind) count (map seen_part parts.now)) }
 {
     let mut numbers = Vec::new(alloc);
@@ -40,13 +45,13 @@ fn in_front(alloc: Global, kind: Kind, count: u32, parts: &[Part]) -> Result<InF
         numbers.push(next)?;
         next = more(next, is_of(kind, &part.body))?;
     }
-    Ok(InFront {
+    Ok(Before {
         numbers,
         count: next,
     })
 }
 
-/// For each part of each cell how many of a kind stand in front of it in the hierarchy.
+/// For each part of each cell how many of a kind stand before it in the hierarchy.
 pub(crate) fn numbers_of(
     alloc: Global,
     kind: Kind,
@@ -57,28 +62,28 @@ pub(crate) fn numbers_of(
     let mut table = Vec::new(alloc);
     let mut count = 0;
     for cell in cells {
-        let found = in_front(alloc, kind, count, cell.parts.as_slice())?;
+        let found = counts_before(alloc, kind, count, cell.parts.as_slice())?;
         count = found.count;
         table.push(found.numbers)?;
     }
     Ok(table)
 }
 
-/// For each part of each cell how many outputs stand in front of it in that cell.
+/// For each part of each cell how many outputs stand before it in that cell.
 pub(crate) fn outputs_of(alloc: Global, cells: &[Cell]) -> Result<Vec<Vec<u32>>, OutOfMemory>
-    ensures { IfOk result (λ table. map (λ row. row.items) table.items ≡ map (λ c. in_front (is_of Kind.Output) 0 c.parts) (map seen_cell cells.now)) }
+    ensures { IfOk result (λ table. map (λ row. row.items) table.items ≡ map (λ c. before (is_of Kind.Output) 0 c.parts) (map seen_cell cells.now)) }
 {
     let mut table = Vec::new(alloc);
     for cell in cells {
-        let found = in_front(alloc, Kind::Output, 0, cell.parts.as_slice())?;
+        let found = counts_before(alloc, Kind::Output, 0, cell.parts.as_slice())?;
         table.push(found.numbers)?;
     }
     Ok(table)
 }
 
-/// For each cell how many instruments stand in front of it.
+/// For each cell how many instruments stand before it.
 pub(crate) fn instruments_of(alloc: Global, flags: &[bool]) -> Result<Vec<u32>, OutOfMemory>
-    ensures { IfOk result (λ numbers. numbers.items ≡ in_front (λ b. b) 0 flags.now) }
+    ensures { IfOk result (λ numbers. numbers.items ≡ before (λ b. b) 0 flags.now) }
 {
     let mut numbers = Vec::new(alloc);
     let mut next = 0;

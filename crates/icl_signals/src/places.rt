@@ -1,7 +1,7 @@
 // Places in a table for the bits of ports. An entry of the table says which bit it is of, so no answer depends on these numbers.
 ghost use Rattle.std.specs.Prelude.{◌≡◌, ◌+◌, map, IfOk};
 ghost use Rattle.icl_references.specs.Roles.{seen_part, seen_cell};
-ghost use Rattle.icl_signals.specs.Kinds.{number_at, port_bits, bits_in_front, with_bits, places_from, all_bits};
+ghost use Rattle.icl_signals.specs.Kinds.{number_at, port_bits, bits_before, with_bits, places_from, all_bits};
 
 use crate::numbers::number_at;
 use crate::parts::{is_port, width_of};
@@ -10,16 +10,16 @@ use icl_elab::{Cell, Part};
 use ij_bits::OutOfMemory;
 use std::alloc::Global;
 
-/// For each part how many bits of ports stand in front of it, and how many there are behind the last one.
+/// For each part how many bits of ports stand before it, and how many there are after the last one.
 #[derive(Drop)]
-pub(crate) struct BitsInFront {
+pub(crate) struct BitsBefore {
     /// For each part.
     numbers: Vec<u32>,
-    /// Behind the last one.
+    /// After the last one.
     count: u32,
 }
 
-/// For each part of each cell how many bits of ports stand in front of it, and how many there are.
+/// For each part of each cell how many bits of ports stand before it, and how many there are.
 #[derive(Drop)]
 pub struct Places {
     /// For each part of each cell.
@@ -49,8 +49,8 @@ fn added(count: u32, bits: u32) -> Result<u32, OutOfMemory>
     }
 }
 
-fn bits_in_front(alloc: Global, count: u32, parts: &[Part]) -> Result<BitsInFront, OutOfMemory>
-    ensures numbers { IfOk result (λ f. f.numbers.items ≡ bits_in_front count (map seen_part parts.now)) }
+fn bits_before(alloc: Global, count: u32, parts: &[Part]) -> Result<BitsBefore, OutOfMemory>
+    ensures numbers { IfOk result (λ f. f.numbers.items ≡ bits_before count (map seen_part parts.now)) }
     ensures count { IfOk result (λ f. f.count ≡ with_bits count (map seen_part parts.now)) }
 {
     let mut numbers = Vec::new(alloc);
@@ -59,7 +59,7 @@ fn bits_in_front(alloc: Global, count: u32, parts: &[Part]) -> Result<BitsInFron
         numbers.push(next)?;
         next = added(next, port_bits(part)?)?;
     }
-    Ok(BitsInFront {
+    Ok(BitsBefore {
         numbers,
         count: next,
     })
@@ -73,7 +73,7 @@ pub(crate) fn places_of(alloc: Global, cells: &[Cell]) -> Result<Places, OutOfMe
     let mut numbers = Vec::new(alloc);
     let mut count = 0;
     for cell in cells {
-        let found = bits_in_front(alloc, count, cell.parts.as_slice())?;
+        let found = bits_before(alloc, count, cell.parts.as_slice())?;
         count = found.count;
         numbers.push(found.numbers)?;
     }

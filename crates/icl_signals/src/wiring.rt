@@ -2,7 +2,7 @@
 ghost use Rattle.std.specs.Prelude.{◌≡◌, ◌+◌, map, sum_by, IfOk};
 ghost use Rattle.icl_references.specs.Roles.{part_width, seen_part, seen_cell, seen_hier};
 ghost use Rattle.icl_signals.specs.Wirings.{IsWiring, cells_of};
-ghost use Rattle.icl_signals.specs.Kinds.{in_front, is_of, numbers_from};
+ghost use Rattle.icl_signals.specs.Kinds.{before, is_of, numbers_from};
 ghost use Rattle.icl_signals.specs.Traces.{signal_bits};
 
 use crate::found::Note;
@@ -21,15 +21,15 @@ pub struct Wiring<'a> {
     pub(crate) hier: &'a Hier,
     /// Which of its cells are instruments.
     pub(crate) instruments: Vec<bool>,
-    /// For each cell how many instruments stand in front of it.
+    /// For each cell how many instruments stand before it.
     pub(crate) instrument_numbers: Vec<u32>,
-    /// For each part of each cell how many registers stand in front of it.
+    /// For each part of each cell how many registers stand before it.
     pub(crate) registers: Vec<Vec<u32>>,
     /// The same of multiplexers.
     pub(crate) muxes: Vec<Vec<u32>>,
     /// The same of what procedures may name.
     pub(crate) things: Vec<Vec<u32>>,
-    /// For each part of each cell how many outputs stand in front of it in that cell.
+    /// For each part of each cell how many outputs stand before it in that cell.
     pub(crate) outputs: Vec<Vec<u32>>,
     /// Where the network begins.
     pub(crate) entry: Wire,
@@ -76,13 +76,13 @@ fn count_bits(cells: &[Cell]) -> Result<u64, OutOfMemory>
 /// The numbers of parts.
 #[derive(Drop)]
 struct PartNumbers {
-    /// For each part of each cell how many registers stand in front of it.
+    /// For each part of each cell how many registers stand before it.
     registers: Vec<Vec<u32>>,
     /// The same of multiplexers.
     muxes: Vec<Vec<u32>>,
     /// The same of what procedures may name.
     things: Vec<Vec<u32>>,
-    /// For each part of each cell how many outputs stand in front of it in that cell.
+    /// For each part of each cell how many outputs stand before it in that cell.
     outputs: Vec<Vec<u32>>,
 }
 
@@ -91,7 +91,7 @@ fn part_numbers(alloc: Global, cells: &[Cell]) -> Result<PartNumbers, OutOfMemor
     ensures registers { IfOk result (λ n. map (λ row. row.items) n.registers.items ≡ numbers_from Kind.Register 0 (map seen_cell cells.now)) }
     ensures muxes { IfOk result (λ n. map (λ row. row.items) n.muxes.items ≡ numbers_from Kind.Mux 0 (map seen_cell cells.now)) }
     ensures things { IfOk result (λ n. map (λ row. row.items) n.things.items ≡ numbers_from Kind.Thing 0 (map seen_cell cells.now)) }
-    ensures outputs { IfOk result (λ n. map (λ row. row.items) n.outputs.items ≡ map (λ c. in_front (is_of Kind.Output) 0 c.parts) (map seen_cell cells.now)) }
+    ensures outputs { IfOk result (λ n. map (λ row. row.items) n.outputs.items ≡ map (λ c. before (is_of Kind.Output) 0 c.parts) (map seen_cell cells.now)) }
 {
     let registers = numbers_of(alloc, Kind::Register, cells)?;
     let (registers, muxes) = beside(registers, numbers_of(alloc, Kind::Mux, cells))?;

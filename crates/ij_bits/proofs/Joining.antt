@@ -103,7 +103,7 @@ pub copied_step : (new old other : List ℕ) (at from i n word k : ℕ) → ((j 
     → ((j : ℕ) → j < at + 64 * i → word_bit new j ≡ word_bit old j) → ((j : ℕ) → j < 64 → from + 64 * i + j < 64 * length other → (bit_at word j == 1) ≡ word_bit other (from + 64 * i + j))
     → ((j : ℕ) → j < 64 * i → j < n → word_bit old (at + j) ≡ word_bit other (from + j)) → at + n ≤ 64 * length old → from + n ≤ 64 * length other
     → k < 64 * (i + 1) → k < n → word_bit new (at + k) ≡ word_bit other (from + k)
-copied_step new old other at from i n word k put below read copied within there behind inner =
+copied_step new old other at from i n word k put below read copied within there following inner =
     elim (cases_lt k (64 * i)) [
       | inl front ↦ below (at + k) (omega arith) ∙ copied k front inner
       | inr here ↦

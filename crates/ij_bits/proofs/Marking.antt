@@ -71,7 +71,7 @@ pub put_front : (words old other marks : List ℕ) (i n m mask word k : ℕ) →
     → ((j : ℕ) → j < 64 * i → j < n → word_bit words j ≡ cond (word_bit marks j) (word_bit other j) (word_bit old j))
     → ((j : ℕ) → 64 * i ≤ j → word_bit words j ≡ word_bit old j)
     → k < 64 * (i + 1) → k < n → word_bit (slice_set words i word) k ≡ cond (word_bit marks k) (word_bit other k) (word_bit old k)
-put_front words old other marks i n m mask word k there size marked merged front behind below within =
+put_front words old other marks i n m mask word k there size marked merged front following below within =
     elim (cases_lt k (64 * i)) [
       | inl before ↦
           let away : k / 64 ≢ i = omega arith in
@@ -83,13 +83,13 @@ put_front words old other marks i n m mask word k there size marked merged front
           word_bit-here words i word k there here ∙ merged j (omega arith)
           ∙ ap (λ t. cond t (bit_at (get_or other i 0) j == 1) (bit_at (get_or words i 0) j == 1)) (marked j (omega arith) ∙ ap (word_bit marks) at)
           ∙ ap (λ t. cond (word_bit marks k) t (bit_at (get_or words i 0) j == 1)) (own_bit other i k here)
-          ∙ ap (λ t. cond (word_bit marks k) (word_bit other k) t) (own_bit words i k here ∙ behind k after)
+          ∙ ap (λ t. cond (word_bit marks k) (word_bit other k) t) (own_bit words i k here ∙ following k after)
     ]
 
-pub put_behind : (words old other : List ℕ) (i n m mask word k : ℕ) → i < length words → m ≡ min (n - 64 * i) 64 → mask < 2 ^ m
+pub put_after : (words old other : List ℕ) (i n m mask word k : ℕ) → i < length words → m ≡ min (n - 64 * i) 64 → mask < 2 ^ m
     → ((j : ℕ) → j < 64 → (bit_at word j == 1) ≡ cond (bit_at mask j == 1) (bit_at (get_or other i 0) j == 1) (bit_at (get_or words i 0) j == 1))
     → ((j : ℕ) → n ≤ j → word_bit words j ≡ word_bit old j) → n ≤ k → word_bit (slice_set words i word) k ≡ word_bit old k
-put_behind words old other i n m mask word k there size small merged past beyond =
+put_after words old other i n m mask word k there size small merged past beyond =
     elim (eqb_tells (k / 64) i) [
       | inl same ↦
           let here : k / 64 ≡ i = same.1 in
@@ -169,7 +169,7 @@ whole xs n len = take_all (0 + n - 0) xs (omega arith)
 pub marked_at : (words old other marks : List ℕ) {old1 other1 marks1 : List ℕ} (count length_other length_marks n k : ℕ) → old1 ≡ old → other1 ≡ other → marks1 ≡ marks → n ≡ min count length_marks → length_other ≡ length_marks
     → ((j : ℕ) → j < n → word_bit words j ≡ cond (word_bit marks1 j) (word_bit other1 j) (word_bit old1 j)) → ((j : ℕ) → n ≤ j → word_bit words j ≡ word_bit old1 j) → k < count
     → get_or (first_bits words count) k false ≡ cond (get_or (first_bits marks length_marks) k false) (get_or (first_bits other length_other) k false) (get_or (first_bits old count) k false)
-marked_at words old other marks {old1} {other1} {marks1} count length_other length_marks n k is_old is_other is_marks size same front behind below =
+marked_at words old other marks {old1} {other1} {marks1} count length_other length_marks n k is_old is_other is_marks size same front following below =
     get_or-first_bits words count k false below
     ∙ elim (cases_lt k n) [
       | inl low ↦
@@ -181,6 +181,6 @@ marked_at words old other marks {old1} {other1} {marks1} count length_other leng
           ∙ ap (λ t. cond (get_or (first_bits marks length_marks) k false) t (word_bit old k)) (sym (get_or-first_bits other length_other k false (omega arith)))
           ∙ ap (λ t. cond (get_or (first_bits marks length_marks) k false) (get_or (first_bits other length_other) k false) t) (sym (get_or-first_bits old count k false below))
       | inr past ↦
-          behind k past ∙ ap (λ (ws : List ℕ). word_bit ws k) is_old ∙ sym (get_or-first_bits old count k false below)
+          following k past ∙ ap (λ (ws : List ℕ). word_bit ws k) is_old ∙ sym (get_or-first_bits old count k false below)
           ∙ ap (λ t. cond t (get_or (first_bits other length_other) k false) (get_or (first_bits old count) k false)) (sym (get_or_past (first_bits marks length_marks) k false (omega (arith, length-first_bits marks length_marks))))
     ]

@@ -27,7 +27,7 @@ hex_row bits zero n = []
 hex_row bits (suc d) zero = []
 hex_row bits (suc d) (suc n) = hex_digit bits d ∷ hex_row bits d n
 
--- a line of at most 64 of the lowest d digits, behind a line feed unless one byte is skipped
+-- a line of at most 64 of the lowest d digits, after a line feed unless one byte is skipped
 unfoldable pub hex_line : List Bool → ℕ → ℕ → List ℕ
 hex_line bits d skip = drop skip (10 ∷ hex_row bits d 64)
 
@@ -37,6 +37,6 @@ word_text (Text bytes) = bytes.now
 word_text (Number n) = decimal n
 word_text (Hex bits) = hex_text bits.now.items
 
--- words one behind the other
+-- words one after the other
 unfoldable pub words_text : List Word → List ℕ
 words_text words = flat_map word_text words

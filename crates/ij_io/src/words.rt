@@ -33,7 +33,7 @@ fn put_word<K: Sink>(k: &mut K, word: &Word<'_>) -> Result<(), StoreFault>
     }
 }
 
-/// Writes the words one behind the other, first to last, with nothing between them. It takes no memory of its own.
+/// Writes the words one after the other, first to last, with nothing between them. It takes no memory of its own.
 ///
 /// # Errors
 ///

@@ -84,7 +84,7 @@ pub cond_chosen : {A : Type 0} (b : Bool) (x y z : A) → cond b x y ≡ z → (
 cond_chosen true x y z h = inl (refl, h)
 cond_chosen false x y z h = inr (refl, h)
 
--- two cuts of a list: one lies in front of the other, or they are the same
+-- two cuts of a list: one lies before the other, or they are the same
 pub cuts : {T : Type 0} (ts us front back : List T) → ts ++ us ≡ front ++ back → ((w : List T) × (front ≡ ts ++ w)) ⊎ ((w : List T) × (ts ≡ front ++ w) × (back ≡ w ++ us))
 cuts [] us front back e = inl (front, refl)
 cuts (t ∷ ts) us [] back e = inr (t ∷ ts, refl, sym e)

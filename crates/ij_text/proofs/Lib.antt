@@ -1,7 +1,7 @@
 pub mod Numbering
 pub mod Numbers
 pub mod Widths
-pub mod Behind
+pub mod After
 pub mod OpenDigits
 pub mod EqualTexts
 pub mod Combinators

@@ -19,7 +19,7 @@ pub grows : (bs : List ℕ) (n : ℕ) → n ≤ decimal_from n bs
 grows [] n = omega arith
 grows (b ∷ bs) n = let one = next_grows n b in let others = grows bs (next_decimal n b) in omega (arith, one, others)
 
--- a text has no fewer bits than what stands behind some of its bytes
+-- a text has no fewer bits than what stands after some of its bytes
 pub fewer : (radix : Radix) (text : List ℕ) (k : ℕ) → length (text_bits radix (drop k text)) ≤ length (text_bits radix text)
 fewer radix text zero = omega arith
 fewer radix [] (suc k) = omega arith
@@ -50,7 +50,7 @@ one_is None = refl
 one_is (Some true) = refl
 one_is (Some false) = refl
 
--- open bits behind others, told by whether the bit is known
+-- open bits after others, told by whether the bit is known
 pub open_push : (vs cs : List Bool) (bit : Option Bool) (v c : Bool) → length vs ≡ length cs → v ≡ is_one bit → c ≡ is_some bit → open_bits (vs ++ v ∷ []) (cs ++ c ∷ []) ≡ open_bits vs cs ++ bit ∷ []
 open_push vs cs bit v c h is_v is_c =
     open_more vs cs v c h ∙ ap (λ (b : Option Bool). open_bits vs cs ++ b ∷ []) (ap (λ d. cond d (Some v) None) is_c ∙ ap (λ u. cond (is_some bit) (Some u) None) is_v ∙ known bit)

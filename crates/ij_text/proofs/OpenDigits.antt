@@ -1,4 +1,4 @@
--- Open bits behind others, those of a digit among them.
+-- Open bits after others, those of a digit among them.
 use Rattle.std.proofs.Common.{◌≡◌, ◌-◌, ◌/◌, ◌%◌, ◌^◌, ◌<◌, ◌≤◌, ◌==◌, ℕ, zero, suc, Bool, true, false, cond, List, [], ◌∷◌, ◌++◌, length, map, get_or, replicate, take, min, Option, Some, None, refl, sym, ap, ◌∙◌, arith, inl, inr, length-append, length-take}
 use Rattle.std.specs.List.{range_with_len}
 use Rattle.std.proofs.Math.Nat.{pow-suc}

@@ -17,11 +17,11 @@ hexadecimal = refl
 several_between : number_of_text (codes "1__0") ≡ Some (InDecimal 10)
 several_between = refl
 
-one_behind : number_of_text (codes "1_") ≡ None
-one_behind = refl
+one_after : number_of_text (codes "1_") ≡ None
+one_after = refl
 
-one_in_front : number_of_text (codes "0b_1") ≡ None
-one_in_front = refl
+one_before : number_of_text (codes "0b_1") ≡ None
+one_before = refl
 
 no_digit : number_of_text (codes "0x") ≡ None
 no_digit = refl

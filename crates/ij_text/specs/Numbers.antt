@@ -18,10 +18,10 @@ is_digit Ten b = is_ascii_digit b
 is_digit Two b = b == 48 || (b == 49 || b == 120)
 is_digit Sixteen b = is_ascii_hexdigit b || b == 120
 
--- digits and `_` (95), the last of them a digit; it is told whether a digit stands in front
+-- digits and `_` (95), the last of them a digit; it is told whether a digit stands before
 abbrev pub go_on : Radix → Bool → List ℕ → Bool
-go_on radix behind_digit [] = behind_digit
-go_on radix behind_digit (b ∷ bs) = cond (is_digit radix b) (go_on radix true bs) (b == 95 && go_on radix false bs)
+go_on radix after_digit [] = after_digit
+go_on radix after_digit (b ∷ bs) = cond (is_digit radix b) (go_on radix true bs) (b == 95 && go_on radix false bs)
 
 -- a digit, and then digits and `_`, the last of them a digit
 abbrev pub are_digits : Radix → List ℕ → Bool
@@ -71,7 +71,7 @@ value_of Sixteen text = InBits (text_bits Sixteen text)
 abbrev pub said : Radix → List ℕ → Option Written
 said radix text = cond (are_digits radix text) (Some (value_of radix text)) None
 
--- the number that a text says, if it is one: behind `0b` (48, 98) and `0x` (48, 120) stand binary and hexadecimal digits
+-- the number that a text says, if it is one: after `0b` (48, 98) and `0x` (48, 120) stand binary and hexadecimal digits
 abbrev pub number_of_text : List ℕ → Option Written
 number_of_text [] = None
 number_of_text (a ∷ []) = said Ten (a ∷ [])

@@ -1,17 +1,17 @@
 -- How a text is cut into parts.
 use Rattle.std.specs.Prelude.{ℕ, ◌==◌, Bool, true, false, cond, List, [], ◌∷◌}
 
--- a byte in front of a list of texts belongs to the first of them
-abbrev pub in_front : ℕ → List (List ℕ) → List (List ℕ)
-in_front b [] = (b ∷ []) ∷ []
-in_front b (t ∷ ts) = (b ∷ t) ∷ ts
+-- a byte before a list of texts belongs to the first of them
+abbrev pub before : ℕ → List (List ℕ) → List (List ℕ)
+before b [] = (b ∷ []) ∷ []
+before b (t ∷ ts) = (b ∷ t) ∷ ts
 
 -- the texts between the bytes of one kind: one more than there are such bytes
 abbrev pub split : ℕ → List ℕ → List (List ℕ)
 split at [] = [] ∷ []
-split at (b ∷ bs) = cond (b == at) ([] ∷ split at bs) (in_front b (split at bs))
+split at (b ∷ bs) = cond (b == at) ([] ∷ split at bs) (before b (split at bs))
 
--- a byte in front of some words: a part of the first one, if this begins right behind it
+-- a byte before some words: a part of the first one, if this begins right after it
 abbrev pub longer : Bool → ℕ → List (List ℕ) → List (List ℕ)
 longer false b ws = (b ∷ []) ∷ ws
 longer true b [] = (b ∷ []) ∷ []

@@ -9,19 +9,19 @@ first_place = record { line = 1; col = 1 }
 abbrev pub no_place : Place
 no_place = record { line = 0; col = 0 }
 
--- behind a line feed (10) a line begins
+-- after a line feed (10) a line begins
 abbrev pub next_place : Place → ℕ → Place
 next_place p b = cond (b == 10) (record { line = suc p.line; col = 1 }) (record { line = p.line; col = suc p.col })
 
--- the place of the byte behind some bytes that begin at a place
-abbrev pub place_behind : Place → List ℕ → Place
-place_behind p [] = p
-place_behind p (b ∷ bs) = place_behind (next_place p b) bs
+-- the place of the byte after some bytes that begin at a place
+abbrev pub place_after : Place → List ℕ → Place
+place_after p [] = p
+place_after p (b ∷ bs) = place_after (next_place p b) bs
 
 -- the place after the last byte of a text
 abbrev pub end_of : List ℕ → Place
-end_of text = place_behind first_place text
+end_of text = place_after first_place text
 
 -- the place of a byte of a text
 abbrev pub place_at : List ℕ → ℕ → Place
-place_at text n = place_behind first_place (take n text)
+place_at text n = place_after first_place (take n text)

@@ -1,4 +1,4 @@
-// Classes of bytes, and the bytes behind the first one.
+// Classes of bytes, and the bytes after the first one.
 ghost use Rattle.std.specs.Prelude.{◌≡◌, drop};
 ghost use Rattle.std.specs.Char.{is_ascii_digit};
 ghost use Rattle.std.specs.List.{list_all};
@@ -26,7 +26,7 @@ pub fn all_digits(text: &[u8]) -> bool
 }
 
 /// All bytes but the first one. Takes no memory.
-pub fn behind_first(text: &[u8]) -> &[u8]
+pub fn after_first(text: &[u8]) -> &[u8]
     ensures { result.now ≡ drop 1 text.now }
 {
     match text {

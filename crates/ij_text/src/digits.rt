@@ -26,21 +26,21 @@ fn is_digit(radix: Radix, b: u8) -> bool
     }
 }
 
-/// Whether these bytes, behind a digit, are digits and `_`, the last a digit.
+/// Whether these bytes, after a digit, are digits and `_`, the last a digit.
 fn go_on(radix: Radix, bytes: &[u8]) -> bool
     ensures { result ≡ go_on radix true bytes.now }
 {
-    let mut behind_digit = true;
+    let mut after_digit = true;
     for b in bytes {
         if is_digit(radix, *b) {
-            behind_digit = true;
+            after_digit = true;
         } else if *b == b'_' {
-            behind_digit = false;
+            after_digit = false;
         } else {
             return false;
         }
     }
-    behind_digit
+    after_digit
 }
 
 /// Whether a text is digits, with any number of `_` between two of them.

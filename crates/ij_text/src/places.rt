@@ -1,10 +1,10 @@
 // The places of bytes.
 ghost use Rattle.std.specs.Prelude.{◌≡◌, ◌+◌, ◌^◌, ◌<◌, ◌≤◌, length};
-ghost use Rattle.ij_text.specs.Places.{end_of, next_place, place_at, place_behind};
+ghost use Rattle.ij_text.specs.Places.{end_of, next_place, place_at, place_after};
 
 use crate::Place;
 
-/// The place behind a byte that stands at a place. Behind a line feed a line begins.
+/// The place after a byte that stands at a place. After a line feed a line begins.
 pub fn next_place(at: Place, b: u8) -> Place
     requires column { 1 ≤ at.col }
     requires fits { at.line + at.col + 1 < 2 ^ 32 }
@@ -25,11 +25,11 @@ pub fn next_place(at: Place, b: u8) -> Place
     }
 }
 
-/// The place of the byte behind some bytes, of which the first stands at a place.
-pub fn place_behind(at: Place, bytes: &[u8]) -> Place
+/// The place of the byte after some bytes, of which the first stands at a place.
+pub fn place_after(at: Place, bytes: &[u8]) -> Place
     requires column { 1 ≤ at.col }
     requires fits { at.line + at.col + length bytes.now < 2 ^ 32 }
-    ensures value { result ≡ place_behind at bytes.now }
+    ensures value { result ≡ place_after at bytes.now }
     ensures column { 1 ≤ result.col }
     ensures sum { result.line + result.col ≤ at.line + at.col + length bytes.now }
 {
@@ -40,19 +40,19 @@ pub fn place_behind(at: Place, bytes: &[u8]) -> Place
     at
 }
 
-/// The place of the byte at an index of a text, or behind its last byte. The index is counted from 0.
+/// The place of the byte at an index of a text, or after its last byte. The index is counted from 0.
 pub fn place_at(text: &[u8], n: usize) -> Place
     requires within { n ≤ length text.now }
     requires short { length text.now < 2 ^ 31 }
     ensures { result ≡ place_at text.now n }
 {
-    place_behind(Place { line: 1, col: 1 }, &text[..n])
+    place_after(Place { line: 1, col: 1 }, &text[..n])
 }
 
-/// The place behind the last byte of a text. Takes no memory.
+/// The place after the last byte of a text. Takes no memory.
 pub fn end_of(text: &[u8]) -> Place
     requires { length text.now < 2 ^ 31 }
     ensures { result ≡ end_of text.now }
 {
-    place_behind(Place { line: 1, col: 1 }, text)
+    place_after(Place { line: 1, col: 1 }, text)
 }

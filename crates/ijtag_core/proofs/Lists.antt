@@ -1,4 +1,4 @@
--- A list of files: its first one, and the others behind it.
+-- A list of files: its first one, and the others after it.
 use Rattle.std.proofs.Common.{◌≡◌, ◌<◌, ◌≤◌, ◌-◌, List, [], ◌∷◌, length, get_or, take, drop, map, refl, sym, ap, arith, length-take, length-drop}
 use Rattle.std.proofs.lemmas.List.{take_all}
 use Rattle.ijtag_core.specs.Files.{seen_file}

@@ -28,17 +28,17 @@ one_front : (ns ms : List (List ℕ)) (name : List ℕ) → IsOneOf ns name → 
 one_front [] ms name is = absurd is
 one_front (n ∷ ns) ms name is = elim is [ inl same ↦ inl same | inr later ↦ inr (one_front ns ms name later) ]
 
-one_behind : (ns ms : List (List ℕ)) (name : List ℕ) → IsOneOf ms name → IsOneOf (ns ++ ms) name
-one_behind [] ms name is = is
-one_behind (n ∷ ns) ms name is = inr (one_behind ns ms name is)
+one_after : (ns ms : List (List ℕ)) (name : List ℕ) → IsOneOf ms name → IsOneOf (ns ++ ms) name
+one_after [] ms name is = is
+one_after (n ∷ ns) ms name is = inr (one_after ns ms name is)
 
 none_front : (ns ms : List (List ℕ)) (name : List ℕ) → IsNoneOf (ns ++ ms) name → IsNoneOf ns name
 none_front [] ms name none = tt
 none_front (n ∷ ns) ms name none = (none.0, none_front ns ms name none.1)
 
-none_behind : (ns ms : List (List ℕ)) (name : List ℕ) → IsNoneOf (ns ++ ms) name → IsNoneOf ms name
-none_behind [] ms name none = none
-none_behind (n ∷ ns) ms name none = none_behind ns ms name none.1
+none_after : (ns ms : List (List ℕ)) (name : List ℕ) → IsNoneOf (ns ++ ms) name → IsNoneOf ms name
+none_after [] ms name none = none
+none_after (n ∷ ns) ms name none = none_after ns ms name none.1
 
 -- one file is left
 record IsOneFile (name : List ℕ) (l : Leaves) : Type 0 where
@@ -79,7 +79,7 @@ module _ (files : Option Files) (m : Make) (ws : List Written) (given : (made_fi
   write_part new printed turn others =
       inr (inr (record { written = ws; given = given; files = turn; others = others; printed = refl }))
 
-  -- ---- behind them
+  -- ---- after them
 
   pub accept_stop : (c : Counts) (fault : StageFault) → IsFault (accepted_made ws) fault → IsStop files (make m) c (seen_stop (stop_from fault))
   accept_stop c (Refused r) is = inr ([], refl, inr (ws, given, inl is))
@@ -96,7 +96,7 @@ module _ (files : Option Files) (m : Make) (ws : List Written) (given : (made_fi
     abbrev svf : List ℕ
     svf = m.stem ++ codes ".svf"
 
-    -- what is left, with the four files in front
+    -- what is left, with the four files before
     abbrev all_left : Leaves → Leaves
     all_left l = record { files = ws ++ l.files; printed = l.printed; differs = l.differs }
 
@@ -153,7 +153,7 @@ module _ (files : Option Files) (m : Make) (ws : List Written) (given : (made_fi
 
     -- ---- its stops
 
-    -- behind the stores of the four files, which raise no count of the SVF file
+    -- after the stores of the four files, which raise no count of the SVF file
     module _ (load load_now store : List ℕ → ℕ) (mid : Counts) (same : mid.store svf ≡ store svf) where
       abbrev before : Counts
       before = record { load = load; load_now = load_now; store = store; store_now = mid.store_now; output = mid.output; output_now = mid.output_now }
@@ -163,7 +163,7 @@ module _ (files : Option Files) (m : Make) (ws : List Written) (given : (made_fi
           let rose : Rose (mid.store svf) (mid.store_now svf) = subst (λ (x : List ℕ). Rose (mid.store x) (mid.store_now x)) is.1.0 is.1.1 in
           let here : Rose (store svf) (mid.store_now svf) = subst (λ (k : ℕ). Rose k (mid.store_now svf)) same rose in
           let named : Rose (store n) (mid.store_now n) = subst (λ (x : List ℕ). Rose (store x) (mid.store_now x)) (sym is.1.0) here in
-          (inl (all_left is.0.0, all_given is.0.0 is.0.1), (one_behind (made_names m.stem) (svf ∷ []) n (inl is.1.0), named))
+          (inl (all_left is.0.0, all_given is.0.0 is.0.1), (one_after (made_names m.stem) (svf ∷ []) n (inl is.1.0), named))
       play_stop OutputFault is = ((all_left is.0.0, all_given is.0.0 is.0.1), (refl, is.1))
       play_stop NoMemory is = tt
       play_stop Usage is = absurd is
@@ -189,11 +189,11 @@ module _ (m : Make) where
 
   pub five_change : (old mid new : Option Files) → OthersAllStay (made_names m.stem) old mid → OthersStay mid new svf_name → OnlyTheseChange (make m).writes old new
   five_change old mid new four last = λ other none.
-      last other (none_behind (made_names m.stem) (svf_name ∷ []) other none).0 ∙ four other (none_front (made_names m.stem) (svf_name ∷ []) other none)
+      last other (none_after (made_names m.stem) (svf_name ∷ []) other none).0 ∙ four other (none_front (made_names m.stem) (svf_name ∷ []) other none)
 
   pub four_rise : (old now : List ℕ → ℕ) → OnlyTheseRise (made_names m.stem) old now → OnlyTheseRise (make m).writes old now
   four_rise old now rise = λ other none. rise other (none_front (made_names m.stem) (svf_name ∷ []) other none)
 
   pub five_rise : (old mid now : List ℕ → ℕ) → OnlyTheseRise (made_names m.stem) old mid → OnlyTheseRise (svf_name ∷ []) mid now → OnlyTheseRise (make m).writes old now
   five_rise old mid now four last = λ other none.
-      last other (none_behind (made_names m.stem) (svf_name ∷ []) other none) ∙ four other (none_front (made_names m.stem) (svf_name ∷ []) other none)
+      last other (none_after (made_names m.stem) (svf_name ∷ []) other none) ∙ four other (none_front (made_names m.stem) (svf_name ∷ []) other none)

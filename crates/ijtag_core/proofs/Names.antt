@@ -9,7 +9,7 @@ front_cancels : (stem a b : List ℕ) → stem ++ a ≡ stem ++ b → a ≡ b
 front_cancels [] a b e = e
 front_cancels (x ∷ stem) a b e = front_cancels stem a b (ap (λ (xs : List ℕ). drop 1 xs) e)
 
--- endings differ in the byte behind the dot
+-- endings differ in the byte after the dot
 ends_differ : (stem a b : List ℕ) → (get_or a 1 0 ≡ get_or b 1 0 → ⊥) → stem ++ a ≢ stem ++ b
 ends_differ stem a b other e = other (ap (λ (xs : List ℕ). get_or xs 1 0) (front_cancels stem a b e))
 

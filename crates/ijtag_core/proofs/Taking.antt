@@ -28,7 +28,7 @@ pub first_refused : (w : Written) (ws : List Written) (fault : StageFault) → I
 first_refused w ws (Refused r) is = inl is
 first_refused w ws OutOfMemory is = tt
 
--- one behind another is
+-- one after another is
 pub later_refused : (w : Written) (ws : List Written) (text : List ℕ) (fault : StageFault) → (taken_one w).gives text → IsFault (taken ws) fault → IsFault (taken (w ∷ ws)) fault
 later_refused w ws text (Refused r) given is = inr (text, given, inl is)
 later_refused w ws text OutOfMemory given is = tt

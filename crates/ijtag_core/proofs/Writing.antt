@@ -24,7 +24,7 @@ told_alike (Some f) None name g e x = absurd (cc)
 pub told_whole : (old mid : Option Files) (w : Written) → file_at mid w.name ≡ option_map (λ _. Some w.bytes) old → AreToldAlike old mid
 told_whole old mid w held = told_alike old mid w.name (λ _. Some w.bytes) held
 
--- ---- one file behind others: what these hold stays, and it holds what it does
+-- ---- one file after others: what these hold stays, and it holds what it does
 
 module _ (w : Written) (old mid new : Option Files) (others : OthersStay mid new w.name) where
   pub all_and : (ws : List Written) → IsNoneOf (file_names ws) w.name → AllHold ws old mid → file_at new w.name ≡ option_map (λ _. Some w.bytes) old → AllHold (ws ++ w ∷ []) old new
@@ -43,7 +43,7 @@ one_in_turn w old new turn = elim turn [ inl whole ↦ whole_is_part old new w.n
 pub part_from : (old mid new : Option Files) (name bytes : List ℕ) → AreToldAlike old mid → file_at mid name ≡ file_at old name → HoldsPart mid new name bytes → HoldsPart old new name bytes
 part_from old mid new name bytes alike stays part = elim part [ inl same ↦ inl (same ∙ stays) | inr cut ↦ inr (cut.0, cut.1 ∙ alike (Some (take cut.0 bytes))) ]
 
--- ---- one file in front of others
+-- ---- one file before others
 
 all_stay : (ws : List Written) (name : List ℕ) (old new : Option Files) → OthersStay old new name → IsNoneOf (file_names ws) name → AllStay ws old new
 all_stay [] name old new others none = tt

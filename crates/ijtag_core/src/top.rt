@@ -19,7 +19,7 @@ use ij_io::{Shelf, Sink};
 use ijtag_work::{Status, own_texts_pass, read_words, runs_differ_alike};
 use std::alloc::Global;
 
-/// Runs the program with these words, those behind the program's name, over files and streams, and says how it ended.
+/// Runs the program with these words, those after the program's name, over files and streams, and says how it ended.
 ///
 /// - `compile ICL PDL DEVICE TOP PROC SVF` loads the first three files in this order, accepts what they hold (IEEE 1687-2014: ICL,
 ///   PDL level 0), and only then writes the SVF file (Serial Vector Format, revision E), from its front, one piece after the other. It

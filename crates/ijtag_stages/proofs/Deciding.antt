@@ -72,7 +72,7 @@ unfolding icl_tokens
 tokens_decided cuttings no_fault faults text =
     record { one = λ seen others p q. p.2 ∙ ap (seen_tokens text) (tokens_one cuttings text p.0 q.0 p.1 q.1) ∙ sym q.2; apart = λ seen r p q. no_fault text p.0 q.0 p.1 q.1; alike = λ r s p q. lex_alike p.0 q.0 r s (faults text p.0 q.0 p.1 q.1) p.2 q.2 }
 
--- how a fault is told, without where its words lie in memory
+-- how a fault is reported, without where its words lie in memory
 abbrev told_fault : SeenFault → Option Refusal
 told_fault NoMemory = None
 told_fault (ALeftOut at word) = Some (refused_word Icl (codes "LeftOut") at word)
@@ -139,7 +139,7 @@ hierarchy_not_refused modules top cells fault made refused = cc
 hierarchy_alike : (modules : List SeenModule) (top : List ℕ) (fault other : Fault) (r s : Refusal) → hierarchy modules top ≡ Err fault → hierarchy modules top ≡ Err other → r ≡ elab_refusal fault → s ≡ elab_refusal other → r ≡ s
 hierarchy_alike modules top fault other r s a b p q = cc
 
-elaborated_decided : (modules : List SeenModule) (top : List ℕ) → IsDecided (elaborated modules top)
+pub elaborated_decided : (modules : List SeenModule) (top : List ℕ) → IsDecided (elaborated modules top)
 unfolding elaborated
 elaborated_decided modules top =
     record { one = λ a b p q. ok_is a b (hierarchy modules top) p q; apart = λ a r p q. hierarchy_not_refused modules top a q.0 p q.1; alike = λ r s p q. hierarchy_alike modules top p.0 q.0 r s p.1 q.1 p.2 q.2 }
@@ -153,7 +153,7 @@ network_alike cells link instr fault other r s a b p q = cc
 connected_one : (cells : List CellOf) (link instr : List ℕ) (a b : Net) (x y : NetOf) → network cells link instr ≡ Ok x → network cells link instr ≡ Ok y → a ≡ trimmed x → b ≡ trimmed y → a ≡ b
 connected_one cells link instr a b x y p q is too = is ∙ ap trimmed (ok_is x y (network cells link instr) p q) ∙ sym too
 
-connected_decided : (cells : List CellOf) (of : Device) → IsDecided (connected cells of)
+pub connected_decided : (cells : List CellOf) (of : Device) → IsDecided (connected cells of)
 unfolding connected
 connected_decided cells of =
     record {
@@ -173,7 +173,7 @@ unfolding models_of
 fit_decided net ts =
     record { one = λ a b p q. ok_is a b (fitted net ts) p q; apart = λ a r p q. fit_not_refused net ts a q.0 p q.1; alike = λ r s p q. fit_alike net ts p.0 q.0 r s p.1 q.1 p.2 q.2 }
 
--- how a cause is told
+-- how a cause is reported
 abbrev told_cause : Cause → Place → Refusal
 told_cause (CauseLeftOut word) at = refused_word Svf (codes "LeftOut") at word
 told_cause CauseSyntax at = refused_at Svf (codes "SvfSyntax") at

@@ -8,14 +8,14 @@ give_decided x = record { one = λ a b p q. p ∙ sym q; apart = λ a r p q. q; 
 pub never_decided : {R A : Type 0} → IsDecided {R = R} {A = A} never
 never_decided = record { one = λ a b p q. absurd p; apart = λ a r p q. q; alike = λ r s p q. absurd p }
 
--- two refusals of work in turn: of the first part, or of the next one behind the one value
+-- two refusals of work in turn: of the first part, or of the next one after the one value
 alike_in_turn : {R A B : Type 0} (first : Work R A) (next : A → Work R B) → IsDecided first → ((a : A) → IsDecided (next a)) → (r s : R) → RefusesInTurn first next r → RefusesInTurn first next s → r ≡ s
 alike_in_turn first next f n r s p q =
     elim p [
       | inl own ↦ elim q [ inl other ↦ f.alike r s own other | inr later ↦ absurd (f.apart later.0 r later.1 own) ]
       | inr later ↦ elim q [
         | inl other ↦ absurd (f.apart later.0 s later.1 other)
-        | inr behind ↦ (n behind.0).alike r s (subst (λ a. (next a).refuses r) (f.one later.0 behind.0 later.1 behind.1) later.2) behind.2
+        | inr after ↦ (n after.0).alike r s (subst (λ a. (next a).refuses r) (f.one later.0 after.0 later.1 after.1) later.2) after.2
       ]
     ]
 

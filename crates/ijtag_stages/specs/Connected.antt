@@ -10,7 +10,7 @@ use Rattle.trimmed_net.specs.Trimmed.{trimmed}
 use Rattle.ijtag_stages.specs.Refusals.{Part, Refusal, Said, refused_at}
 use Rattle.ijtag_stages.specs.declared.refusal.Stage.TheVariants.{Connect}
 
--- how a fault is told
+-- how a fault is reported
 abbrev pub connect_refusal : Fault → Refusal
 connect_refusal (NoLink link instr) = record { stage = Connect; kind = codes "NoLink"; args = Said link ∷ Said instr ∷ [] }
 connect_refusal (Undriven at) = refused_at Connect (codes "Undriven") at

@@ -8,7 +8,7 @@ use Rattle.bench_file.specs.declared.fault.DeviceFault.TheVariants.{DevSyntax, O
 use Rattle.ijtag_stages.specs.Refusals.{Part, Refusal, refused_at}
 use Rattle.ijtag_stages.specs.declared.refusal.Stage.TheVariants.{Device}
 
--- how a fault is told; want of memory is no refusal
+-- how a fault is reported; want of memory is no refusal
 abbrev pub device_fault : DeviceFault → Option Refusal
 device_fault (DevSyntax at) = Some (refused_at Device (codes "DevSyntax") at)
 device_fault (OpcodeWide at) = Some (refused_at Device (codes "OpcodeWide") at)

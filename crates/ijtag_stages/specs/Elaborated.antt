@@ -23,7 +23,7 @@ which_name Groups = codes "Groups"
 which_name RunLoop = codes "RunLoop"
 which_name RunCycles = codes "RunCycles"
 
--- how a fault is told
+-- how a fault is reported
 abbrev pub elab_refusal : Fault → Refusal
 elab_refusal (NoModule name) = refused_name Elab (codes "NoModule") name
 elab_refusal (NoName at name) = refused_word Elab (codes "NoName") at name

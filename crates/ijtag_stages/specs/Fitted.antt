@@ -12,7 +12,7 @@ use Rattle.ijtag_stages.specs.NetNames.{inst_name}
 use Rattle.ijtag_stages.specs.Refusals.{Part, Refusal, refused_at, refused_name}
 use Rattle.ijtag_stages.specs.declared.refusal.Stage.TheVariants.{Fit}
 
--- how a fault is told; want of memory is no refusal
+-- how a fault is reported; want of memory is no refusal
 abbrev pub fit_refusal : Net → FitsFault → Option Refusal
 fit_refusal net (NoTable inst) = Some (refused_name Fit (codes "NoTable") (inst_name (seen_net net) inst))
 fit_refusal net (ExtraTable at) = Some (refused_at Fit (codes "ExtraTable") at)

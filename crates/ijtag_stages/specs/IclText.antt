@@ -13,7 +13,7 @@ use Rattle.ijtag_stages.specs.Work.{◌>>=◌}
 use Rattle.ijtag_stages.specs.Refusals.{Part, Refusal, refused_at, refused_word}
 use Rattle.ijtag_stages.specs.declared.refusal.Stage.TheVariants.{Icl}
 
--- how a fault is told
+-- how a fault is reported
 abbrev pub lex_refusal : LexFault → Refusal
 lex_refusal (BadByte at) = refused_at Icl (codes "BadByte") at
 lex_refusal (OpenComment at) = refused_at Icl (codes "OpenComment") at

@@ -13,7 +13,7 @@ use Rattle.ijtag_stages.specs.NetNames.{cell_name, mux_name, inst_name, bit_arg}
 use Rattle.ijtag_stages.specs.Refusals.{Part, Refusal, Said, refused, refused_name}
 use Rattle.ijtag_stages.specs.declared.refusal.Stage.TheVariants.{Nest}
 
--- how a fault is told; want of memory is no refusal
+-- how a fault is reported; want of memory is no refusal
 abbrev pub nest_refusal : NetOf → NestFault → Option Refusal
 nest_refusal of (Unreached cell) = Some (refused_name Nest (codes "Unreached") (cell_name of cell))
 nest_refusal of NotNested = Some (refused Nest (codes "NotNested"))

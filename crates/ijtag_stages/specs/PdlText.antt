@@ -7,7 +7,7 @@ use Rattle.pdl_parser.specs.Values.{AProc}
 use Rattle.ijtag_stages.specs.Refusals.{Part, Refusal, refused_at, refused_word}
 use Rattle.ijtag_stages.specs.declared.refusal.Stage.TheVariants.{Pdl}
 
--- how a fault is told; want of memory is no refusal
+-- how a fault is reported; want of memory is no refusal
 abbrev pub pdl_refusal : AFault → Option Refusal
 pdl_refusal NoMemory = None
 pdl_refusal (IsLeftOut at word) = Some (refused_word Pdl (codes "LeftOut") at word)

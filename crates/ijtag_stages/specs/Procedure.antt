@@ -18,7 +18,7 @@ use Rattle.ijtag_stages.specs.Networks.{NestedNet}
 use Rattle.ijtag_stages.specs.Refusals.{Part, Refusal, At, Num, Said, refused_at, refused_word}
 use Rattle.ijtag_stages.specs.declared.refusal.Stage.TheVariants.{Pdl}
 
--- how a fault of calls and prefixes is told
+-- how a fault of calls and prefixes is reported
 abbrev pub expand_refusal : ExpandFault → Refusal
 expand_refusal (IsNoProc at name) = refused_word Pdl (codes "NoProc") at name
 expand_refusal (IsArgCount at) = refused_at Pdl (codes "ArgCount") at
@@ -26,7 +26,7 @@ expand_refusal (IsTooManySteps at) = refused_at Pdl (codes "TooManySteps") at
 expand_refusal (IsNoName at name) = refused_word Pdl (codes "NoName") at name
 expand_refusal (IsCallDepth at) = refused_at Pdl (codes "CallDepth") at
 
--- how a fault of targets is told
+-- how a fault of targets is reported
 abbrev pub target_refusal : NetOf → TargetFault → Refusal
 target_refusal of (IsNoTarget at) = refused_at Pdl (codes "NoTarget") at
 target_refusal of (IsNoValue at) = refused_at Pdl (codes "NoValue") at
@@ -38,7 +38,7 @@ target_refusal of (IsBadCount at) = refused_at Pdl (codes "BadCount") at
 target_refusal of (IsLimit at which number) = record { stage = Pdl; kind = codes "Limit"; args = At at ∷ Said (which_name which) ∷ Num number ∷ [] }
 target_refusal of (IsUnapplied at) = refused_at Pdl (codes "Unapplied") at
 
--- how a fault of a step is told
+-- how a fault of a step is reported
 abbrev pub feed_refusal : NetOf → FeedFault → Refusal
 feed_refusal of (IsMergeInside at) = refused_at Pdl (codes "MergeInside") at
 feed_refusal of (IsMergeReset at) = refused_at Pdl (codes "MergeReset") at

@@ -6,16 +6,16 @@ use Rattle.ij_io.specs.Bytes.{concat}
 use Rattle.ij_text.specs.declared.Place.{Place}
 use Rattle.ijtag_stages.specs.Work.{Work}
 use Rattle.ijtag_stages.specs.declared.refusal.Stage.{Stage}
-use Rattle.ijtag_stages.specs.declared.refusal.Stage.TheVariants.{File, Icl, Device, Tables, Svf, Elab, Connect, Nest, Fit, Pdl, Make, Muxtest, Explain, Where, Picture}
+use Rattle.ijtag_stages.specs.declared.refusal.Stage.TheVariants.{File, Icl, Device, Tables, Svf, Elab, Connect, Nest, Fit, Pdl, Make, Muxtest, Explain, Where, Picture, Wave}
 
--- what stands behind the cause: a place, a number, a text as it stands, or a bit by its register and index
+-- what stands after the cause: a place, a number, a text as it stands, or a bit by its register and index
 pub data Arg : Type 0 where
   At : (place : Place) → Arg
   Num : (n : ℕ) → Arg
   Said : (text : List ℕ) → Arg
   Bit : (register : List ℕ) → (index : ℕ) → Arg
 
--- the stage that refuses, the cause, and what stands behind it
+-- the stage that refuses, the cause, and what stands after it
 pub record Refusal : Type 0 where
   pub stage : Stage
   pub kind : List ℕ
@@ -43,7 +43,7 @@ refused_limit stage which n = record { stage = stage; kind = codes "Limit"; args
 abbrev pub refused_word : Stage → List ℕ → Place → List ℕ → Refusal
 refused_word stage kind place word = record { stage = stage; kind = kind; args = At place ∷ Said word ∷ [] }
 
--- ---- the line that tells a refusal: `refused STAGE KIND` and each argument behind a blank
+-- ---- the line that tells a refusal: `refused STAGE KIND` and each argument after a blank
 
 unfoldable pub stage_name : Stage → List ℕ
 stage_name File = codes "file"
@@ -61,6 +61,7 @@ stage_name Muxtest = codes "muxtest"
 stage_name Explain = codes "explain"
 stage_name Where = codes "where"
 stage_name Picture = codes "picture"
+stage_name Wave = codes "wave"
 
 unfoldable pub arg_text : Arg → List ℕ
 arg_text (At place) = concat (codes " " ∷ decimal place.line ∷ codes ":" ∷ decimal place.col ∷ [])

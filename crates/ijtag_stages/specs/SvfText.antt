@@ -8,7 +8,7 @@ use Rattle.svf_reader.specs.declared.fault.SvfFault.TheVariants.{LeftOut, SvfSyn
 use Rattle.ijtag_stages.specs.Refusals.{Part, Refusal, refused_at, refused_word}
 use Rattle.ijtag_stages.specs.declared.refusal.Stage.TheVariants.{Svf}
 
--- how a fault is told; want of memory is no refusal
+-- how a fault is reported; want of memory is no refusal
 abbrev pub svf_fault : SvfFault → Option Refusal
 svf_fault (LeftOut at word) = Some (refused_word Svf (codes "LeftOut") at word.items)
 svf_fault (SvfSyntax at) = Some (refused_at Svf (codes "SvfSyntax") at)

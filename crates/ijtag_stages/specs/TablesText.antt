@@ -6,7 +6,7 @@ use Rattle.table_file.specs.declared.fault.TableFault.TheVariants.{TableSyntax, 
 use Rattle.ijtag_stages.specs.Refusals.{Part, Refusal, refused_at}
 use Rattle.ijtag_stages.specs.declared.refusal.Stage.TheVariants.{Tables}
 
--- how a fault is told; want of memory is no refusal
+-- how a fault is reported; want of memory is no refusal
 abbrev pub tables_fault : TableFault → Option Refusal
 tables_fault (TableSyntax at) = Some (refused_at Tables (codes "TableSyntax") at)
 tables_fault (TableName at) = Some (refused_at Tables (codes "TableName") at)

@@ -17,7 +17,7 @@ use net_graph::{Device, Net};
 use std::alloc::Global;
 use trimmed_net::{trim, views_are_kept};
 
-/// How a fault is told.
+/// How a fault is reported.
 fn told(alloc: Global, fault: ConnectFault) -> StageFault
     ensures { IsToldAs (option_map connect_refusal (seen_fault fault)) result }
 {
@@ -49,11 +49,7 @@ fn connect_ends(alloc: Global, hier: &Hier, device: &Device) -> Result<Net, Stag
 /// The network that the device's instruction selects, with lists that have no room to spare. Where there is none, the fault says
 /// where and why.
 #[tactic(auto, unfolding(crate::specs::Connected::connected))]
-pub(crate) fn connect_hierarchy(
-    alloc: Global,
-    hier: &Hier,
-    device: &Device,
-) -> Result<Net, StageFault>
+pub fn connect_hierarchy(alloc: Global, hier: &Hier, device: &Device) -> Result<Net, StageFault>
     ensures follows { Follows (connected (seen_hier hier.now) device.now) (λ net. net) result }
     ensures well_formed { IfOk result (λ net. IsHierarchy (seen_hier hier.now) → IsNet net) }
 {

@@ -11,7 +11,7 @@ use net_graph::Device;
 use std::alloc::Global;
 use trimmed_net::trim_device;
 
-/// How a fault is told.
+/// How a fault is reported.
 fn told(alloc: Global, fault: DeviceFault) -> StageFault
     ensures { IsToldAs (device_fault fault) result }
 {

@@ -35,7 +35,7 @@ pub(crate) fn which_name(which: Which) -> &'static [u8]
     }
 }
 
-/// How a fault is told.
+/// How a fault is reported.
 fn told(alloc: Global, fault: ElabFault) -> StageFault
     ensures { IsToldAs (option_map elab_refusal (seen_fault fault)) result }
 {
@@ -77,11 +77,7 @@ fn elaborate_below(alloc: Global, design: &Design, top: &Name) -> Result<Hier, S
 }
 
 /// The hierarchy below the top module of this name. Where there is none, the fault says where and why.
-pub(crate) fn elaborate_design(
-    alloc: Global,
-    design: &Design,
-    top: &str,
-) -> Result<Hier, StageFault>
+pub fn elaborate_design(alloc: Global, design: &Design, top: &str) -> Result<Hier, StageFault>
     ensures follows { Follows (elaborated (seen_design design.now) top.now) seen_hier result }
     ensures well_formed { IfOk result (λ h. AreWritten (seen_design design.now) → IsHierarchy (seen_hier h)) }
 {

@@ -27,7 +27,7 @@ fn told_inst(alloc: Global, net: &Net, kind: &'static [u8], inst: u32) -> StageF
     }
 }
 
-/// How a fault is told.
+/// How a fault is reported.
 fn told(alloc: Global, net: &Net, fault: FitsFault) -> StageFault
     ensures { IsToldAs (fit_refusal net.now fault) result }
 {

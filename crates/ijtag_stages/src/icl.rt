@@ -11,7 +11,7 @@ use icl_lexer::{Cursor, Design, LexFault, lex, tokens_are_in_the_text};
 use icl_parser::{ParseFault, parse};
 use std::alloc::Global;
 
-/// How a fault of the tokens is told.
+/// How a fault of the tokens is reported.
 fn lex_fault(alloc: Global, fault: LexFault) -> StageFault
     ensures { IsToldAs (Some (lex_refusal fault)) result }
 {
@@ -22,7 +22,7 @@ fn lex_fault(alloc: Global, fault: LexFault) -> StageFault
     }
 }
 
-/// How a fault of the grammar is told.
+/// How a fault of the grammar is reported.
 fn parse_fault(alloc: Global, fault: ParseFault) -> StageFault
     ensures { IsToldAs (parse_refusal fault) result }
 {

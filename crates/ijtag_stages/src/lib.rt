@@ -17,10 +17,13 @@ mod refusal;
 mod svf;
 mod tables;
 
+pub use connect::connect_hierarchy;
 pub use device::read_device;
+pub use elab::elaborate_design;
 pub use fit::fit_tables;
 pub use icl::read_icl;
 pub use laws::stages_are_decided;
+pub use nest::nest_fault;
 pub use network::{Network, read_network};
 pub use pdl::read_pdl;
 pub use procedure::check_procedure;

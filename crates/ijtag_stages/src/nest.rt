@@ -46,8 +46,8 @@ fn told_drives(alloc: Global, net: &Net, bit: BitId, inst: u32) -> StageFault
     }
 }
 
-/// How a fault is told.
-fn told(alloc: Global, net: &Net, fault: NestFault) -> StageFault
+/// How a fault of the nested form is reported: its refusal, unless memory ran out.
+pub fn nest_fault(alloc: Global, net: &Net, fault: NestFault) -> StageFault
     ensures { IsToldAs (nest_refusal (seen_net net.now) fault) result }
 {
     match fault {
@@ -77,6 +77,6 @@ pub(crate) fn nest_network(alloc: Global, net: &Net) -> Result<Tree, StageFault>
 {
     match nest(alloc, net) {
         Ok(tree) => Ok(tree),
-        Err(fault) => Err(told(alloc, net, fault)),
+        Err(fault) => Err(nest_fault(alloc, net, fault)),
     }
 }

@@ -11,7 +11,7 @@ use crate::refusal::{Stage, StageFault, refused_at, refused_word};
 use pdl_parser::{PdlFault, Procs, names_differ, parse_pdl};
 use std::alloc::Global;
 
-/// How a fault is told.
+/// How a fault is reported.
 fn told(alloc: Global, fault: PdlFault) -> StageFault
     ensures { IsToldAs (pdl_refusal (seen_fault fault)) result }
 {

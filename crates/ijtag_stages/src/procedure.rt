@@ -30,7 +30,7 @@ use pdl_parser::Procs;
 use pdl_targets::TargetFault;
 use std::alloc::Global;
 
-/// How a fault of calls and prefixes is told.
+/// How a fault of calls and prefixes is reported.
 fn told_expand(alloc: Global, fault: ExpandFault) -> StageFault
     ensures { IsToldAs (option_map expand_refusal (expand_fault fault)) result }
 {
@@ -71,7 +71,7 @@ fn told_limit(alloc: Global, at: Place, which: Which, number: u64) -> StageFault
     }
 }
 
-/// How a fault of targets is told.
+/// How a fault of targets is reported.
 fn told_target(alloc: Global, net: &Net, fault: TargetFault) -> StageFault
     ensures { IsToldAs (option_map (target_refusal (seen_net net.now)) (target_fault fault)) result }
 {
@@ -89,7 +89,7 @@ fn told_target(alloc: Global, net: &Net, fault: TargetFault) -> StageFault
     }
 }
 
-/// How a fault of a step is told.
+/// How a fault of a step is reported.
 fn told_feed(alloc: Global, net: &Net, fault: FeedFault) -> StageFault
     ensures { IsToldAs (option_map (feed_refusal (seen_net net.now)) (feed_fault fault)) result }
 {
@@ -101,7 +101,7 @@ fn told_feed(alloc: Global, net: &Net, fault: FeedFault) -> StageFault
     }
 }
 
-/// How a fault of a procedure is told.
+/// How a fault of a procedure is reported.
 fn told(alloc: Global, net: &Net, fault: StepFault) -> StageFault
     ensures { IsToldAs (option_map (step_refusal (seen_net net.now)) (fault_of fault)) result }
 {

@@ -46,6 +46,8 @@ pub enum Stage {
     Where,
     /// The network is drawn.
     Picture,
+    /// The waves of a play are written.
+    Wave,
 }
 
 impl Stage {
@@ -70,11 +72,12 @@ impl Stage {
             Stage::Explain => b"explain",
             Stage::Where => b"where",
             Stage::Picture => b"picture",
+            Stage::Wave => b"wave",
         }
     }
 }
 
-/// What stands behind the cause of a refusal.
+/// What stands after the cause of a refusal.
 #[derive(Drop)]
 pub enum Arg {
     /// A place of the stage's text, as `L:C`.
@@ -94,7 +97,7 @@ pub struct Refusal {
     pub stage: Stage,
     /// The cause, as it is printed.
     pub kind: &'static [u8],
-    /// What stands behind it, in the order in which it is printed.
+    /// What stands after it, in the order in which it is printed.
     pub args: List<Arg>,
 }
 
@@ -283,7 +286,7 @@ pub(crate) fn refused_names(
     }
 }
 
-/// Prints what stands behind a cause, and a blank in front of it.
+/// Prints what stands after a cause, and a blank before it.
 #[tactic(auto, unfolding(ij_io::specs::Words::words_text, crate::specs::Refusals::arg_text))]
 fn put_arg<K: Sink>(arg: &Arg, k: &mut K) -> Result<(), StoreFault>
     ensures whole { OnOk result (Adds (K.taken k.old) (K.taken k.new) (arg_text (seen_arg arg.now))) }
@@ -315,7 +318,7 @@ fn put_arg<K: Sink>(arg: &Arg, k: &mut K) -> Result<(), StoreFault>
     }
 }
 
-/// Prints what stands behind a cause.
+/// Prints what stands after a cause.
 fn put_args<K: Sink>(args: &[Arg], k: &mut K) -> Result<(), StoreFault>
     ensures whole { OnOk result (Adds (K.taken k.old) (K.taken k.new) (flat_map (λ arg. arg_text (seen_arg arg)) args.now)) }
     ensures part { OnErr result (AddsPart (K.taken k.old) (K.taken k.new) (flat_map (λ arg. arg_text (seen_arg arg)) args.now)) }
@@ -327,8 +330,8 @@ fn put_args<K: Sink>(args: &[Arg], k: &mut K) -> Result<(), StoreFault>
     Ok(())
 }
 
-/// Prints what stands behind a cause, and the line's end.
-fn put_behind<K: Sink>(args: &[Arg], k: &mut K) -> Result<(), StoreFault>
+/// Prints what stands after a cause, and the line's end.
+fn put_after<K: Sink>(args: &[Arg], k: &mut K) -> Result<(), StoreFault>
     ensures whole { OnOk result (Adds (K.taken k.old) (K.taken k.new) (flat_map (λ arg. arg_text (seen_arg arg)) args.now ++ codes "\n")) }
     ensures part { OnErr result (AddsPart (K.taken k.old) (K.taken k.new) (flat_map (λ arg. arg_text (seen_arg arg)) args.now ++ codes "\n")) }
     ensures cause { HasCause (K.faults k.old) (K.faults k.new) result StoreFault.Failed }
@@ -363,6 +366,6 @@ pub fn put_refusal<K: Sink>(refusal: &Refusal, k: &mut K) -> Result<(), StoreFau
     ensures cause { HasCause (K.faults k.old) (K.faults k.new) result StoreFault.Failed }
 {
     put_head(refusal.stage, refusal.kind, k)?;
-    put_behind(refusal.args.as_slice(), k)?;
+    put_after(refusal.args.as_slice(), k)?;
     Ok(())
 }

@@ -11,7 +11,7 @@ use std::alloc::Global;
 use svf_reader::SvfFault;
 use svf_writer::Commands;
 
-/// How a fault is told.
+/// How a fault is reported.
 fn told(alloc: Global, fault: SvfFault) -> StageFault
     ensures { IsToldAs (svf_fault fault) result }
 {

@@ -11,7 +11,7 @@ use bench_file::{Table, TableFault};
 use ij_bits::List;
 use std::alloc::Global;
 
-/// How a fault is told.
+/// How a fault is reported.
 fn told(alloc: Global, fault: TableFault) -> StageFault
     ensures { IsToldAs (tables_fault fault) result }
 {

@@ -2,3 +2,5 @@ mod Choosing
 mod Leaving
 mod Settling
 mod Promising
+mod Waving
+mod Wording

@@ -2,7 +2,7 @@
 use Rattle.std.specs.Prelude.{IfSome}
 use Rattle.std.proofs.Common.{ℕ, Bool, List, Option, Some, None}
 use Rattle.ij_io.specs.Files.{Files}
-use Rattle.ijtag_tools.specs.Command.{Command, Explains, Lists, LooksUp, Pictures, Tightens}
+use Rattle.ijtag_tools.specs.Command.{Command, Explains, Graphs, Lists, LooksUp, Pictures, PicturesAt, Tightens, Waves}
 use Rattle.ijtag_tools.specs.Promises.{IfExplains, IfTightens, IsBounded, IsExplained, IsPromised}
 
 module _ (files : Option Files) (file : List ℕ → Option (Option (List ℕ))) where
@@ -14,6 +14,9 @@ module _ (files : Option Files) (file : List ℕ → Option (Option (List ℕ)))
   bounded_in (Some (Explains e)) differs promised = tt
   bounded_in (Some (LooksUp l)) differs promised = tt
   bounded_in (Some (Pictures p)) differs promised = tt
+  bounded_in (Some (Graphs p)) differs promised = tt
+  bounded_in (Some (PicturesAt p)) differs promised = tt
+  bounded_in (Some (Waves w)) differs promised = tt
 
   pub explained_in : (words : Option Command) (differs : Bool) → IfSome words (λ command. IsPromised command files file differs)
       → IfSome words (λ command. IfExplains command (λ e. IsExplained files e (file e.new)))
@@ -23,3 +26,6 @@ module _ (files : Option Files) (file : List ℕ → Option (Option (List ℕ)))
   explained_in (Some (Lists l)) differs promised = tt
   explained_in (Some (LooksUp l)) differs promised = tt
   explained_in (Some (Pictures p)) differs promised = tt
+  explained_in (Some (Graphs p)) differs promised = tt
+  explained_in (Some (PicturesAt p)) differs promised = tt
+  explained_in (Some (Waves w)) differs promised = tt

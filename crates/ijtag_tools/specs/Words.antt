@@ -1,12 +1,15 @@
 -- The words of commands as contracts see them.
-use Rattle.ijtag_tools.specs.Command.{Command, Explain, Explains, Listing, Lists, Lookup, LooksUp, Picture, Pictures, Tighten, Tightens}
+use Rattle.ijtag_tools.specs.Command.{Command, Explain, Explains, Listing, Lists, Graphs, Lookup, LooksUp, Picture, PictureAt, Pictures, PicturesAt, Tighten, Tightens, Wave, Waves}
 use Rattle.ijtag_tools.specs.declared.words.ExplainWords.{ExplainWords}
+use Rattle.ijtag_tools.specs.declared.words.GraphWords.{GraphWords}
 use Rattle.ijtag_tools.specs.declared.words.PictureWords.{PictureWords}
+use Rattle.ijtag_tools.specs.declared.words.PictureAtWords.{PictureAtWords}
+use Rattle.ijtag_tools.specs.declared.words.WaveWords.{WaveWords}
 use Rattle.ijtag_tools.specs.declared.words.WhereWords.{WhereWords}
 use Rattle.ijtag_tools.specs.declared.words.ListWords.{ListWords}
 use Rattle.ijtag_tools.specs.declared.words.TightenWords.{TightenWords}
 use Rattle.ijtag_tools.specs.declared.words.ToolWords.{ToolWords}
-use Rattle.ijtag_tools.specs.declared.words.ToolWords.TheVariants.{List as ListCommand, Explain as ExplainCommand, Where as WhereCommand, Picture as PictureCommand, Tighten as TightenCommand}
+use Rattle.ijtag_tools.specs.declared.words.ToolWords.TheVariants.{List as ListCommand, Explain as ExplainCommand, Where as WhereCommand, Picture as PictureCommand, Graph as GraphCommand, PictureAt as PictureAtCommand, Tighten as TightenCommand, Wave as WaveCommand}
 
 abbrev pub seen_list : ListWords → Listing
 seen_list words = record { format = words.format; icl = words.icl.now; device = words.device.now; top = words.top.now }
@@ -24,11 +27,25 @@ seen_where words =
     record { svf = words.svf.now; icl = words.icl.now; device = words.device.now; tables = words.tables.now; top = words.top.now; scan = words.scan; bit = words.bit }
 
 abbrev pub seen_picture : PictureWords → Picture
-seen_picture words = record { format = words.format; icl = words.icl.now; device = words.device.now; top = words.top.now; new = words.picture.now }
+seen_picture words = record { icl = words.icl.now; device = words.device.now; top = words.top.now; new = words.picture.now }
+
+abbrev pub seen_graph_words : GraphWords → Picture
+seen_graph_words words = record { icl = words.icl.now; device = words.device.now; top = words.top.now; new = words.graph.now }
+
+abbrev pub seen_picture_at : PictureAtWords → PictureAt
+seen_picture_at words =
+    record { format = words.format; icl = words.icl.now; device = words.device.now; top = words.top.now; new = words.picture.now; svf = words.svf.now; tables = words.tables.now; scan = words.scan }
+
+abbrev pub seen_wave : WaveWords → Wave
+seen_wave words =
+    record { kind = words.kind; svf = words.svf.now; icl = words.icl.now; device = words.device.now; tables = words.tables.now; top = words.top.now; new = words.waves.now; window = words.window }
 
 abbrev pub seen_command : ToolWords → Command
 seen_command (ListCommand words) = Lists (seen_list words)
 seen_command (ExplainCommand words) = Explains (seen_explain words)
 seen_command (WhereCommand words) = LooksUp (seen_where words)
 seen_command (PictureCommand words) = Pictures (seen_picture words)
+seen_command (GraphCommand words) = Graphs (seen_graph_words words)
+seen_command (PictureAtCommand words) = PicturesAt (seen_picture_at words)
 seen_command (TightenCommand words) = Tightens (seen_tighten words)
+seen_command (WaveCommand words) = Waves (seen_wave words)

@@ -6,9 +6,11 @@ ghost use Rattle.ijtag_tools.specs.Order.{task as task_named};
 ghost use Rattle.ijtag_tools.specs.Promises.{IsPromised};
 ghost use Rattle.ijtag_tools.specs.Words.{seen_command};
 
+use crate::graph::draw_graph;
 use crate::words::ToolWords;
 use ij_io::{Shelf, Sink};
 use ijtag_core::{Command, accept_and_act};
+use ijtag_stages::stages_are_decided;
 use ijtag_work::{Stop, Verdict, texts_are_decided};
 use std::alloc::Global;
 
@@ -26,13 +28,14 @@ impl<'w> Command for ToolWords<'w> {
     fn usage() -> &'static [u8]
         ensures { result.now ≡ usage_line }
     {
-        b"usage: ijtag-tools list|explain|where|picture|tighten\n"
+        b"usage: ijtag-tools list|explain|where|picture|tighten|wave\n"
     }
 
     fn works_settle()
         ensures { AreSettled task_named }
     {
         texts_are_decided();
+        stages_are_decided();
     }
 
     fn run<'a, S: Shelf, O: Sink>(
@@ -46,7 +49,10 @@ impl<'w> Command for ToolWords<'w> {
             ToolWords::Explain(it) => accept_and_act(alloc, &it.loads(), it, shelf, out),
             ToolWords::Where(it) => accept_and_act(alloc, &it.loads(), it, shelf, out),
             ToolWords::Picture(it) => accept_and_act(alloc, &it.loads(), it, shelf, out),
+            ToolWords::Graph(it) => draw_graph(alloc, it, shelf, out),
+            ToolWords::PictureAt(it) => accept_and_act(alloc, &it.loads(), it, shelf, out),
             ToolWords::Tighten(it) => accept_and_act(alloc, &it.loads(), it, shelf, out),
+            ToolWords::Wave(it) => accept_and_act(alloc, &it.loads(), it, shelf, out),
         }
     }
 }

@@ -1,5 +1,5 @@
 // What commands take on the tester.
-ghost use Rattle.std.specs.Prelude.{◌≡◌, ◌≤◌, length};
+ghost use Rattle.std.specs.Prelude.{◌≡◌, ◌≤◌, length, IsTrue};
 ghost use Rattle.tap_machine.specs.declared.Stable.TheVariants.{Reset as InReset};
 ghost use Rattle.tap_machine.specs.Play.{pins, scans_in};
 ghost use Rattle.ijtag_tools.specs.Planned.{seen_cost};
@@ -15,6 +15,15 @@ pub struct Cost {
     pub scans: u64,
     /// Clocks of TCK.
     pub clocks: u64,
+}
+
+impl Cost {
+    /// Whether it takes no more than another one, neither scans nor clocks.
+    pub fn is_within(self, other: Cost) -> bool
+        ensures { IsTrue result → (self.scans ≤ other.scans) × (self.clocks ≤ other.clocks) }
+    {
+        self.scans <= other.scans && self.clocks <= other.clocks
+    }
 }
 
 /// Counts the clocks that are left of a play.

@@ -5,11 +5,14 @@
 mod commands;
 mod cost;
 mod explain;
+mod graph;
 mod list;
 mod picture;
 mod planned;
 mod tighten;
 mod top;
+mod unnested;
+mod wave;
 mod where_;
 mod words;
 

@@ -178,7 +178,7 @@ pub fn tightest(alloc: Global, it: &Accepted, how: How) -> Result<Tightened, Out
     let before = compiled.cost;
     if let Some(planned) = plan_whole(alloc, it, how)? {
         let cost = planned.cost;
-        if cost.scans <= before.scans && cost.clocks <= before.clocks {
+        if cost.is_within(before) {
             return Ok(Tightened {
                 svf: planned.svf,
                 cost,

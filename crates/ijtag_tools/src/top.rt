@@ -28,6 +28,12 @@ use std::alloc::Global;
 ///   a scan on `out`; it ends as `Differs` where its compare differs.
 /// - `picture FORMAT ICL DEVICE TOP NEW` loads the two files in this order, accepts what they hold, and writes a drawing of the network
 ///   to NEW, in the format `svg` or `dot`, in which the active path at power-up is marked.
+/// - `picture FORMAT ICL DEVICE TOP NEW SVF TABLES SCAN` loads the SVF file, the network, the device and the tables in this order, accepts
+///   what they hold, plays the commands, and draws the network as it is before the scan of this number, or at the end of the play where
+///   it is one more than there are scans.
+/// - `wave KIND SVF ICL DEVICE TABLES TOP NEW` loads and accepts the same, plays the commands, and writes the waves of all clocks to NEW
+///   as a value change dump; with `FROM COUNT` those of so many clocks. KIND is `pins`, `state` or `all`. It ends as `Differs` where a
+///   compare of the whole play differs.
 /// - `tighten HOW ICL PDL DEVICE TOP PROC NEW` loads the three files in this order, accepts what they hold, plans the whole procedure
 ///   for the fewest clocks, in the way `full`, `lean` or `late`, and hands the text to the audit. Only where this says yes, and the text
 ///   takes no more scans and clocks than the one that a compile writes, is it written to NEW; else that one is. It prints what it takes

@@ -200,7 +200,7 @@ module _ {L : Type 0} (log : Log L) (net : Net) (form : Items) (device : Device)
       let later = steps_added xs after (scans + scans_in cs) s1 d1 plays.together (plays.holds ∙ ap (reset_holds net) e) (reset_scannable net form c.lawful h l) a in
       subst (λ k. AreAdded (script_compares chip (scans + scans_in cs) s1 d1 (script_of net after xs)) (steps_places net after k xs) d.reads (end d1 after xs)) one later
 
-  -- from power-up, behind the scan that loads the link's instruction
+  -- from power-up, after the scan that loads the link's instruction
   pub all_added : (xs : List PlannedStep) → StepsArePlanned net form (start_holds net) xs → AreAdded (script_compares chip 1 (play_from chip 0 (preface_commands device) (power_up chip)) (direct_power_up log net machines) (script_of net (start_holds net) xs)) (places net xs) [] (end (direct_power_up log net machines) (start_holds net) xs)
   all_added xs a =
       let t = preface_together log net device machines n u some in

@@ -12,7 +12,7 @@ use Rattle.ijtag_work.specs.Order.{filed, told}
 use Rattle.ijtag_work.specs.Runs.{IsDone}
 
 -- nothing is printed
-none_added : (old : Option (List ℕ)) → Adds old old []
+pub none_added : (old : Option (List ℕ)) → Adds old old []
 none_added old = record { added = with_none old }
 
 module _ (work : Part Leaves) (files new : Option Files) (printed : Option (List ℕ)) (name bytes : List ℕ) (given : work.gives (filed name bytes)) where

@@ -20,7 +20,7 @@ module _ (files : Option Files) (task : Task) (part : Part Leaves) (lift : (leav
     | inr d ↦ inr (inl (record { leaves = d.leaves; given = lift d.leaves d.given; files = d.files; printed = d.printed; in_order = d.in_order }))
   ]
 
--- behind loads, which raise no count of a store
+-- after loads, which raise no count of a store
 module _ (files : Option Files) (task : Task) (part : Part Leaves) (lift : (leaves : Leaves) → part.gives leaves → (work files task).gives leaves)
     (refuse : (refusal : Refusal) → part.refuses refusal → (work files task).refuses refusal) (load load_now store : List ℕ → ℕ) (mid : Counts) (same : (name : List ℕ) → mid.store name ≡ store name) where
   abbrev before : Counts

@@ -26,7 +26,7 @@ gives_more files [] load texts text given own = (text, own, ([], refl, ap (λ (t
 gives_more files (first ∷ before) load texts text given own =
     (given.0, given.1, (given.2.0 ++ text ∷ [], gives_more files before load given.2.0 text given.2.1 own, ap (λ (ts : List (List ℕ)). ts ++ text ∷ []) given.2.2))
 
--- one that refuses, behind others that give
+-- one that refuses, after others that give
 pub refuses_at : (files : Option Files) (before : List Load) (load : Load) (rest : List Load) (texts : List (List ℕ)) (r : Refusal) → (loaded files before).gives texts → (loaded_one files load).refuses r
     → (loaded files (before ++ load ∷ rest)).refuses r
 refuses_at files [] load rest texts r given own = inl own
@@ -45,7 +45,7 @@ only_name files load name is = elim is [ inl same ↦ same | inr later ↦ absur
 rose_later : (before mid now : ℕ) → before ≤ mid → Rose mid now → Rose before now
 rose_later before mid now later rose = omega arith
 
--- the stop of one load, behind others that give
+-- the stop of one load, after others that give
 pub stop_at : (files : Option Files) (before : List Load) (load : Load) (rest : List Load) (texts : List (List ℕ)) (counts mid now : List ℕ → ℕ) (stop : Stop) → (loaded files before).gives texts
     → ((any : List ℕ) → counts any ≤ mid any) → IsLoadStop files (load ∷ []) mid now (loaded_one files load) stop → IsLoadStop files (before ++ load ∷ rest) counts now (loaded files (before ++ load ∷ rest)) stop
 stop_at files before load rest texts counts mid now (Refuses r) given later is = refuses_at files before load rest texts r given is

@@ -8,7 +8,7 @@ use Rattle.ij_text.specs.Numbers.{decimal_from, next_decimal}
 use Rattle.ijtag_work.specs.Command.{is_number}
 use Rattle.std.proofs.lemmas.Bool.{and_parts}
 
--- the greatest number that k digits behind n say
+-- the greatest number that k digits after n say
 abbrev top : ℕ → ℕ → ℕ
 top n zero = n
 top n (suc k) = top (10 * n + 9) k

@@ -1,4 +1,4 @@
--- What a run does behind the texts that were accepted.
+-- What a run does after the texts that were accepted.
 use Rattle.std.specs.Prelude.{option_map}
 use Rattle.std.proofs.Common.{◌≡◌, ◌≤◌, inl, inr, refl, ℕ, Bool, Some, List, [], ◌∷◌, length, arith}
 use Rattle.retargeter.specs.Files.{HoldsPart}

@@ -1,4 +1,4 @@
--- A part of a command's work, behind its loads and the texts that were accepted: it may stop at a write, or refuse.
+-- A part of a command's work, after its loads and the texts that were accepted: it may stop at a write, or refuse.
 use Rattle.std.specs.Prelude.{◌⊎◌}
 use Rattle.ijtag_work.specs.Leaves.{Leaves}
 use Rattle.ijtag_work.specs.Runs.{Seen, IsUnchanged, IsBegun, Counts, IsWriteStop}

@@ -27,7 +27,7 @@ abbrev pub AllStay : List Written → Option Files → Option Files → Type 0
 AllStay [] old new = Unit {0}
 AllStay (w ∷ ws) old new = (file_at new w.name ≡ file_at old w.name) × AllStay ws old new
 
--- files that are written in turn: those in front are whole, one is as before or holds some first bytes, and those behind it are as before
+-- files that are written in turn: those before are whole, one is as before or holds some first bytes, and those after it are as before
 abbrev pub HoldInTurn : List Written → Option Files → Option Files → Type 0
 HoldInTurn [] old new = Unit {0}
 HoldInTurn (w ∷ ws) old new =

@@ -99,7 +99,7 @@ impl<'a> Stop<'a> {
     }
 }
 
-/// Prints a name behind a text, on a line of its own.
+/// Prints a name after a text, on a line of its own.
 #[tactic(auto, unfolding(ij_io::specs::Words::words_text))]
 fn put_named<'a, K: Sink>(text: &'a [u8], name: &'a str, k: &mut K) -> Result<(), StoreFault>
     ensures whole { OnOk result (Adds (K.taken k.old) (K.taken k.new) (named_line text.now name.now)) }

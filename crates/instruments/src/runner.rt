@@ -21,7 +21,7 @@ use net_graph::{Holds, Inst, Sig};
 pub struct Runner {
     /// The state of its words and its memory.
     pub machine: Machine,
-    /// The numbers at its inputs, and 0 behind them.
+    /// The numbers at its inputs, and 0 after them.
     pub inputs: [u64; 16],
     /// How often it had each kind of event.
     pub counts: Counts,
@@ -71,7 +71,7 @@ fn port_number(bits: &[Sig], holds: &Holds) -> u64
     }
 }
 
-/// The numbers at the inputs of an instrument, and 0 behind them.
+/// The numbers at the inputs of an instrument, and 0 after them.
 pub(crate) fn inputs_of(inst: &Inst, holds: &Holds) -> [u64; 16]
     requires few { length inst.now.ins.items ≤ 16 }
     requires ports { All (λ port. (length port.bits.items ≤ 64) × All (IsDriven holds.now) port.bits.items) inst.now.ins.items }

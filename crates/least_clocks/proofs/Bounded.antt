@@ -38,7 +38,7 @@ use Rattle.svf_audit.specs.declared.answer.Cause.{Cause}
 use Rattle.svf_audit.specs.declared.answer.Cause.TheVariants.{End}
 use Rattle.svf_audit.specs.Audit.{State as AuditState, Reading, Yes, No, audit_from, changed as changed_on, does_writes, does_reads, is_written, note, scanned, was_reset as audit_reset, reset, step, has_row, load, pass, scan, do_group, start as audit_start}
 use Rattle.svf_audit.specs.Auditing.{FitsNext, last_dr, last_ir}
-use Rattle.svf_audit.specs.Work.{Work, Group, Cycle, Reset, due, group_first, behind_reset, behind_cycles, has_value}
+use Rattle.svf_audit.specs.Work.{Work, Group, Cycle, Reset, due, group_first, after_reset, after_cycles, has_value}
 use Rattle.svf_audit.proofs.Changing.{none_changed, writes_done}
 use Rattle.svf_audit.proofs.Following.{KeptAs, kept_as, played_long, needed, needed_some, ok, same_answer}
 use Rattle.svf_audit.proofs.Looping.{fits_next}
@@ -63,7 +63,7 @@ first_group (Group g ∷ ws) x e = ap (λ o. let y = unwrap_or o (g, ws) in Grou
 first_group (Cycle ∷ ws) x e = absurd (none-some x (sym e))
 first_group (Reset ∷ ws) x e = absurd (none-some x (sym e))
 
-first_reset : (w : List Work) (x : List Work) → Some x ≡ behind_reset w → Reset ∷ x ≡ w
+first_reset : (w : List Work) (x : List Work) → Some x ≡ after_reset w → Reset ∷ x ≡ w
 first_reset [] x e = absurd (none-some x (sym e))
 first_reset (Group g ∷ ws) x e = absurd (none-some x (sym e))
 first_reset (Cycle ∷ ws) x e = absurd (none-some x (sym e))
@@ -166,7 +166,7 @@ module _ (net : Net) (form : Items) (device : Device) (d : Describes net form) w
 
     run_steps : (n : ℕ) (b : AuditState) → step net device a (RunTest n) ≡ ok b → Steps a f (RunTest n) ir dr b
     run_steps n b e =
-        let (left, q, e1) = needed_some (behind_cycles a.holds n a.left) _ _ b e in
+        let (left, q, e1) = needed_some (after_cycles a.holds n a.left) _ _ b e in
         let b0 : AuditState = record a { rest = InIdle; left = left } in
         let out = leave net form device f a.linked a.rest a.holds a.left in
         let ran = cycles_clocks net form device f a.linked a.holds n a.left left q in
@@ -199,7 +199,7 @@ module _ (net : Net) (form : Items) (device : Device) (d : Describes net form) w
 
     reset_steps : (b : AuditState) → a.rest ≡ InIdle → reset net device InIdle a ≡ ok b → Steps a f StateReset ir dr b
     reset_steps b r e =
-        let (left, q, e1) = needed_some (behind_reset (due a.holds a.left)) _ _ b e in
+        let (left, q, e1) = needed_some (after_reset (due a.holds a.left)) _ _ b e in
         let b0 = audit_reset net device a left in
         let is = sym (first_reset (due a.holds a.left) left (sym q)) in
         let there = ap (λ s. least_from net form device (state f a.linked s a.holds) a.left) r in

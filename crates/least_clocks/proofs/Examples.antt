@@ -60,7 +60,7 @@ read_back = refl
 zeros : flat (write 0 4 0 ∷ []) ≡ 0
 zeros = refl
 
--- a run of ten clocks; and a reset, behind which the instruction is loaded anew
+-- a run of ten clocks; and a reset, after which the instruction is loaded anew
 run_and_reset : flat (write 0 4 5 ∷ Run 10 ∷ Reset ∷ write 0 4 5 ∷ []) ≡ 24 + 10 + 5 + 24
 run_and_reset = refl
 
@@ -68,7 +68,7 @@ run_and_reset = refl
 first_reset : flat (Reset ∷ []) ≡ 6
 first_reset = refl
 
--- ---- SIBs of eight bits, one behind the other
+-- ---- SIBs of eight bits, one after the other
 
 abbrev before : ℕ → Point
 before zero = Entry

@@ -24,7 +24,7 @@ use Rattle.net_tree.specs.Form.{Items}
 use Rattle.tap_machine.specs.declared.Stable.{Stable}
 use Rattle.tap_machine.specs.declared.Stable.TheVariants.{Reset as InReset, Idle as InIdle}
 use Rattle.tap_machine.specs.Play.{is_empty}
-use Rattle.svf_audit.specs.Work.{Work, Group, Cycle, Reset, has_value, is_redundant, due, behind_cycle, behind_cycles}
+use Rattle.svf_audit.specs.Work.{Work, Group, Cycle, Reset, has_value, is_redundant, due, after_cycle, after_cycles}
 use Rattle.svf_audit.proofs.Working.{IsWork}
 use Rattle.least_clocks.specs.Inside.{is_one_of, path_bits}
 use Rattle.least_clocks.specs.Least.{State, clocks_to_idle, clocks_to_link, first_path, first_scan, is_on_first, is_passed, own_scan, rows_around, read, round_clocks, scan_clocks, least_from}
@@ -196,7 +196,7 @@ due_first h (Reset ∷ ws) w vs e = ap (λ l. is_redundant h (head_of w l)) (sym
 
 -- ---- run cycles
 
-same_cycle : (w ws : List Work) → behind_cycle w ≡ Some ws → w ≡ Cycle ∷ ws
+same_cycle : (w ws : List Work) → after_cycle w ≡ Some ws → w ≡ Cycle ∷ ws
 same_cycle [] ws e = absurd (none-some ws e)
 same_cycle (Group g ∷ vs) ws e = absurd (none-some ws e)
 same_cycle (Reset ∷ vs) ws e = absurd (none-some ws e)
@@ -206,18 +206,18 @@ module _ (net : Net) (form : Items) (device : Device) (f l : Bool) (h : Holds) w
   abbrev idle_from : List Work → ℕ
   idle_from ws = least_from net form device (state f l InIdle h) ws
 
-  pub cycles_clocks : (n : ℕ) (left now : List Work) → behind_cycles h n left ≡ Some now → idle_from left ≡ n + idle_from now
+  pub cycles_clocks : (n : ℕ) (left now : List Work) → after_cycles h n left ≡ Some now → idle_from left ≡ n + idle_from now
   cycles_clocks zero left now e =
       let same = ap (λ o. idle_from (elim o as (λ _. List Work) [ Some x ↦ x | None ↦ left ])) e in
       omega (arith, same)
   cycles_clocks (suc n) left now e =
-      let (ws, q, later) = then_some (behind_cycles h n) (behind_cycle (due h left)) now e in
+      let (ws, q, later) = then_some (after_cycles h n) (after_cycle (due h left)) now e in
       let one = sym (due_clocks net form device f l InIdle h left) ∙ ap idle_from (same_cycle (due h left) ws q) in
       omega (arith, cycles_clocks n ws now later, one)
 
-pub cycles_work : (net : Net) (h : Holds) (n : ℕ) (left now : List Work) → behind_cycles h n left ≡ Some now → All (IsWork net) left → All (IsWork net) now
+pub cycles_work : (net : Net) (h : Holds) (n : ℕ) (left now : List Work) → after_cycles h n left ≡ Some now → All (IsWork net) left → All (IsWork net) now
 cycles_work net h zero left now e a = subst (All (IsWork net)) (ap (λ o. elim o as (λ _. List Work) [ Some x ↦ x | None ↦ left ]) e) a
 cycles_work net h (suc n) left now e a =
-    let (ws, q, f) = then_some (behind_cycles h n) (behind_cycle (due h left)) now e in
+    let (ws, q, f) = then_some (after_cycles h n) (after_cycle (due h left)) now e in
     let rest = All-tail (IsWork net) Cycle ws (subst (All (IsWork net)) (same_cycle (due h left) ws q) (due_work net h left a)) in
     cycles_work net h n ws now f rest

@@ -15,11 +15,11 @@ absorbed true b = refl
 absorbed false true = refl
 absorbed false false = refl
 
--- rows behind others
+-- rows after others
 pub more_rows : (old place now : List Branch) → now ≡ old ++ place → (test : Branch → Bool) → list_any test now ≡ (list_any test old || list_any test place)
 more_rows old place now is test = ap (list_any test) is ∙ list_any-append test old place
 
--- they hold what was put behind
+-- they hold what was put after
 pub has_more : (old place now : List Branch) → now ≡ old ++ place → (test : Branch → Bool) → (list_any test now || list_any test place) ≡ list_any test now
 has_more old place now is test =
     let e = more_rows old place now is test in

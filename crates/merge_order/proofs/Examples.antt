@@ -19,7 +19,7 @@ group writes = record { writes = writes; reads = [] }
 abbrev writing : List WriteBit → SeenStep
 writing writes = Apply (group writes ∷ [])
 
--- ---- two registers one behind the other, 0 and 1
+-- ---- two registers one after the other, 0 and 1
 
 abbrev in_line : Places
 in_line r = []
@@ -47,7 +47,7 @@ rows_are_kept_apart = refl
 bits_are_kept_apart : merged in_line ((writing (two 0 true false) ∷ []) ∷ (writing (two 0 false true) ∷ []) ∷ []) ≡ writing (two 0 true false) ∷ writing (two 0 false true) ∷ []
 bits_are_kept_apart = refl
 
--- a third branch joins the first, behind one that can't
+-- a third branch joins the first, after one that can't
 later_branches_join :
     merged in_line ((writing (sets 0 0 true ∷ []) ∷ []) ∷ (writing (sets 0 0 false ∷ []) ∷ []) ∷ (writing (sets 1 0 true ∷ []) ∷ []) ∷ [])
     ≡ writing (sets 0 0 true ∷ sets 1 0 true ∷ []) ∷ writing (sets 0 0 false ∷ []) ∷ []

@@ -21,12 +21,12 @@ use Rattle.merge_order.proofs.Fewer.{merged_runs_are_short}
 use Rattle.merge_order.proofs.OfNetwork.{merged_steps_are_of_the_network}
 use Rattle.merge_order.proofs.OnePath.{merged_steps_have_paths}
 
--- what binding gives of an answer, and of the steps behind it
+-- what binding gives of an answer, and of the steps after it
 abbrev pub bound_on : Net → Places → List AStep → Found Answer → Bound
 bound_on net places steps (IsBound answer) = with_step answer.step (bound_from net places answer.queue steps)
 bound_on net places steps (IsRefused fault) = record { steps = []; fault = Some fault }
 
--- what is ready of a step, and of the steps behind it
+-- what is ready of a step, and of the steps after it
 abbrev pub fed_on : Net → Places → List AStep → Fed → List SeenStep
 fed_on net places steps (Is next ready) = ready ++ fed net places next steps
 fed_on net places steps (Fails fault) = []
@@ -39,7 +39,7 @@ module _ (net : Net) (places : Places) (P : SeenStep → Type 0) (keeps : (bs : 
   Wait None = Unit {0}
   Wait (Some m) = All (All P) m.branches × All P m.next
 
-  -- a state, with the steps behind it
+  -- a state, with the steps after it
   abbrev Has : List AStep → State → Type 0
   Has steps s = Wait s.merging × All P (bound_from net places s.queue steps).steps
 

@@ -7,7 +7,7 @@ use Rattle.pdl_targets.specs.Binding.{run_of}
 use Rattle.pdl_targets.specs.Laws.{cycles_in, cycles_of, rounds_in}
 use Rattle.pdl_targets.specs.Rounds.{Places}
 use Rattle.merge_order.specs.Laws.{in_all, MergedCyclesAreFew, MergedRoundsAreFew, MergedRunsAreShort, MergedStepsAreFew}
-use Rattle.merge_order.specs.Merge.{Branch, all_joins, applies_in, behind_first, first_join, firsts, if_any, joins, joins_upto, later, longest, longest_run, merged, turn, turns, unjoined, with_first}
+use Rattle.merge_order.specs.Merge.{Branch, all_joins, applies_in, after_first, first_join, firsts, if_any, joins, joins_upto, later, longest, longest_run, merged, turn, turns, unjoined, with_first}
 use Rattle.merge_order.proofs.Kept.{merged_have}
 
 -- ---- what is counted turn by turn
@@ -65,7 +65,7 @@ module _ (places : Places) where
   joins_few : (n : ℕ) (applies : List (List SeenGroup)) → length (joins_upto places n applies) ≤ n
   joins_few zero applies = omega arith
   joins_few (suc n) [] = omega arith
-  joins_few (suc n) (a ∷ rest) = let ih = joins_few n (behind_first places a rest) in omega (arith, ih)
+  joins_few (suc n) (a ∷ rest) = let ih = joins_few n (after_first places a rest) in omega (arith, ih)
 
   steps_less : (ss : Branch) → length (turn places ss) ≤ length ss
   steps_less ss =
@@ -115,7 +115,7 @@ module _ (places : Places) where
       by_join ih true = let less = ih (with_first g a) in omega (arith, less)
       by_join ih false = let less = ih g in omega (arith, less)
 
-  first_less : (a : List SeenGroup) (rest : List (List SeenGroup)) → length (first_join places a rest) + sum_rounds (behind_first places a rest) ≤ sum_rounds (a ∷ rest)
+  first_less : (a : List SeenGroup) (rest : List (List SeenGroup)) → length (first_join places a rest) + sum_rounds (after_first places a rest) ≤ sum_rounds (a ∷ rest)
   first_less [] rest = omega arith
   first_less (g ∷ []) rest = let less = unjoined_less g rest in omega (arith, less)
   first_less (g ∷ h ∷ more) rest = omega arith
@@ -124,7 +124,7 @@ module _ (places : Places) where
   joins_less zero applies = omega arith
   joins_less (suc n) [] = omega arith
   joins_less (suc n) (a ∷ rest) =
-      let ih = joins_less n (behind_first places a rest) in
+      let ih = joins_less n (after_first places a rest) in
       let first = first_less a rest in
       omega (arith, ih, first)
 

@@ -9,10 +9,10 @@ use Rattle.net_graph.specs.SeenSteps.{SeenGroup}
 use Rattle.net_graph.specs.declared.step.Group.{Group}
 use Rattle.pdl_targets.specs.Rounds.{Places}
 use Rattle.pdl_targets.specs.SeenRounds.{seen_groups}
-use Rattle.merge_order.specs.Merge.{all_joins, behind_first, both, can_join, first_join, joined, joins_upto, unjoined}
+use Rattle.merge_order.specs.Merge.{all_joins, after_first, both, can_join, first_join, joined, joins_upto, unjoined}
 use Rattle.merge_order.specs.Insertion.{is_closed, join_at, no_group, open_round, put_all, put_at, put_round, takes, with_round}
 use Rattle.merge_order.specs.SeenJoins.{seen_joins}
-use Rattle.merge_order.proofs.Turning.{behind_few}
+use Rattle.merge_order.proofs.Turning.{after_few}
 
 module _ (places : Places) where
   -- a join of one round takes all that can join it
@@ -46,7 +46,7 @@ module _ (places : Places) where
   put_several g h more joins ((k ∷ l ∷ most) ∷ applies) = put_several g h more (joins ++ (k ∷ l ∷ most) ∷ []) applies
 
   put_first : (a : List SeenGroup) (applies : List (List SeenGroup))
-      → put_all places [] (a ∷ applies) ≡ first_join places a applies ∷ put_all places [] (behind_first places a applies)
+      → put_all places [] (a ∷ applies) ≡ first_join places a applies ∷ put_all places [] (after_first places a applies)
   put_first [] applies = put_none [] applies
   put_first (g ∷ []) applies = put_joined g [] applies
   put_first (g ∷ h ∷ more) applies = put_several g h more [] applies
@@ -56,8 +56,8 @@ module _ (places : Places) where
   put_upto zero (a ∷ applies) few = absurd (omega (arith, few))
   put_upto (suc n) [] few = refl
   put_upto (suc n) (a ∷ applies) few =
-      let fewer = behind_few places a applies in
-      put_first a applies ∙ ap (λ js. first_join places a applies ∷ js) (put_upto n (behind_first places a applies) (omega (arith, few, fewer)))
+      let fewer = after_few places a applies in
+      put_first a applies ∙ ap (λ js. first_join places a applies ∷ js) (put_upto n (after_first places a applies) (omega (arith, few, fewer)))
 
   pub put_is : (applies : List (List SeenGroup)) → put_all places [] applies ≡ all_joins places applies
   put_is applies = put_upto (length applies) applies (omega arith)
@@ -139,7 +139,7 @@ more_other [] rounds (suc k) away = refl
 more_other (join ∷ joins) rounds zero away = refl
 more_other (join ∷ joins) rounds (suc k) away = more_other joins rounds k (λ e. away (ap suc e))
 
--- behind the joins
+-- after the joins
 none_there : (joins : List (List SeenGroup)) → join_at joins (length joins) ≡ no_group ∷ []
 none_there [] = refl
 none_there (join ∷ joins) = none_there joins
@@ -196,11 +196,11 @@ put_set h [] p within = absurd (omega (arith, within))
 put_set h (join ∷ joins) zero within = refl
 put_set h (join ∷ joins) (suc p) within = ap (λ js. join ∷ js) (put_set h joins p (omega (arith, within)))
 
--- or is one behind
-put_behind : (h : SeenGroup) (joins : List (List SeenGroup)) (p : ℕ) → length joins ≤ p → put_at p h joins ≡ joins ++ (h ∷ []) ∷ []
-put_behind h [] p past = refl
-put_behind h (join ∷ joins) zero past = absurd (omega (arith, past))
-put_behind h (join ∷ joins) (suc p) past = ap (λ js. join ∷ js) (put_behind h joins p (omega (arith, past)))
+-- or is one after
+put_after : (h : SeenGroup) (joins : List (List SeenGroup)) (p : ℕ) → length joins ≤ p → put_at p h joins ≡ joins ++ (h ∷ []) ∷ []
+put_after h [] p past = refl
+put_after h (join ∷ joins) zero past = absurd (omega (arith, past))
+put_after h (join ∷ joins) (suc p) past = ap (λ js. join ∷ js) (put_after h joins p (omega (arith, past)))
 
 -- ---- joins in memory
 
@@ -225,4 +225,4 @@ pushed_join items new p join h past is one =
     ap seen_joins is
     ∙ map-append rounds items (join ∷ [])
     ∙ ap (λ r. seen_joins items ++ r ∷ []) one
-    ∙ sym (put_behind h (seen_joins items) p (omega (arith, past, len)))
+    ∙ sym (put_after h (seen_joins items) p (omega (arith, past, len)))

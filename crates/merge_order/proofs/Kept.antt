@@ -6,7 +6,7 @@ use Rattle.std.proofs.lemmas.List.Elements.{All-nil, All-cons, All-head, All-tai
 use Rattle.net_graph.specs.SeenSteps.{SeenGroup, SeenStep, Apply, Run, Reset}
 use Rattle.pdl_targets.specs.Binding.{run_of}
 use Rattle.pdl_targets.specs.Rounds.{Places}
-use Rattle.merge_order.specs.Merge.{Branch, all_joins, applies_in, behind_first, both, can_join, first_join, firsts, if_any, joined, joins, joins_upto, later, longest, longest_run, merged, turn, turns, unjoined, with_first}
+use Rattle.merge_order.specs.Merge.{Branch, all_joins, applies_in, after_first, both, can_join, first_join, firsts, if_any, joined, joins, joins_upto, later, longest, longest_run, merged, turn, turns, unjoined, with_first}
 
 -- ---- runs
 
@@ -74,18 +74,18 @@ module _ (places : Places) (P : SeenStep → Type 0) (join : (g h : SeenGroup) �
   first_has (g ∷ []) rest h all = joined_has g rest h all
   first_has (g ∷ i ∷ more) rest h all = h
 
-  behind_have : (a : List SeenGroup) (rest : List (List SeenGroup)) → All IsKept rest → All IsKept (behind_first places a rest)
-  behind_have [] rest all = all
-  behind_have (g ∷ []) rest all = unjoined_have g rest all
-  behind_have (g ∷ i ∷ more) rest all = all
+  after_have : (a : List SeenGroup) (rest : List (List SeenGroup)) → All IsKept rest → All IsKept (after_first places a rest)
+  after_have [] rest all = all
+  after_have (g ∷ []) rest all = unjoined_have g rest all
+  after_have (g ∷ i ∷ more) rest all = all
 
   joins_have : (n : ℕ) (applies : List (List SeenGroup)) → All IsKept applies → All IsKept (joins_upto places n applies)
   joins_have zero applies all = All-nil IsKept
   joins_have (suc n) [] all = All-nil IsKept
   joins_have (suc n) (a ∷ rest) all =
-      All-cons IsKept (first_join places a rest) (joins_upto places n (behind_first places a rest))
+      All-cons IsKept (first_join places a rest) (joins_upto places n (after_first places a rest))
       (first_has a rest (All-head IsKept a rest all) (All-tail IsKept a rest all))
-      (joins_have n (behind_first places a rest) (behind_have a rest (All-tail IsKept a rest all)))
+      (joins_have n (after_first places a rest) (after_have a rest (All-tail IsKept a rest all)))
 
   applied_have : (ss : Branch) → All P ss → All IsKept (applies_in ss)
   applied_have [] h = All-nil IsKept

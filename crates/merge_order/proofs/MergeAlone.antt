@@ -12,7 +12,7 @@ use Rattle.merge_order.specs.Merge.{Branch, merged}
 use Rattle.merge_order.proofs.Whole.{merges_have_each_write, merges_have_each_read}
 use Rattle.merge_order.specs.MergeLaws.{NoneWrites, NoneReads, WritesOfOneStay, ReadsOfOneStay}
 use Rattle.merge_order.specs.Order.{StandIn, Does, DoBranch, DoesRound, DoRounds}
-use Rattle.merge_order.proofs.Standing.{stand_all, stand_behind, stand_both, stand_filtered}
+use Rattle.merge_order.proofs.Standing.{stand_all, stand_after, stand_both, stand_filtered}
 use Rattle.merge_order.proofs.MergeTurning.{merged_does, one_is_done}
 
 -- ---- a part of each round, such as its writes
@@ -42,7 +42,7 @@ module _ {X : Type 0} (part : SeenGroup → List X) (kept : (h g : SeenGroup) �
   branch_stands [] (s ∷ ss) h = absurd h
   branch_stands (m ∷ ms) (s ∷ ss) h =
       ⊎_elim (λ p. stand_both (flat_map part (rounds_of (Some s))) (flat_map part (rounds_of (Some m))) (parts_in ss) (parts_in ms) (step_stands m s p.0) (branch_stands ms ss p.1))
-      (λ q. stand_behind (parts_in (s ∷ ss)) (flat_map part (rounds_of (Some m))) (parts_in ms) (branch_stands ms (s ∷ ss) q)) h
+      (λ q. stand_after (parts_in (s ∷ ss)) (flat_map part (rounds_of (Some m))) (parts_in ms) (branch_stands ms (s ∷ ss) q)) h
 
 -- ---- writes, reads
 
@@ -75,40 +75,40 @@ module _ {X : Type 0} (test : X → Bool) (all_of : Branch → List X) where
       let one = ap length (All-head (λ c. filter test (all_of c) ≡ []) c bs h) in
       omega (arith, ih, one)
 
-  pub one_counted : (before : List Branch) (b : Branch) (behind : List Branch) → None before → None behind → in_all count (before ++ b ∷ behind) ≡ count b
-  one_counted [] b behind h k = let none = none_counted behind k in omega (arith, none)
-  one_counted (c ∷ before) b behind h k =
-      let ih = one_counted before b behind (All-tail (λ c. filter test (all_of c) ≡ []) c before h) k in
+  pub one_counted : (before : List Branch) (b : Branch) (following : List Branch) → None before → None following → in_all count (before ++ b ∷ following) ≡ count b
+  one_counted [] b following h k = let none = none_counted following k in omega (arith, none)
+  one_counted (c ∷ before) b following h k =
+      let ih = one_counted before b following (All-tail (λ c. filter test (all_of c) ≡ []) c before h) k in
       let one = ap length (All-head (λ c. filter test (all_of c) ≡ []) c before h) in
       omega (arith, ih, one)
 
-abbrev pub do_one : (places : Places) (before : List Branch) (b : Branch) (behind : List Branch) → AreTurns b → DoBranch (merged places (before ++ b ∷ behind)) b
-do_one places before b behind are = one_is_done places (merged places (before ++ b ∷ behind)) before b behind (merged_does places (before ++ b ∷ behind)) are
+abbrev pub do_one : (places : Places) (before : List Branch) (b : Branch) (following : List Branch) → AreTurns b → DoBranch (merged places (before ++ b ∷ following)) b
+do_one places before b following are = one_is_done places (merged places (before ++ b ∷ following)) before b following (merged_does places (before ++ b ∷ following)) are
 
-pub counted_writes : (places : Places) (before : List Branch) (b : Branch) (behind : List Branch) (test : WriteBit → Bool)
-    → NoneWrites test before → NoneWrites test behind → length (filter test (writes_in (merged places (before ++ b ∷ behind)))) ≡ length (filter test (writes_in b))
-counted_writes places before b behind test h k = merges_have_each_write places (before ++ b ∷ behind) test ∙ one_counted test writes_in before b behind h k
+pub counted_writes : (places : Places) (before : List Branch) (b : Branch) (following : List Branch) (test : WriteBit → Bool)
+    → NoneWrites test before → NoneWrites test following → length (filter test (writes_in (merged places (before ++ b ∷ following)))) ≡ length (filter test (writes_in b))
+counted_writes places before b following test h k = merges_have_each_write places (before ++ b ∷ following) test ∙ one_counted test writes_in before b following h k
 
-counted_reads : (places : Places) (before : List Branch) (b : Branch) (behind : List Branch) (test : ReadBit → Bool)
-    → NoneReads test before → NoneReads test behind → length (filter test (reads_in (merged places (before ++ b ∷ behind)))) ≡ length (filter test (reads_in b))
-counted_reads places before b behind test h k = merges_have_each_read places (before ++ b ∷ behind) test ∙ one_counted test reads_in before b behind h k
+counted_reads : (places : Places) (before : List Branch) (b : Branch) (following : List Branch) (test : ReadBit → Bool)
+    → NoneReads test before → NoneReads test following → length (filter test (reads_in (merged places (before ++ b ∷ following)))) ≡ length (filter test (reads_in b))
+counted_reads places before b following test h k = merges_have_each_read places (before ++ b ∷ following) test ∙ one_counted test reads_in before b following h k
 
 pub writes_of_one_stay : WritesOfOneStay
-writes_of_one_stay places before b behind test are h k =
-    let ms = merged places (before ++ b ∷ behind) in
+writes_of_one_stay places before b following test are h k =
+    let ms = merged places (before ++ b ∷ following) in
     let stand : StandIn (filter test (writes_in b)) (filter test (writes_in ms)) =
     stand_filtered test (writes_in b) (writes_in ms)
     (subst (λ l. StandIn l (writes_in ms)) (writes_are b)
-    (subst (λ l. StandIn (parts_in (λ g. g.writes) writes_kept b) l) (writes_are ms) (branch_stands (λ g. g.writes) writes_kept ms b (do_one places before b behind are)))) in
-    let same = counted_writes places before b behind test h k in
+    (subst (λ l. StandIn (parts_in (λ g. g.writes) writes_kept b) l) (writes_are ms) (branch_stands (λ g. g.writes) writes_kept ms b (do_one places before b following are)))) in
+    let same = counted_writes places before b following test h k in
     stand_all (filter test (writes_in b)) (filter test (writes_in ms)) stand (omega (arith, same))
 
 pub reads_of_one_stay : ReadsOfOneStay
-reads_of_one_stay places before b behind test are h k =
-    let ms = merged places (before ++ b ∷ behind) in
+reads_of_one_stay places before b following test are h k =
+    let ms = merged places (before ++ b ∷ following) in
     let stand : StandIn (filter test (reads_in b)) (filter test (reads_in ms)) =
     stand_filtered test (reads_in b) (reads_in ms)
     (subst (λ l. StandIn l (reads_in ms)) (reads_are b)
-    (subst (λ l. StandIn (parts_in (λ g. g.reads) reads_kept b) l) (reads_are ms) (branch_stands (λ g. g.reads) reads_kept ms b (do_one places before b behind are)))) in
-    let same = counted_reads places before b behind test h k in
+    (subst (λ l. StandIn (parts_in (λ g. g.reads) reads_kept b) l) (reads_are ms) (branch_stands (λ g. g.reads) reads_kept ms b (do_one places before b following are)))) in
+    let same = counted_reads places before b following test h k in
     stand_all (filter test (reads_in b)) (filter test (reads_in ms)) stand (omega (arith, same))

@@ -2,10 +2,10 @@
 use Rattle.std.proofs.Common.{◌≡◌, ◌≤◌, ◌⊎◌, inl, inr, ℕ, zero, suc, Bool, true, false, cond, List, [], ◌∷◌, length, refl, arith}
 use Rattle.net_graph.specs.SeenSteps.{SeenGroup}
 use Rattle.pdl_targets.specs.Rounds.{Places}
-use Rattle.merge_order.specs.Merge.{all_joins, behind_first, both, first_join, joined, joins, joins_upto, unjoined, with_first}
-use Rattle.merge_order.proofs.Turning.{behind_few}
+use Rattle.merge_order.specs.Merge.{all_joins, after_first, both, first_join, joined, joins, joins_upto, unjoined, with_first}
+use Rattle.merge_order.proofs.Turning.{after_few}
 use Rattle.merge_order.specs.Order.{DoesRound, DoRounds}
-use Rattle.merge_order.proofs.Standing.{stand_self, stand_front, stand_behind}
+use Rattle.merge_order.proofs.Standing.{stand_self, stand_front, stand_after}
 
 pub does_itself : (g : SeenGroup) → DoesRound g g
 does_itself g = (stand_self g.writes, stand_self g.reads)
@@ -18,7 +18,7 @@ first_does : (x g h : SeenGroup) → DoesRound g x → DoesRound (both g h) x
 first_does x g h d = (stand_front x.writes g.writes h.writes d.0, stand_front x.reads g.reads h.reads d.1)
 
 second_does : (x g h : SeenGroup) → DoesRound h x → DoesRound (both g h) x
-second_does x g h d = (stand_behind x.writes g.writes h.writes d.0, stand_behind x.reads g.reads h.reads d.1)
+second_does x g h d = (stand_after x.writes g.writes h.writes d.0, stand_after x.reads g.reads h.reads d.1)
 
 -- one of some iApplys does these rounds
 abbrev pub OneDoes : List (List SeenGroup) → List SeenGroup → Type 0
@@ -70,19 +70,19 @@ module _ (places : Places) where
   first_done (g ∷ []) rest = (joined_does g g rest (does_itself g), tt)
   first_done (g ∷ h ∷ more) rest = do_themselves (g ∷ h ∷ more)
 
-  behind_done : (P : List SeenGroup → Type 0) (a : List SeenGroup) (rest : List (List SeenGroup)) → Each P (behind_first places a rest)
+  after_done : (P : List SeenGroup → Type 0) (a : List SeenGroup) (rest : List (List SeenGroup)) → Each P (after_first places a rest)
       → Each (λ c. DoRounds (first_join places a rest) c ⊎ P c) rest
-  behind_done P [] rest h = each_goes P (λ c. DoRounds [] c ⊎ P c) (λ c p. inr p) rest h
-  behind_done P (g ∷ []) rest h = join_or_left P g rest h
-  behind_done P (g ∷ i ∷ more) rest h = each_goes P (λ c. DoRounds (g ∷ i ∷ more) c ⊎ P c) (λ c p. inr p) rest h
+  after_done P [] rest h = each_goes P (λ c. DoRounds [] c ⊎ P c) (λ c p. inr p) rest h
+  after_done P (g ∷ []) rest h = join_or_left P g rest h
+  after_done P (g ∷ i ∷ more) rest h = each_goes P (λ c. DoRounds (g ∷ i ∷ more) c ⊎ P c) (λ c p. inr p) rest h
 
   joins_do : (n : ℕ) (applies : List (List SeenGroup)) → length applies ≤ n → Each (OneDoes (joins_upto places n applies)) applies
   joins_do n [] h = tt
   joins_do zero (a ∷ rest) h = absurd (omega (arith, h))
   joins_do (suc n) (a ∷ rest) h =
-      let few = behind_few places a rest in
-      let ih = joins_do n (behind_first places a rest) (omega (arith, h, few)) in
-      (inl (first_done a rest), behind_done (OneDoes (joins_upto places n (behind_first places a rest))) a rest ih)
+      let few = after_few places a rest in
+      let ih = joins_do n (after_first places a rest) (omega (arith, h, few)) in
+      (inl (first_done a rest), after_done (OneDoes (joins_upto places n (after_first places a rest))) a rest ih)
 
   pub each_is_joined : (applies : List (List SeenGroup)) → Each (OneDoes (all_joins places applies)) applies
   each_is_joined applies = joins_do (length applies) applies (omega arith)

@@ -14,12 +14,12 @@ use Rattle.merge_order.specs.MergeLaws.{MergesDoEachBranch}
 use Rattle.merge_order.proofs.MergeJoining.{Each, OneDoes, each_is_joined}
 use Rattle.std.proofs.Math.Nat.{le-max_left, le-max_right}
 
--- ---- bit steps behind others
+-- ---- bit steps after others
 
-pub do_behind : (front ms : List SeenStep) (b : Branch) → DoBranch ms b → DoBranch (front ++ ms) b
-do_behind front ms [] h = tt
-do_behind [] ms (s ∷ ss) h = h
-do_behind (f ∷ front) ms (s ∷ ss) h = inr (do_behind front ms (s ∷ ss) h)
+pub do_after : (front ms : List SeenStep) (b : Branch) → DoBranch ms b → DoBranch (front ++ ms) b
+do_after front ms [] h = tt
+do_after [] ms (s ∷ ss) h = h
+do_after (f ∷ front) ms (s ∷ ss) h = inr (do_after front ms (s ∷ ss) h)
 
 -- one of these does a bit step
 abbrev OneStep : List SeenStep → SeenStep → Type 0
@@ -30,13 +30,13 @@ one_front : (ms more : List SeenStep) (s : SeenStep) → OneStep ms s → OneSte
 one_front [] more s h = absurd h
 one_front (m ∷ ms) more s h = ⊎_elim (λ d. inl d) (λ r. inr (one_front ms more s r)) h
 
-one_behind : (front ms : List SeenStep) (s : SeenStep) → OneStep ms s → OneStep (front ++ ms) s
-one_behind [] ms s h = h
-one_behind (f ∷ front) ms s h = inr (one_behind front ms s h)
+one_after : (front ms : List SeenStep) (s : SeenStep) → OneStep ms s → OneStep (front ++ ms) s
+one_after [] ms s h = h
+one_after (f ∷ front) ms s h = inr (one_after front ms s h)
 
 then_rest : (ts ms : List SeenStep) (s : SeenStep) (ss : Branch) → OneStep ts s → DoBranch ms ss → DoBranch (ts ++ ms) (s ∷ ss)
 then_rest [] ms s ss h k = absurd h
-then_rest (t ∷ ts) ms s ss h k = ⊎_elim (λ d. inl (d, do_behind ts ms ss k)) (λ r. inr (then_rest ts ms s ss r k)) h
+then_rest (t ∷ ts) ms s ss h k = ⊎_elim (λ d. inl (d, do_after ts ms ss k)) (λ r. inr (then_rest ts ms s ss r k)) h
 
 -- ---- a turn
 
@@ -67,7 +67,7 @@ module _ (places : Places) where
   steps_done joins most (Run n ∷ ss) each few =
       let first = le-max_left n (longest_run ss) in
       let second = le-max_right n (longest_run ss) in
-      ((λ is. one_behind (map Apply joins) (if_any (run_of most)) (Run n) (one_run most n is (omega (arith, few, first)))), steps_done joins most ss each (omega (arith, few, second)))
+      ((λ is. one_after (map Apply joins) (if_any (run_of most)) (Run n) (one_run most n is (omega (arith, few, first)))), steps_done joins most ss each (omega (arith, few, second)))
   steps_done joins most (Reset ∷ ss) each few =
       let less = le-max_right 0 (longest_run ss) in
       ((λ is. absurd is), steps_done joins most ss each (omega (arith, few, less)))
@@ -102,9 +102,9 @@ module _ (places : Places) where
   merged_does bs = turns_do (longest bs) bs (omega arith)
 
   -- one of the branches
-  pub one_is_done : (ms : List SeenStep) (before : List Branch) (b : Branch) (behind : List Branch) → EachBranch ms (before ++ b ∷ behind) → AreTurns b → DoBranch ms b
-  one_is_done ms [] b behind h are = h.0 are
-  one_is_done ms (c ∷ before) b behind h are = one_is_done ms before b behind h.1 are
+  pub one_is_done : (ms : List SeenStep) (before : List Branch) (b : Branch) (following : List Branch) → EachBranch ms (before ++ b ∷ following) → AreTurns b → DoBranch ms b
+  one_is_done ms [] b following h are = h.0 are
+  one_is_done ms (c ∷ before) b following h are = one_is_done ms before b following h.1 are
 
 all_are : (ms : List SeenStep) (bs : List Branch) → EachBranch ms bs → All (λ b. AreTurns b → DoBranch ms b) bs
 all_are ms [] h = All-nil (λ b. AreTurns b → DoBranch ms b)

@@ -216,10 +216,10 @@ module _ (net : Net) (machines : List Machine) (i : ℕ) where
           ih (do_step whole_log net machines d m) (left_step d e m ms s r (omega (arith, n, two, rest))) (no_reset_rest m ms r) q (omega (arith, n, two))
 
 pub instruments_see_their_branch : InstrumentsSeeTheirBranch
-instruments_see_their_branch net machines d places before b behind i are h k =
-    let ms = merged places (before ++ b ∷ behind) in
-    let counted = counted_writes places before b behind (λ w. feeds net i w.bit) h k in
+instruments_see_their_branch net machines d places before b following i are h k =
+    let ms = merged places (before ++ b ∷ following) in
+    let counted = counted_writes places before b following (λ w. feeds net i w.bit) h k in
     let left = ap (λ l. length (filter (λ (w : WriteBit). feeds net i w.bit) l)) (writes_are ms) in
     let right = ap (λ l. length (filter (λ (w : WriteBit). feeds net i w.bit) l)) (writes_are b) in
-    (all_steps net machines i d d ms b (same_itself net machines i d) (no_reset_turns places (longest (before ++ b ∷ behind)) (before ++ b ∷ behind)) (do_one places before b behind are)
+    (all_steps net machines i d d ms b (same_itself net machines i d) (no_reset_turns places (longest (before ++ b ∷ following)) (before ++ b ∷ following)) (do_one places before b following are)
     (omega (arith, counted, left, right))).changes

@@ -1,16 +1,16 @@
--- Lists that stand in lists, one element behind the other.
+-- Lists that stand in lists, one element after the other.
 use Rattle.std.proofs.Common.{◌≡◌, ◌≤◌, inl, inr, ⊎_elim, Bool, true, false, cond, List, [], ◌∷◌, ◌++◌, length, refl, sym, ap, ◌∙◌, subst, arith}
 use Rattle.std.specs.Prelude.{filter}
 use Rattle.merge_order.specs.Order.{StandIn}
 
 module _ {X : Type 0} where
-  pub stand_behind : (xs front ys : List X) → StandIn xs ys → StandIn xs (front ++ ys)
-  stand_behind xs [] ys h = h
-  stand_behind [] (f ∷ front) ys h = tt
-  stand_behind (x ∷ xs) (f ∷ front) ys h = inr (stand_behind (x ∷ xs) front ys h)
+  pub stand_after : (xs front ys : List X) → StandIn xs ys → StandIn xs (front ++ ys)
+  stand_after xs [] ys h = h
+  stand_after [] (f ∷ front) ys h = tt
+  stand_after (x ∷ xs) (f ∷ front) ys h = inr (stand_after (x ∷ xs) front ys h)
 
   pub stand_both : (xs ys us vs : List X) → StandIn xs ys → StandIn us vs → StandIn (xs ++ us) (ys ++ vs)
-  stand_both [] ys us vs h k = stand_behind us ys vs k
+  stand_both [] ys us vs h k = stand_after us ys vs k
   stand_both (x ∷ xs) [] us vs h k = absurd h
   stand_both (x ∷ xs) (y ∷ ys) us vs h k = ⊎_elim (λ p. inl (p.0, stand_both xs ys us vs p.1 k)) (λ q. inr (stand_both (x ∷ xs) ys us vs q k)) h
 
@@ -52,7 +52,7 @@ module _ {X : Type 0} where
     skip y fx fy h = by_test (test y)
       where
         by_test : (b : Bool) → StandIn fx (cond b (y ∷ fy) fy)
-        by_test true = stand_behind fx (y ∷ []) fy h
+        by_test true = stand_after fx (y ∷ []) fy h
         by_test false = h
 
     pub stand_filtered : (xs ys : List X) → StandIn xs ys → StandIn (filter test xs) (filter test ys)

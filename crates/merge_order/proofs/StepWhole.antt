@@ -21,11 +21,11 @@ use Rattle.merge_order.proofs.FedFewer.{fed_steps_are_few, fed_rounds_are_few, f
 use Rattle.merge_order.proofs.FedKept.{fed_on, fed_steps_are_of_the_network, fed_steps_have_paths, fed_runs_are_short}
 use Rattle.merge_order.proofs.Unmerged.{others_are_bound}
 use Rattle.merge_order.specs.BitSteps.{BitStepsOf, answered, bits_from, bit_steps}
-use Rattle.merge_order.specs.SeenProgress.{bits_behind}
+use Rattle.merge_order.specs.SeenProgress.{bits_after}
 use Rattle.merge_order.specs.StepLaws.{StepsAreFed, StepsAreBound, BitStepsAreOfTheNetwork, BitStepsHavePaths, BitStepsAreFew, BitRoundsAreFew, BitCyclesAreFew, BitRunsAreShort}
 
 module _ (net : Net) (places : Places) (fault : Option ExpandAFault) where
-  -- the fault behind the steps changes none of them
+  -- the fault after the steps changes none of them
   same : (steps : List AStep) (s : State) → (bits_from net places s steps fault).steps ≡ fed net places s steps
   same [] s = refl
   same (step ∷ steps) s = by_fed (λ t. same steps t) (feed net places s step)
@@ -84,7 +84,7 @@ begins_few left f procs net form name e h =
     omega (arith, few, asked, long)
 
 pub begins : (left : Left) (f : AFeeder) (procs : List AProc) (net : Net) (form : Items) (name : List ℕ)
-    → left ≡ left_in (expansion procs (cells_of net) name) → f ≡ record { net = net; form = form; state = begin; ready = [] } → bits_behind f left ≡ bit_steps procs net form name
+    → left ≡ left_in (expansion procs (cells_of net) name) → f ≡ record { net = net; form = form; state = begin; ready = [] } → bits_after f left ≡ bit_steps procs net form name
 unfolding bit_steps
 begins left f procs net form name e h =
-    ap (bits_behind f) e ∙ ap (λ (x : AFeeder). bits_behind x (left_in (expansion procs (cells_of net) name))) h
+    ap (bits_after f) e ∙ ap (λ (x : AFeeder). bits_after x (left_in (expansion procs (cells_of net) name))) h

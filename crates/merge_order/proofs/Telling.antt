@@ -46,9 +46,9 @@ module _ (places : Places) where
       → Tells places old joins → p ≡ length joins → is_closed rounds ≡ true
       → ((b : BitId) (k : ℕ) → has_bit bits b k ≡ has_bit old.bits b k) → ((k : ℕ) → is_shut bits k ≡ (k == p || is_shut old.bits k))
       → Tells places (record { bits = bits; rows = old.rows }) (joins ++ rounds ∷ [])
-  closed_told old bits joins p rounds tells behind shut same put_shut = record {
+  closed_told old bits joins p rounds tells following shut same put_shut = record {
     closed = λ k.
-        put_shut k ∙ ap (λ n. k == n || is_shut old.bits k) behind ∙ ap (λ t. k == length joins || t) (tells.closed k) ∙ sym (more_closed joins rounds shut k);
+        put_shut k ∙ ap (λ n. k == n || is_shut old.bits k) following ∙ ap (λ t. k == length joins || t) (tells.closed k) ∙ sym (more_closed joins rounds shut k);
     bits = λ k b. same b k ∙ tells.bits k b ∙ ap (λ (g : SeenGroup). names g b) (sym (more_open joins rounds shut k));
     rows = λ k b. tells.rows k b ∙ ap (λ (g : SeenGroup). list_any (λ a. exclude a b) (rows_around places g)) (sym (more_open joins rounds shut k));
   }

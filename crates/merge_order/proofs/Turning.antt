@@ -9,7 +9,7 @@ use Rattle.net_graph.specs.declared.step.Group.{Group}
 use Rattle.net_graph.specs.SeenSteps.{SeenGroup, SeenStep, Apply, seen_step}
 use Rattle.pdl_targets.specs.Rounds.{Places}
 use Rattle.pdl_targets.specs.SeenRounds.{seen_groups}
-use Rattle.merge_order.specs.Merge.{Branch, behind_first, firsts, joins, later, longest, merged, turn, turns, unjoined, with_first}
+use Rattle.merge_order.specs.Merge.{Branch, after_first, firsts, joins, later, longest, merged, turn, turns, unjoined, with_first}
 use Rattle.merge_order.specs.SeenTurns.{seen_slices, seen_steps}
 
 -- ---- joins
@@ -24,10 +24,10 @@ module _ (places : Places) where
       by_join ih true = let few = ih (with_first g a) in omega (arith, few)
       by_join ih false = let few = ih g in omega (arith, few)
 
-  pub behind_few : (first : List SeenGroup) (more : List (List SeenGroup)) → length (behind_first places first more) ≤ length more
-  behind_few [] more = omega arith
-  behind_few (g ∷ []) more = unjoined_few g more
-  behind_few (g ∷ h ∷ rest) more = omega arith
+  pub after_few : (first : List SeenGroup) (more : List (List SeenGroup)) → length (after_first places first more) ≤ length more
+  after_few [] more = omega arith
+  after_few (g ∷ []) more = unjoined_few g more
+  after_few (g ∷ h ∷ rest) more = omega arith
 
 -- ---- turns
 

@@ -9,8 +9,8 @@ use Rattle.pdl_targets.specs.Binding.{run_of}
 use Rattle.pdl_targets.specs.Laws.{rounds_of}
 use Rattle.pdl_targets.specs.Rounds.{Places}
 use Rattle.merge_order.specs.Laws.{in_all, writes_in, reads_in, MergesHaveEachWrite, MergesHaveEachRead}
-use Rattle.merge_order.specs.Merge.{Branch, all_joins, applies_in, behind_first, both, first_join, firsts, if_any, joined, joins, joins_upto, later, longest, longest_run, merged, turn, turns, unjoined, with_first}
-use Rattle.merge_order.proofs.Turning.{behind_few, longest_later}
+use Rattle.merge_order.specs.Merge.{Branch, all_joins, applies_in, after_first, both, first_join, firsts, if_any, joined, joins, joins_upto, later, longest, longest_run, merged, turn, turns, unjoined, with_first}
+use Rattle.merge_order.proofs.Turning.{after_few, longest_later}
 
 -- ---- a weight of each round, which joined rounds have together
 
@@ -74,7 +74,7 @@ module _ (weight : SeenGroup → ℕ) where
         by_join ih true e = let all = ih (with_first g a) in let two = one_join g a e in omega (arith, all, two)
         by_join ih false e = let all = ih g in omega (arith, all)
 
-    first_all : (a : List SeenGroup) (rest : List (List SeenGroup)) → in_rounds (first_join places a rest) + in_applies (behind_first places a rest) ≡ in_applies (a ∷ rest)
+    first_all : (a : List SeenGroup) (rest : List (List SeenGroup)) → in_rounds (first_join places a rest) + in_applies (after_first places a rest) ≡ in_applies (a ∷ rest)
     first_all [] rest = refl
     first_all (g ∷ []) rest = let all = joined_all g rest in omega (arith, all)
     first_all (g ∷ h ∷ more) rest = refl
@@ -84,8 +84,8 @@ module _ (weight : SeenGroup → ℕ) where
     joins_all zero (a ∷ rest) h = absurd (omega (arith, h))
     joins_all (suc n) [] h = refl
     joins_all (suc n) (a ∷ rest) h =
-        let few = behind_few places a rest in
-        let ih = joins_all n (behind_first places a rest) (omega (arith, h, few)) in
+        let few = after_few places a rest in
+        let ih = joins_all n (after_first places a rest) (omega (arith, h, few)) in
         let first = first_all a rest in
         omega (arith, ih, first)
 

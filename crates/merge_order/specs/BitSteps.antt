@@ -30,26 +30,26 @@ ends fault = record { steps = []; fault = fault }
 abbrev pub nothing_left : BitStepsOf
 nothing_left = ends None
 
--- a bit step, and what is left behind it
+-- a bit step, and what is left after it
 abbrev pub given_first_bit : SeenStep → BitStepsOf → BitStepsOf
 given_first_bit s left = record { steps = s ∷ left.steps; fault = left.fault }
 
--- the bit steps that became ready, in front of those of the later steps
+-- the bit steps that became ready, before those of the later steps
 abbrev pub with_ready : List SeenStep → BitStepsOf → BitStepsOf
 with_ready ready b = record { steps = ready ++ b.steps; fault = b.fault }
 
--- The end behind the last step: in the fault of the expansion, if it has one. Only a procedure that comes to its end is asked
+-- The end after the last step: in the fault of the expansion, if it has one. Only a procedure that comes to its end is asked
 -- whether an iApply is missing.
 abbrev pub end_of : Option ExpandFault → State → Option AFault
 end_of None s = option_map (λ e. Feeds (IsTarget e)) (finish s.queue)
 end_of (Some fault) s = Some (Expands fault)
 
--- what becomes ready of a step, and those behind its state; or the fault in place of it
+-- what becomes ready of a step, and those after its state; or the fault in place of it
 abbrev pub answered : Fed → (State → BitStepsOf) → BitStepsOf
 answered (Is next ready) more = with_ready ready (more next)
 answered (Fails fault) more = ends (Some (Feeds fault))
 
--- steps taken in one after the other behind a state: up to the first that is refused, or up to the end
+-- steps taken in one after the other after a state: up to the first that is refused, or up to the end
 abbrev pub bits_from : Net → Places → State → List AStep → Option ExpandFault → BitStepsOf
 bits_from net places s [] fault = ends (end_of fault s)
 bits_from net places s (step ∷ steps) fault = answered (feed net places s step) (λ t. bits_from net places t steps fault)

@@ -29,7 +29,7 @@ pub record State : Type 0 where
 abbrev pub begin : State
 begin = record { queue = empty; merging = None }
 
--- what a step comes to: the state behind it, and the bit steps that become ready; or the fault in place of them
+-- what a step comes to: the state after it, and the bit steps that become ready; or the fault in place of them
 pub data Fed : Type 0 where
   Is : State → List SeenStep → Fed
   Fails : AFault → Fed
@@ -43,7 +43,7 @@ abbrev pub answered : Option Merging → Found Answer → Fed
 answered merging (IsBound answer) = given merging answer
 answered merging (IsRefused fault) = Fails (Targets fault)
 
--- what is written and read in front of a branch, and at its end, is applied
+-- what is written and read before a branch, and at its end, is applied
 abbrev pub if_applied : Option TargetFault → State → Fed
 if_applied None s = Is s []
 if_applied (Some fault) s = Fails (Targets fault)

@@ -28,12 +28,12 @@ takes places join h = not (is_closed join) && can_join places (open_round join) 
 abbrev pub with_round : List SeenGroup → SeenGroup → List SeenGroup
 with_round join h = both (open_round join) h ∷ []
 
--- a round goes into the first join that can take it, or is one behind
+-- a round goes into the first join that can take it, or is one after
 abbrev pub put_round : Places → SeenGroup → List (List SeenGroup) → List (List SeenGroup)
 put_round places h [] = (h ∷ []) ∷ []
 put_round places h (join ∷ joins) = cond (takes places join h) (with_round join h ∷ joins) (join ∷ put_round places h joins)
 
--- an iApply of one round goes where its round goes, and any other is a join behind
+-- an iApply of one round goes where its round goes, and any other is a join after
 abbrev pub put_in : Places → List (List SeenGroup) → List SeenGroup → List (List SeenGroup)
 put_in places joins [] = joins ++ [] ∷ []
 put_in places joins (h ∷ []) = put_round places h joins
@@ -50,7 +50,7 @@ put_all places joins (a ∷ applies) = put_all places (put_in places joins a) ap
 abbrev pub join_at : List (List SeenGroup) → ℕ → List SeenGroup
 join_at joins k = slice_index_or joins k (no_group ∷ [])
 
--- a round goes into the join of this number, or is one behind
+-- a round goes into the join of this number, or is one after
 abbrev pub put_at : ℕ → SeenGroup → List (List SeenGroup) → List (List SeenGroup)
 put_at k h [] = (h ∷ []) ∷ []
 put_at zero h (join ∷ joins) = with_round join h ∷ joins

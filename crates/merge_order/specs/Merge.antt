@@ -70,17 +70,17 @@ first_join places [] later = []
 first_join places (g ∷ []) later = joined places g later ∷ []
 first_join places (g ∷ h ∷ more) later = g ∷ h ∷ more
 
--- the iApplys behind that join
-abbrev pub behind_first : Places → List SeenGroup → List (List SeenGroup) → List (List SeenGroup)
-behind_first places [] later = later
-behind_first places (g ∷ []) later = unjoined places g later
-behind_first places (g ∷ h ∷ more) later = later
+-- the iApplys after that join
+abbrev pub after_first : Places → List SeenGroup → List (List SeenGroup) → List (List SeenGroup)
+after_first places [] later = later
+after_first places (g ∷ []) later = unjoined places g later
+after_first places (g ∷ h ∷ more) later = later
 
 -- join after join, until no iApply is left; each takes at least the first
 abbrev pub joins_upto : Places → ℕ → List (List SeenGroup) → List (List SeenGroup)
 joins_upto places zero applies = []
 joins_upto places (suc n) [] = []
-joins_upto places (suc n) (a ∷ later) = first_join places a later ∷ joins_upto places n (behind_first places a later)
+joins_upto places (suc n) (a ∷ later) = first_join places a later ∷ joins_upto places n (after_first places a later)
 
 abbrev pub all_joins : Places → List (List SeenGroup) → List (List SeenGroup)
 all_joins places applies = joins_upto places (length applies) applies

@@ -20,7 +20,7 @@ abbrev pub HasTurns : Option Merging → Type 0
 HasTurns None = Unit {0}
 HasTurns (Some m) = All AreTurns m.branches × AreTurns m.next
 
--- what holds of the state behind a step
+-- what holds of the state after a step
 abbrev pub OfFed : (State → Type 0) → Fed → Type 0
 OfFed P (Is next ready) = P next
 OfFed P (Fails fault) = Unit {0}
@@ -46,13 +46,13 @@ NoneReads test branches = All (λ c. filter test (reads_in c) ≡ []) branches
 -- What one branch alone writes, such as a bit that no other names, is written in the merge as often, in the same order and with
 -- the same values.
 abbrev pub WritesOfOneStay : Type 0
-WritesOfOneStay = (places : Places) (before : List Branch) (b : Branch) (behind : List Branch) (test : WriteBit → Bool) → AreTurns b
-    → NoneWrites test before → NoneWrites test behind → filter test (writes_in (merged places (before ++ b ∷ behind))) ≡ filter test (writes_in b)
+WritesOfOneStay = (places : Places) (before : List Branch) (b : Branch) (following : List Branch) (test : WriteBit → Bool) → AreTurns b
+    → NoneWrites test before → NoneWrites test following → filter test (writes_in (merged places (before ++ b ∷ following))) ≡ filter test (writes_in b)
 
 -- and what one branch alone reads is read so
 abbrev pub ReadsOfOneStay : Type 0
-ReadsOfOneStay = (places : Places) (before : List Branch) (b : Branch) (behind : List Branch) (test : ReadBit → Bool) → AreTurns b
-    → NoneReads test before → NoneReads test behind → filter test (reads_in (merged places (before ++ b ∷ behind))) ≡ filter test (reads_in b)
+ReadsOfOneStay = (places : Places) (before : List Branch) (b : Branch) (following : List Branch) (test : ReadBit → Bool) → AreTurns b
+    → NoneReads test before → NoneReads test following → filter test (reads_in (merged places (before ++ b ∷ following))) ≡ filter test (reads_in b)
 
 -- ---- instruments
 
@@ -60,6 +60,6 @@ ReadsOfOneStay = (places : Places) (before : List Branch) (b : Branch) (behind :
 -- its inputs, those of this branch alone, from whatever state the merge begins in.
 abbrev pub InstrumentsSeeTheirBranch : Type 0
 InstrumentsSeeTheirBranch = (net : Net) (machines : List Machine) (d : Direct (List Event)) (places : Places)
-    (before : List Branch) (b : Branch) (behind : List Branch) (i : ℕ) → AreTurns b
-    → NoneWrites (λ w. feeds net i w.bit) before → NoneWrites (λ w. feeds net i w.bit) behind
-    → changes_seen (do_all whole_log net machines d (merged places (before ++ b ∷ behind))) i ≡ changes_seen (do_all whole_log net machines d b) i
+    (before : List Branch) (b : Branch) (following : List Branch) (i : ℕ) → AreTurns b
+    → NoneWrites (λ w. feeds net i w.bit) before → NoneWrites (λ w. feeds net i w.bit) following
+    → changes_seen (do_all whole_log net machines d (merged places (before ++ b ∷ following))) i ≡ changes_seen (do_all whole_log net machines d b) i

@@ -3,7 +3,7 @@ use Rattle.std.specs.Prelude.{◌≡◌, ◌≤◌, ◌⊎◌, List, [], ◌∷�
 use Rattle.net_graph.specs.SeenSteps.{SeenGroup, SeenStep, Apply, Run, Reset}
 use Rattle.merge_order.specs.Merge.{Branch}
 
--- the elements of a list stand in another, one behind the other
+-- the elements of a list stand in another, one after the other
 abbrev pub StandIn : {X : Type 0} → List X → List X → Type 0
 StandIn [] ys = Unit {0}
 StandIn (x ∷ xs) [] = ⊥
@@ -30,7 +30,7 @@ Does (Run m) (Run n) = n ≤ m
 Does (Run m) Reset = ⊥
 Does Reset s = ⊥
 
--- bit steps do those of a branch, each by one of its own, one behind the other
+-- bit steps do those of a branch, each by one of its own, one after the other
 abbrev pub DoBranch : List SeenStep → Branch → Type 0
 DoBranch ms [] = Unit {0}
 DoBranch [] (s ∷ ss) = ⊥

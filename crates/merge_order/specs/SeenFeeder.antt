@@ -18,14 +18,14 @@ pub record AFeeder : Type 0 where
   pub state : State
   pub ready : List SeenStep
 
--- what a step comes to, behind bit steps that are ready
-abbrev pub behind : List SeenStep → Fed → Fed
-behind ready (Is s more) = Is s (ready ++ more)
-behind ready (Fails fault) = Fails fault
+-- what a step comes to, after bit steps that are ready
+abbrev pub following : List SeenStep → Fed → Fed
+following ready (Is s more) = Is s (ready ++ more)
+following ready (Fails fault) = Fails fault
 
 -- a step is taken in, or the fault that it comes to is said
 abbrev pub Feeds : Fed → AFeeder → AFeeder → Result (Unit {0}) FeedFault → Type 0
-Feeds fed old new (Ok u) = behind old.ready fed ≡ Is new.state new.ready
+Feeds fed old new (Ok u) = following old.ready fed ≡ Is new.state new.ready
 Feeds fed old new (Err e) = Refuses fed e
 
 abbrev pub seen_begun : Begun → Merging

@@ -11,7 +11,7 @@ use Rattle.merge_order.specs.declared.progress.Move.{Move}
 use Rattle.merge_order.specs.declared.progress.Move.TheVariants as move
 use Rattle.merge_order.specs.declared.progress.Progress.{Progress}
 
--- a step that was given and isn't taken in yet, and those behind it
+-- a step that was given and isn't taken in yet, and those after it
 abbrev pub with_pending : Option Step → Left → Left
 with_pending None left = left
 with_pending (Some s) left = given_first (seen_step s) left
@@ -20,15 +20,15 @@ abbrev pub steps_of : Progress → Left
 steps_of p = with_pending p.pending p.steps
 
 -- the bit steps that are ready, and those that come of later steps
-abbrev pub bits_behind : AFeeder → Left → BitStepsOf
-bits_behind f left = with_ready f.ready (bits_of f.net (places_in f.form) f.state left)
+abbrev pub bits_after : AFeeder → Left → BitStepsOf
+bits_after f left = with_ready f.ready (bits_of f.net (places_in f.form) f.state left)
 
 abbrev pub StepsLeft : Type 0
 StepsLeft = Left
 
 -- the bit steps that are left
 abbrev pub left_of : Progress → BitStepsOf
-left_of p = bits_behind p.feeder (steps_of p)
+left_of p = bits_after p.feeder (steps_of p)
 
 -- the iReads that were taken in and the steps that are left are at most 100,000 together, so a feeder can count them
 pub record IsUnderWay (p : Progress) : Type 0 where

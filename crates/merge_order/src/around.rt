@@ -12,7 +12,7 @@ use net_graph::{Branch, Group, ReadBit, WriteBit};
 use net_tree::Tree;
 use std::alloc::Global;
 
-/// Puts rows behind others.
+/// Puts rows after others.
 fn add_rows(rows: &mut List<Branch>, more: &[Branch]) -> Result<(), OutOfMemory>
     ensures { OnOk result (rows.new.items ≡ rows.old.items ++ more.now) }
 {

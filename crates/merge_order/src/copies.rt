@@ -8,7 +8,7 @@ use ij_bits::{List, OutOfMemory};
 use net_graph::{Group, ReadBit, WriteBit};
 use std::alloc::Global;
 
-/// Puts writes behind others.
+/// Puts writes after others.
 fn add_writes(writes: &mut List<WriteBit>, more: &[WriteBit]) -> Result<(), OutOfMemory>
     ensures { OnOk result (writes.new.items ≡ writes.old.items ++ more.now) }
 {
@@ -18,7 +18,7 @@ fn add_writes(writes: &mut List<WriteBit>, more: &[WriteBit]) -> Result<(), OutO
     Ok(())
 }
 
-/// Puts reads behind others.
+/// Puts reads after others.
 fn add_reads(reads: &mut List<ReadBit>, more: &[ReadBit]) -> Result<(), OutOfMemory>
     ensures { OnOk result (reads.new.items ≡ reads.old.items ++ more.now) }
 {
@@ -28,7 +28,7 @@ fn add_reads(reads: &mut List<ReadBit>, more: &[ReadBit]) -> Result<(), OutOfMem
     Ok(())
 }
 
-/// Puts the writes and reads of a round behind those of another.
+/// Puts the writes and reads of a round after those of another.
 pub(crate) fn add_group(group: &mut Group, other: &Group) -> Result<(), OutOfMemory>
     ensures { OnOk result (seen_group group.new ≡ merge.both (seen_group group.old) (seen_group other.now)) }
 {

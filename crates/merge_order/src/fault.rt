@@ -17,7 +17,7 @@ pub enum FeedFault {
     MergeInside { at: Place },
     /// An iReset stands within an iMerge.
     MergeReset { at: Place },
-    /// The step can't be bound to register bits, or an `iApply` is missing in front of a branch or at its end.
+    /// The step can't be bound to register bits, or an `iApply` is missing before a branch or at its end.
     Target(TargetFault),
 }
 

@@ -8,7 +8,7 @@ ghost use Rattle.pdl_targets.specs.Seen.{Finishes};
 ghost use Rattle.pdl_targets.specs.SeenPlaces.{places_in};
 ghost use Rattle.merge_order.specs.Feeding as feeding;
 ghost use Rattle.merge_order.specs.SeenFaults.{Refuses};
-ghost use Rattle.merge_order.specs.SeenFeeder.{behind};
+ghost use Rattle.merge_order.specs.SeenFeeder.{following};
 
 use crate::fault::FeedFault;
 use crate::feeding::Feed;
@@ -60,11 +60,11 @@ impl<'a> Feeder<'a> {
     /// # Errors
     ///
     /// The first of these: [`FeedFault::MergeInside`] exactly at an `iMerge -begin` within an iMerge; [`FeedFault::MergeReset`]
-    /// exactly at an iReset within one; [`FeedFault::Target`] with `Unapplied` exactly where an iWrite or an iRead in front
-    /// of an iMerge, or in a branch of one, has no iApply behind it there; then those of `Binder::feed`.
+    /// exactly at an iReset within one; [`FeedFault::Target`] with `Unapplied` exactly where an iWrite or an iRead before
+    /// of an iMerge, or in a branch of one, has no iApply after it there; then those of `Binder::feed`.
     pub fn feed(&mut self, step: &Step) -> Result<(), FeedFault>
         requires { self.old.state.queue.asked + 1 < 2 ^ 32 }
-        ensures given { OnOk result (behind self.old.ready (feeding.feed self.old.net (places_in self.old.form) self.old.state (seen_step step.now)) ≡ feeding.Is self.new.state self.new.ready) }
+        ensures given { OnOk result (following self.old.ready (feeding.feed self.old.net (places_in self.old.form) self.old.state (seen_step step.now)) ≡ feeding.Is self.new.state self.new.ready) }
         ensures refused { IfErr result (Refuses (feeding.feed self.old.net (places_in self.old.form) self.old.state (seen_step step.now))) }
         ensures stays { OnErr result (self.new ≡ self.old) }
         ensures net { self.new.net ≡ self.old.net }

@@ -8,7 +8,7 @@ ghost use Rattle.pdl_targets.specs.Seen.{Finishes};
 ghost use Rattle.pdl_targets.specs.SeenPlaces.{places_in};
 ghost use Rattle.merge_order.specs.Feeding as feeding;
 ghost use Rattle.merge_order.specs.SeenFaults.{Refuses};
-ghost use Rattle.merge_order.specs.SeenFeeder.{Feeds, HasItsTree, behind, seen_begun, seen_feed};
+ghost use Rattle.merge_order.specs.SeenFeeder.{Feeds, HasItsTree, following, seen_begun, seen_feed};
 ghost use Rattle.merge_order.specs.SeenTurns.{seen_steps};
 
 use crate::fault::FeedFault;
@@ -76,7 +76,7 @@ impl Begun {
 /// Binds a step, whose bit step is ready at once.
 fn bind(binder: &mut Binder, ready: &mut VecDeque<BitStep>, step: &Step) -> Result<(), FeedFault>
     requires { binder.old.queue.asked + 1 < 2 ^ 32 }
-    ensures given { OnOk result (behind (seen_steps ready.old.items) (feeding.answered None (bound binder.old.net (places_in binder.old.form) binder.old.queue (seen_step step.now))) ≡ feeding.Is (record { queue = binder.new.queue; merging = None }) (seen_steps ready.new.items)) }
+    ensures given { OnOk result (following (seen_steps ready.old.items) (feeding.answered None (bound binder.old.net (places_in binder.old.form) binder.old.queue (seen_step step.now))) ≡ feeding.Is (record { queue = binder.new.queue; merging = None }) (seen_steps ready.new.items)) }
     ensures refused { IfErr result (Refuses (feeding.answered None (bound binder.old.net (places_in binder.old.form) binder.old.queue (seen_step step.now)))) }
     ensures queue { OnErr result (binder.new.queue ≡ binder.old.queue) }
     ensures stays { OnErr result (seen_steps ready.new.items ≡ seen_steps ready.old.items) }
@@ -162,7 +162,7 @@ impl<'a> Feed<'a> {
     /// Ends a merge, whose bit steps are ready then.
     fn end_merge(&mut self) -> Result<(), OutOfMemory>
         requires tree { HasItsTree self.old }
-        ensures ready { OnOk result (behind (seen_feed self.old).ready (feeding.end_merge (places_in self.old.binder.form) (seen_feed self.old).state) ≡ feeding.Is (seen_feed self.new).state (seen_feed self.new).ready) }
+        ensures ready { OnOk result (following (seen_feed self.old).ready (feeding.end_merge (places_in self.old.binder.form) (seen_feed self.old).state) ≡ feeding.Is (seen_feed self.new).state (seen_feed self.new).ready) }
         ensures stays { OnErr result (seen_feed self.new ≡ seen_feed self.old) }
         ensures net { self.new.binder.net ≡ self.old.binder.net }
         ensures form { self.new.binder.form ≡ self.old.binder.form }

@@ -42,7 +42,7 @@ fn alone(alloc: Global, round: &Group) -> Result<Vec<Group>, OutOfMemory>
     Ok(join)
 }
 
-/// Puts a round into the join of this number, or behind the joins.
+/// Puts a round into the join of this number, or after the joins.
 fn put_at(
     alloc: Global,
     joins: &mut Vec<Vec<Group>>,
@@ -63,7 +63,7 @@ fn put_at(
     Ok(())
 }
 
-/// Puts a round into the first join that can take it, or behind the joins.
+/// Puts a round into the first join that can take it, or after the joins.
 fn put_round(
     alloc: Global,
     tree: &Tree,
@@ -83,7 +83,7 @@ fn put_round(
     Ok(())
 }
 
-/// Puts the rounds of an iApply behind the joins: none, or more than one.
+/// Puts the rounds of an iApply after the joins: none, or more than one.
 fn put_rounds(
     alloc: Global,
     _tree: &Tree,
@@ -102,7 +102,7 @@ fn put_rounds(
     Ok(())
 }
 
-/// Puts an iApply into the first join that can take it, or behind the joins.
+/// Puts an iApply into the first join that can take it, or after the joins.
 fn put_in(
     alloc: Global,
     tree: &Tree,

@@ -42,7 +42,7 @@ pub use turns::merged;
 ///
 /// - `turns`: whatever steps are taken in, the branches of a merge have iApplys and runs of a clock or more, and no reset: so what
 ///   follows holds of each of them.
-/// - `each`: a merge does each bit step of a branch by one of its own, one behind the other: an iApply with all its writes and
+/// - `each`: a merge does each bit step of a branch by one of its own, one after the other: an iApply with all its writes and
 ///   reads, round by round, and a run with at least its clocks.
 /// - `writes`: what one branch alone writes, such as a bit that no other branch names, is written in the merge as often, in the
 ///   same order and with the same values.

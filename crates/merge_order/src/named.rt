@@ -50,7 +50,7 @@ impl Named {
         self.rows.clear();
     }
 
-    /// A round goes into a join, or is a join behind the others. After want of memory the tables want to be cleared.
+    /// A round goes into a join, or is a join after the others. After want of memory the tables want to be cleared.
     pub fn add(&mut self, group: &Group, around: &[Branch], join: u32) -> Result<(), OutOfMemory>
         ensures { (places : Places) (joins : List (List SeenGroup)) → SameRows around.now (rows_around places (seen_group group.now)) → Tells places self.old joins → join ≤ length joins → is_closed (join_at joins join) ≡ false → OnOk result (Tells places self.new (put_at join (seen_group group.now) joins)) }
     {

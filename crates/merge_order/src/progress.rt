@@ -9,7 +9,7 @@ ghost use Rattle.pdl_parser.specs.Grammar.{full_names};
 ghost use Rattle.pdl_parser.specs.Views.{seen_proc};
 ghost use Rattle.merge_order.specs.BitSteps.{bit_steps, given_first_bit, nothing_left};
 ghost use Rattle.merge_order.specs.Seen.{Refuses, of_feed};
-ghost use Rattle.merge_order.specs.SeenProgress.{StepsLeft, IsUnderWay, Moves, bits_behind, left_of, with_pending};
+ghost use Rattle.merge_order.specs.SeenProgress.{StepsLeft, IsUnderWay, Moves, bits_after, left_of, with_pending};
 
 use crate::fault::FeedFault;
 use crate::feeder::Feeder;
@@ -83,10 +83,10 @@ fn feed<'a>(
 ) -> Result<(), FeedFault>
     requires few { feeder.old.state.queue.asked + 1 < 2 ^ 32 }
     requires none_ready { feeder.old.ready ≡ [] }
-    ensures given { OnOk result ((more : StepsLeft) → bits_behind feeder.old (given_first (seen_step step) more) ≡ bits_behind feeder.new more) }
+    ensures given { OnOk result ((more : StepsLeft) → bits_after feeder.old (given_first (seen_step step) more) ≡ bits_after feeder.new more) }
     ensures asked { OnOk result (feeder.new.state.queue.asked ≤ feeder.old.state.queue.asked + 1) }
     ensures none { OnOk result (pending.new ≡ pending.old) }
-    ensures refused { IfErr result (λ e. (more : StepsLeft) → Refuses (bits_behind feeder.old (given_first (seen_step step) more)) (of_feed e)) }
+    ensures refused { IfErr result (λ e. (more : StepsLeft) → Refuses (bits_after feeder.old (given_first (seen_step step) more)) (of_feed e)) }
     ensures kept { OnErr result (pending.new ≡ Some step) }
     ensures stays { OnErr result (feeder.new ≡ feeder.old) }
 {

@@ -19,7 +19,7 @@ use std::marker::Model;
 /// The bit steps of a procedure of the top module, one after the other (IEEE 1687-2014, PDL level 0).
 ///
 /// Contracts see what is left: the `steps` up to the end of the procedure or up to the `fault` in which they end. The fault
-/// of a step stands in front of that of a later command, and a missing iApply comes only at the end of the procedure.
+/// of a step stands before that of a later command, and a missing iApply comes only at the end of the procedure.
 pub struct BitSteps<'a> {
     progress: Progress<'a>,
 }
@@ -75,7 +75,7 @@ impl<'a> BitSteps<'a> {
     ///
     /// At each command, in the order in which they are executed: [`StepFault::Expand`] where the procedure can't go on (see
     /// `Steps::next`), else [`StepFault::Feed`] where the step can't be taken in (see `Feeder::feed`). At the end
-    /// [`StepFault::Feed`] with the `Unapplied` of an iWrite or an iRead without an iApply behind it. The bit steps of an
+    /// [`StepFault::Feed`] with the `Unapplied` of an iWrite or an iRead without an iApply after it. The bit steps of an
     /// iMerge come at its end, in the order of its turns, so before a fault inside of it none of them is given.
     pub fn next(&mut self) -> Result<Option<BitStep>, StepFault>
         ensures given { IfOk result (λ o. MatchOption o (self.old ≡ nothing_left) (λ s. self.old ≡ given_first_bit (seen_step s) self.new)) }

@@ -15,7 +15,7 @@ use net_tree::Tree;
 use std::alloc::Global;
 use std::cmp::max;
 
-/// Puts a bit step behind iApplys, each by its rounds, if it is one.
+/// Puts a bit step after iApplys, each by its rounds, if it is one.
 fn add_apply<'a>(applies: &mut Vec<&'a [Group]>, step: &'a BitStep) -> Result<(), OutOfMemory>
     ensures { OnOk result (seen_applies applies.new.items ≡ seen_applies applies.old.items ++ merge.applies_in (seen_step step.now ∷ [])) }
 {
@@ -57,7 +57,7 @@ fn longest_run(heads: &[&BitStep]) -> u32
     longest
 }
 
-/// Puts joins behind bit steps, each as one iApply.
+/// Puts joins after bit steps, each as one iApply.
 fn put_joins(joins: Vec<Vec<Group>>, steps: &mut List<BitStep>) -> Result<(), OutOfMemory>
     ensures { OnOk result (seen_steps steps.new.items ≡ seen_steps steps.old.items ++ map Apply (seen_joins joins.items)) }
 {
@@ -67,7 +67,7 @@ fn put_joins(joins: Vec<Vec<Group>>, steps: &mut List<BitStep>) -> Result<(), Ou
     Ok(())
 }
 
-/// Puts a run behind bit steps, unless it has no cycle.
+/// Puts a run after bit steps, unless it has no cycle.
 fn put_run(cycles: u32, steps: &mut List<BitStep>) -> Result<(), OutOfMemory>
     ensures { OnOk result (seen_steps steps.new.items ≡ seen_steps steps.old.items ++ merge.if_any (run_of cycles)) }
 {
@@ -90,7 +90,7 @@ fn turn_joins(
     all_joins(alloc, tree, named, &applies)
 }
 
-/// Puts a turn behind bit steps.
+/// Puts a turn after bit steps.
 fn put_turn(
     alloc: Global,
     tree: &Tree,
@@ -105,7 +105,7 @@ fn put_turn(
     put_run(longest_run(heads), steps)
 }
 
-/// The bit steps of a turn, and what is left of the branches behind it.
+/// The bit steps of a turn, and what is left of the branches after it.
 #[derive(Drop)]
 struct Turn<'a> {
     heads: Vec<&'a BitStep>,
@@ -155,7 +155,7 @@ fn branch_references<'a>(
     Ok(all)
 }
 
-/// Puts the bit steps of a merge of these branches behind none.
+/// Puts the bit steps of a merge of these branches after none.
 fn put_merged(
     alloc: Global,
     tree: &Tree,

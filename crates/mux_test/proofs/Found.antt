@@ -67,7 +67,7 @@ module _ (net : Net) (form : Items) (t : IsTestable net form) where
     some : 0 < device.ir
     some = omega (arith, v.two_bits)
 
-    -- ---- the test behind the preface
+    -- ---- the test after the preface
 
     module _ (path : Holds → List ℕ) where
       abbrev chip : Chip L

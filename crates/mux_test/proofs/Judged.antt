@@ -160,7 +160,7 @@ all_open net bs rows e a = subst (All (λ r. IsBranchOf net r.branch)) (sym e) (
         All-cons (λ (r : JudgedRow). IsBranchOf net r.branch) (open_row b) (map open_row bs) (All-head (IsBranchOf net) b bs a) (each_open bs (All-tail (IsBranchOf net) b bs a))
 
 module _ (net : Net) (scans : List PlannedScan) (i : ℕ) (x : PlannedScan) (l : i < length scans) (is : x ≡ get_or scans i x) (h next : Holds) (n : next ≡ write_all h x.plan.writes.items) where
-  -- the next scan, and those behind it
+  -- the next scan, and those after it
   pub left_is : map seen_planned (drop i scans) ≡ seen_planned x ∷ map seen_planned (drop (i + 1) scans)
   left_is = ap (map seen_planned) (drop_more scans i x l ∙ ap (λ y. y ∷ drop (i + 1) scans) (sym is))
 

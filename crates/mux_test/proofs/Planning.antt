@@ -40,7 +40,7 @@ use Rattle.mux_test.specs.Test.{branches, scanned, tested_from}
 use Rattle.mux_test.proofs.Testing.{all_branches}
 use Rattle.scan_packer.proofs.Held.{plan_held}
 
--- ---- more scans behind some
+-- ---- more scans after some
 
 pub flushes-append : (net : Net) (h : Holds) (xs ys : List SeenPlanned) → planned_flushes net h (xs ++ ys) ≡ planned_flushes net h xs ++ planned_flushes net (last_planned h xs) ys
 flushes-append net h [] ys = refl

@@ -1,4 +1,4 @@
--- Flushes, one behind the other, on a bench without faults and on one with a stuck mux.
+-- Flushes, one after the other, on a bench without faults and on one with a stuck mux.
 use Rattle.std.proofs.Common.{◌≡◌, ◌≢◌, ⊎_elim, ℕ, ◌+◌, ◌<◌, ◌≤◌, Bool, true, false, List, [], ◌∷◌, ◌++◌, length, refl, sym, ap, ◌∙◌, subst, arith, length-append}
 use Rattle.std.specs.Prelude.{map, All, get_or, not, ◌==◌, Contains, unwrap_or}
 use Rattle.std.specs.Str.{bytes_eq as same_registers}

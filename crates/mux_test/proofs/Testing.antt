@@ -86,8 +86,8 @@ module _ (net : Net) (form : Items) (t : IsTestable net form) where
   not_empty some h s =
       let (r, there, free) = outer (length (place_of form (FromMux 0))) 0 some (omega arith) in
       let (path, traced) = has_path net form t.well_formed t.describes t.lawful h s in
-      let in_front : AreIn net h (place_of form (FromReg r)) = subst (AreIn net h) (sym free) (λ b a. absurd a) in
-      let on = open_path net form t.describes h path r traced there in_front in
+      let before : AreIn net h (place_of form (FromReg r)) = subst (AreIn net h) (sym free) (λ b a. absurd a) in
+      let on = open_path net form t.describes h path r traced there before in
       let width : length (bits_at h r) ≡ get_or (map (λ reg. reg.width) net.regs.items) r 0 = length_at h r ∙ ap (λ ws. get_or ws r 0) s.widths in
       let wide = wide_at net net.regs.items r t.well_formed.regs there in
       subst (λ p. 0 < length (chain p h)) (ap (λ o. unwrap_or o []) (sym traced)) (long_enough path h r on (omega (arith, width, wide)))

@@ -6,6 +6,28 @@ ghost use Rattle.net_graph.specs.Chain.{shift};
 
 use ij_bits::{Bits, Ring};
 
+/// The bit at position 0, and 0 of no bits.
+pub(crate) fn first_bit(stage: &Bits) -> bool
+    ensures { result ≡ bit stage.now.items 0 }
+{
+    if stage.is_empty() {
+        false
+    } else {
+        stage.get(0)
+    }
+}
+
+/// The bit at position 0 of a list that turns, and 0 of no bits.
+pub(crate) fn first_of_ring(stage: &Ring) -> bool
+    ensures { result ≡ bit stage.now.items 0 }
+{
+    if stage.is_empty() {
+        false
+    } else {
+        stage.get(0)
+    }
+}
+
 /// One clock of a shift: answers the bit at position 0, and 0 of no bits.
 pub(crate) fn shift_stage(stage: &mut Bits, tdi: bool) -> bool
     ensures tdo { result ≡ bit stage.old.items 0 }

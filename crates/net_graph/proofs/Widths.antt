@@ -63,7 +63,7 @@ chain_fits net p s h r =
     total_fits p (map length s) (subst (λ n. IsRoute n p) (sym (length-map s length)) r) in
     omega (arith, length-chain p s, fits, ap sum h)
 
--- the next register of a path, and those behind it
+-- the next register of a path, and those after it
 pub turn_register : (n : ℕ) (path : List ℕ) (i : ℕ) → i < length path → IsRoute n (drop i path) → (get_or path i 0 < n) × IsRoute n (drop (i + 1) path)
 turn_register n path i h r =
     let k : IsRoute n (get_or path i 0 ∷ drop (i + 1) path) = subst (IsRoute n) (drop_more path i 0 h) r in (k.0, k.2)

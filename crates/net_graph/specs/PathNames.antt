@@ -5,17 +5,17 @@ use Rattle.std.specs.List.{flat_map}
 use Rattle.ij_bits.specs.Room.{Listed}
 use Rattle.net_graph.specs.declared.net.Net.{Net}
 
--- a name with a dot (46) behind it, and with one in front
+-- a name with a dot (46) after it, and with one before
 abbrev pub with_dot : Listed ℕ → List ℕ
 with_dot name = name.items ++ 46 ∷ []
 
-abbrev pub behind_dot : Listed ℕ → List ℕ
-behind_dot name = 46 ∷ name.items
+abbrev pub after_dot : Listed ℕ → List ℕ
+after_dot name = 46 ∷ name.items
 
 -- names joined by dots
 abbrev pub joined : List (Listed ℕ) → List ℕ
 joined [] = []
-joined (name ∷ names) = name.items ++ flat_map behind_dot names
+joined (name ∷ names) = name.items ++ flat_map after_dot names
 
 -- the instance names of a node below the top
 abbrev pub node_names : Net → ℕ → List (Listed ℕ)

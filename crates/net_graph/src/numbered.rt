@@ -26,7 +26,7 @@ fn place_of(marks: &BitMarks, bit: BitId, count: usize) -> Option<usize>
     }
 }
 
-/// Gives a bit the mark of the place behind so many others. Where these have the marks of their places, and none of them is this
+/// Gives a bit the mark of the place after so many others. Where these have the marks of their places, and none of them is this
 /// bit, all have them then. Takes no memory.
 pub fn mark_next(_net: &Net, marks: &mut BitMarks, bit: BitId, count: usize)
     requires few { count + 1 < 2 ^ 32 }

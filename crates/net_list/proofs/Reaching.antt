@@ -28,7 +28,7 @@ use Rattle.path_planner.specs.Scannable.{IsScannable}
 use Rattle.path_planner.specs.Settling.{is_in_row}
 use Rattle.path_planner.proofs.Among.{Among, among-left, among-right, among-cases, all_among, among_contains, contains_among, true_on, true_all, all_true}
 use Rattle.path_planner.proofs.Inside.{around, reg_item, mux_place, path_open, open_path}
-use Rattle.path_planner.proofs.Opening.{IsPlaced, IsBehind, behind_itself, behind_next, next_listed}
+use Rattle.path_planner.proofs.Opening.{IsPlaced, IsAfter, after_itself, after_next, next_listed}
 use Rattle.path_planner.proofs.Places.{one_branch, AreIn}
 use Rattle.path_planner.proofs.RowOpening.{needed, opens_row}
 use Rattle.path_planner.proofs.RowScans.{brought, scans_are, unseen_listed}
@@ -55,16 +55,16 @@ mutual
       ⊎_elim (λ e. inl (ap (λ z. z.place) (sym e))) (λ b. ⊎_elim (λ e. inl e) (λ e. inr (inner_more (placed around rest) (placed around (RegThen r rest)) x.place (λ y z. inr z) e)) (inner rest around x b)) a
   inner (MuxThen m rows rest) around x a =
       let within = placed_rows around m 0 rows in
-      let behind = placed around rest in
+      let after = placed around rest in
       let all = placed around (MuxThen m rows rest) in
-      ⊎_elim (λ e. inl (ap (λ z. z.place) (sym e))) (λ b. ⊎_elim (λ c. ⊎_elim (λ (q, e). inr (record { item = FromMux m; place = around }, m, q, inl refl, refl, e)) (λ e. inr (inner_more within all x.place (λ y z. inr (among-left y within behind z)) e)) (row_inner rows around m 0 x c)) (λ c. ⊎_elim (λ e. inl e) (λ e. inr (inner_more behind all x.place (λ y z. inr (among-right y within behind z)) e)) (inner rest around x c)) (among-cases x within behind b)) a
+      ⊎_elim (λ e. inl (ap (λ z. z.place) (sym e))) (λ b. ⊎_elim (λ c. ⊎_elim (λ (q, e). inr (record { item = FromMux m; place = around }, m, q, inl refl, refl, e)) (λ e. inr (inner_more within all x.place (λ y z. inr (among-left y within after z)) e)) (row_inner rows around m 0 x c)) (λ c. ⊎_elim (λ e. inl e) (λ e. inr (inner_more after all x.place (λ y z. inr (among-right y within after z)) e)) (inner rest around x c)) (among-cases x within after b)) a
 
   row_inner : (rows : Rows) (around : List Branch) (m k : ℕ) (x : Placed) → Among x (placed_rows around m k rows) → ((q : ℕ) × (x.place ≡ around ++ one_branch m q)) ⊎ IsInner (placed_rows around m k rows) x.place
   row_inner NoRow around m k x a = absurd a
   row_inner (RowThen items rest) around m k x a =
       let within = placed (around ++ one_branch m k) items in
-      let behind = placed_rows around m (suc k) rest in
-      ⊎_elim (λ b. ⊎_elim (λ e. inl (k, e)) (λ e. inr (inner_more within (within ++ behind) x.place (λ y z. among-left y within behind z) e)) (inner items (around ++ one_branch m k) x b)) (λ b. ⊎_elim (λ e. inl e) (λ e. inr (inner_more behind (within ++ behind) x.place (λ y z. among-right y within behind z) e)) (row_inner rest around m (suc k) x b)) (among-cases x within behind a)
+      let after = placed_rows around m (suc k) rest in
+      ⊎_elim (λ b. ⊎_elim (λ e. inl (k, e)) (λ e. inr (inner_more within (within ++ after) x.place (λ y z. among-left y within after z) e)) (inner items (around ++ one_branch m k) x b)) (λ b. ⊎_elim (λ e. inl e) (λ e. inr (inner_more after (within ++ after) x.place (λ y z. among-right y within after z) e)) (row_inner rest around m (suc k) x b)) (among-cases x within after a)
 
 -- the place of a register is empty, or what a row needs
 module _ (net : Net) (form : Items) (d : Describes net form) where
@@ -120,16 +120,16 @@ module _ (net : Net) (form : Items) (n : IsNet net) (d : Describes net form) (w 
   off_now h s f =
       ⊎_elim (λ t. absurd (true≢false (sym (on_in h s t) ∙ f))) (λ z. z) (cases_Bool (is_in (route_of net h) r))
 
-  abbrev Behind : Holds → Holds → Type 0
-  Behind f h = IsBehind net form n d w bs is_needed f h
+  abbrev After : Holds → Holds → Type 0
+  After f h = IsAfter net form n d w bs is_needed f h
 
-  none_sooner : (f h : Holds) (hs : List Holds) (k : ℕ) → Behind f h → IsScannable net h → BringsIn net bs h hs → k < length hs → Reaches net (r ∷ []) f k → ⊥
+  none_sooner : (f h : Holds) (hs : List Holds) (k : ℕ) → After f h → IsScannable net h → BringsIn net bs h hs → k < length hs → Reaches net (r ∷ []) f k → ⊥
   none_sooner f h [] k b s o below x = absurd (omega (arith, below))
   none_sooner f h (h1 ∷ hs) zero b s o below (path, e, all) =
       b.off r placed_so (off_now h s o.0) path e (contains_among r path (all 0 0 (omega arith)))
   none_sooner f h (h1 ∷ hs) (suc k) b s o below (f1, step, x) =
       let e = o.1 in
-      none_sooner f1 h1 hs k (subst (Behind f1) (sym e) (behind_next net form n d w bs is_needed f f1 h s step b)) (subst (IsScannable net) (sym e) (next_listed net form n d w bs is_needed h s)) o.2 (omega (arith, below)) x
+      none_sooner f1 h1 hs k (subst (After f1) (sym e) (after_next net form n d w bs is_needed f f1 h s step b)) (subst (IsScannable net) (sym e) (next_listed net form n d w bs is_needed h s)) o.2 (omega (arith, below)) x
 
   reaches : (h : Holds) (hs : List Holds) → AreUnseen net h hs → AreOnPath net (r ∷ []) (last_holds h hs) → Reaches net (r ∷ []) h (length hs)
   reaches h [] u x = x
@@ -163,7 +163,7 @@ module _ (net : Net) (form : Items) (n : IsNet net) (d : Describes net form) (w 
       let listed = unseen_listed net h x.hs s x.unseen in
       let last = in_on (last_holds h x.hs) listed (brought net bs h x.hs x.brings) in
       let count : length (row_scans net bs (length bs) h) ≡ suc (length x.hs) = ap length (scans_are net bs h x.hs (length bs) x.brings x.short) ∙ length-append x.hs (last_holds h x.hs ∷ []) ∙ more (length x.hs) in
-      subst (IsLeast net (names r) h) (sym count) (some, reaches h x.hs x.unseen last, λ k below reached. none_sooner h h x.hs k (behind_itself net form n d w bs is_needed h) s x.brings below reached)
+      subst (IsLeast net (names r) h) (sym count) (some, reaches h x.hs x.unseen last, λ k below reached. none_sooner h h x.hs k (after_itself net form n d w bs is_needed h) s x.brings below reached)
     where
       more : (k : ℕ) → k + 1 ≡ suc k
       more k = omega arith

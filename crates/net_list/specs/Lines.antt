@@ -66,7 +66,7 @@ select_bits f net before bits zero = []
 select_bits f net before bits (suc n) =
     before ++ (quoted f (bit_name net (get_or bits n (record { reg = 0; pos = 0 }))) ++ select_bits f net (either f (codes " ") (codes ",")) bits n)
 
--- a row's select values: in text on a line of its own, behind the mux
+-- a row's select values: in text on a line of its own, after the mux
 abbrev pub row_text : ListFormat → Net → ℕ → Row → List ℕ
 row_text f net m row =
     either f (codes "row ") (codes "\"") ++ (either f (mux_path net m ++ codes "=") [] ++ (values_text row.values.items ++ either f (codes "\n") (codes "\"")))

@@ -9,7 +9,7 @@ use Rattle.net_picture.specs.declared.pen.Fan.{Fan}
 use Rattle.net_picture.specs.declared.shape.Shape.TheVariants.{Wire}
 use Rattle.net_picture.specs.Apart.{Area, area_of, areas_in, SharesNone, AreApart, IsWithin}
 use Rattle.net_picture.specs.Drawing.{first_pen, drawing_by, shapes_of}
-use Rattle.net_picture.specs.Layout.{drawn, pen_after, fan_after, rows_drawn, register_drawn, mux_drawn, pen_behind, row_wire, is_row}
+use Rattle.net_picture.specs.Layout.{drawn, pen_after, fan_after, rows_drawn, register_drawn, mux_drawn, pen_past, row_wire, is_row}
 use Rattle.net_picture.specs.Pens.{start_at, is_full, next_line, ready, moved, after_register, after_row, fan_at, funnel_at, after_mux}
 use Rattle.net_picture.specs.Plan.{Plan, box_of, mux_of}
 use Rattle.net_picture.proofs.Gathering.{IsOfThings, box_shape, funnel_shape, picked_register, picked_mux, picked_row, picked_both}
@@ -49,13 +49,14 @@ goes_on_then p q r a b = record {
 
 -- ---- where areas lie
 
--- behind what was drawn up to a pen, and in front of what is drawn from it on
+-- after what was drawn up to a pen, and before what is drawn from it on
 record StartsAt (p : Pen) (a : Area) : Type 0 where
   left : p.left ≤ a.left
   top : p.y ≤ a.top + 13
   after : (p.x ≤ a.left) ⊎ (p.bottom ≤ a.top)
 
 record EndsAt (p : Pen) (a : Area) : Type 0 where
+  whole : a.top + 26 ≤ a.bottom
   right : a.right ≤ p.right
   bottom : a.bottom ≤ p.bottom
   before : (a.right ≤ p.x) ⊎ (a.bottom + 13 ≤ p.y)
@@ -72,6 +73,7 @@ starts_before p q g a s = record {
 
 ends_after : (p q : Pen) → GoesOn p q → (a : Area) → EndsAt p a → EndsAt q a
 ends_after p q g a e = record {
+  whole = e.whole;
   right = omega (arith, g.right, e.right);
   bottom = omega (arith, g.bottom, e.bottom);
   before = elim g.on [
@@ -134,7 +136,7 @@ ready_fits p h = elim (is_full p) as (λ (b : Bool). Fits p (cond b (next_line p
   | false ↦ fits_none p h
 ]
 
--- an item on the line: x behind the pen, and bottom
+-- an item on the line: x after the pen, and bottom
 moved_pen : (p : Pen) (x bottom : ℕ) → IsPen p → p.x ≤ x → IsPen (moved p x bottom)
 moved_pen p x bottom h le = record {
   below = h.below;
@@ -153,7 +155,7 @@ box_fits p width h =
     let q : Pen = after_register p width in
     let le : p.x ≤ p.x + 18 + width = omega arith in
     let starts : StartsAt p a = record { left = omega (arith, h.line); top = omega (arith, h.below); after = inl (omega arith) } in
-    let ends : EndsAt q a = record { right = omega arith; bottom = omega (arith, h.deep); before = inl (omega arith) } in
+    let ends : EndsAt q a = record { whole = omega (arith, h.below); right = omega arith; bottom = omega (arith, h.deep); before = inl (omega arith) } in
     record {
       goes = moved_on p (p.x + 18 + width) p.bottom le;
       pen = moved_pen p (p.x + 18 + width) p.bottom h le;
@@ -174,6 +176,7 @@ record StartsIn (f : Fan) (a : Area) : Type 0 where
   top : f.y ≤ a.top + 13
 
 record EndsIn (f : Fan) (a : Area) : Type 0 where
+  whole : a.top + 26 ≤ a.bottom
   right : a.right ≤ f.right
   bottom : a.bottom ≤ f.bottom
 
@@ -197,7 +200,7 @@ row_fits : (f g : Fan) (p : Pen) (xs bs : List Area) → IsFan f → Fits (start
 row_fits f g p xs bs h a b =
     let next : Fan = after_row f p in
     let down : next.bottom ≤ g.bottom = b.goes.bottom (omega arith) in
-    let upper : (x : Area) → EndsAt p x → EndsIn g x = λ x e. record { right = omega (arith, e.right, b.goes.right); bottom = omega (arith, e.bottom, down) } in
+    let upper : (x : Area) → EndsAt p x → EndsIn g x = λ x e. record { whole = e.whole; right = omega (arith, e.right, b.goes.right); bottom = omega (arith, e.bottom, down) } in
     let lower : (x : Area) → StartsIn next x → StartsIn f x = λ x s. record { left = s.left; top = omega (arith, s.top, a.goes.bottom) } in
     let first : (x : Area) → StartsAt (start_at f.x f.y) x → StartsIn f x = λ x s. record { left = s.left; top = s.top } in
     record {
@@ -223,9 +226,9 @@ mux_fits p g values name xs h r =
     let wide : p.x + 34 ≤ g.right = omega (arith, r.goes.right) in
     let le : p.x ≤ end = omega (arith, wide) in
     let from : (y : Area) → StartsIn (fan_at p) y → StartsAt p y = λ y s. record { left = omega (arith, h.line, s.left); top = s.top; after = inl (omega (arith, s.left)) } in
-    let upto : (y : Area) → EndsIn g y → EndsAt q y = λ y e. record { right = omega (arith, e.right); bottom = omega (arith, e.bottom); before = inl (omega (arith, e.right)) } in
+    let upto : (y : Area) → EndsIn g y → EndsAt q y = λ y e. record { whole = e.whole; right = omega (arith, e.right); bottom = omega (arith, e.bottom); before = inl (omega (arith, e.right)) } in
     let starts : StartsAt p a = record { left = omega (arith, h.line, wide); top = omega (arith, h.below); after = inl (omega (arith, wide)) } in
-    let ends : EndsAt q a = record { right = omega arith; bottom = omega (arith, h.deep, r.fan.deep); before = inl (omega arith) } in
+    let ends : EndsAt q a = record { whole = omega (arith, h.below); right = omega arith; bottom = omega (arith, h.deep, r.fan.deep); before = inl (omega arith) } in
     record {
       goes = moved_on p end g.bottom le;
       pen = moved_pen p end g.bottom h le;
@@ -273,7 +276,7 @@ module _ (plan : Plan) where
         let part : MuxPlan = mux_of plan m in
         let f : Fan = fan_at here in
         let g : Fan = fan_after plan f rows in
-        let q : Pen = pen_behind plan p m rows in
+        let q : Pen = pen_past plan p m rows in
         let inside : List Area = areas_in (rows_drawn plan active part.row here 0 f rows) in
         let all : List Area = inside ++ area_of (funnel_shape active part m here g) in
         let mine : Fits p q all = fits_then p here q [] all first (mux_fits here g part.values part.name inside first.pen (rows_fit active part.row here 0 f rows (first_fan here first.pen))) in
@@ -303,5 +306,5 @@ module _ (plan : Plan) where
       let start : IsPen first_pen = record { below = omega arith; line = omega arith; within = omega arith; deep = omega arith } in
       let fit : Fits first_pen p mine = items_fit true first_pen form start in
       let all : areas_in (shapes_of plan form) ≡ mine = picked_both area_of areas_of_things (drawn plan true first_pen form) (Wire p.x p.y p.x (p.x + 18) p.y true ∷ []) mine [] refl refl ∙ append-nil mine in
-      let inside : (a : Area) → EndsAt p a → IsWithin (p.right + 66) (p.bottom + 20) a = λ a e. record { right = omega (arith, e.right); bottom = omega (arith, e.bottom) } in
+      let inside : (a : Area) → EndsAt p a → IsWithin (p.right + 66) (p.bottom + 20) a = λ a e. record { whole = e.whole; right = omega (arith, e.right); bottom = omega (arith, e.bottom) } in
       (subst AreApart (sym all) fit.apart, subst (All (IsWithin (p.right + 66) (p.bottom + 20))) (sym all) (All-weaker (EndsAt p) (IsWithin (p.right + 66) (p.bottom + 20)) inside mine fit.ends))

@@ -22,7 +22,7 @@ use Rattle.net_picture.specs.declared.shape.Shape.{Shape}
 use Rattle.net_picture.specs.declared.shape.Shape.TheVariants.{Register, Mux, Wire}
 use Rattle.net_picture.specs.declared.shape.RowEnd.{RowEnd}
 use Rattle.net_picture.specs.Drawing.{first_pen, drawing_by, drawing_of}
-use Rattle.net_picture.specs.Layout.{drawn, pen_after, fan_after, row_ends, rows_drawn, register_drawn, mux_drawn, mux_close, pen_behind, turn_back, wire_to, row_wire, row_close, row_closes, is_row}
+use Rattle.net_picture.specs.Layout.{drawn, pen_after, fan_after, row_ends, rows_drawn, register_drawn, mux_drawn, mux_close, pen_past, turn_back, wire_to, row_wire, row_close, row_closes, is_row}
 use Rattle.net_picture.specs.Line.{Lead, lead_of, leads_in, IsLine}
 use Rattle.net_picture.specs.Pens.{start_at, is_full, next_line, ready, after_register, after_row, fan_at, funnel_at}
 use Rattle.net_picture.specs.Plan.{Plan, box_of, mux_of, plan_of}
@@ -91,7 +91,7 @@ module _ (plan : Plan) where
         both_none (register_drawn false p r (box_of plan r)) (drawn plan false q rest)
         (both_none (wire_to false p) (Register r ((ready p).x + 18) (ready p).y (box_of plan r) false ∷ []) (off_wires p) refl) (off q rest)
     off p (MuxThen m rows rest) =
-        let q : Pen = pen_behind plan p m rows in
+        let q : Pen = pen_past plan p m rows in
         let part : MuxPlan = mux_of plan m in
         let f : Fan = fan_at (ready p) in
         let inside : List Shape = rows_drawn plan false part.row (ready p) 0 f rows in
@@ -180,7 +180,7 @@ module _ (plan : Plan) where
         let part : MuxPlan = mux_of plan m in
         let f : Fan = fan_at here in
         let g : Fan = fan_after plan f rows in
-        let q : Pen = pen_behind plan p m rows in
+        let q : Pen = pen_past plan p m rows in
         let e : Pen = pen_after plan q rest in
         let ends : List RowEnd = row_ends plan f rows in
         let x : ℕ = funnel_at g part.values in

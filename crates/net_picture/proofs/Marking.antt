@@ -19,7 +19,7 @@ use Rattle.net_picture.specs.declared.pen.Pen.{Pen}
 use Rattle.net_picture.specs.declared.pen.Fan.{Fan}
 use Rattle.net_picture.specs.declared.shape.Shape.TheVariants.{Wire}
 use Rattle.net_picture.specs.Drawing.{first_pen, shapes_of, drawing_of}
-use Rattle.net_picture.specs.Layout.{drawn, pen_after, rows_drawn, register_drawn, mux_drawn, pen_behind, row_wire, is_row}
+use Rattle.net_picture.specs.Layout.{drawn, pen_after, rows_drawn, register_drawn, mux_drawn, pen_past, row_wire, is_row}
 use Rattle.net_picture.specs.Marked.{active_box_of, active_boxes_in}
 use Rattle.net_picture.specs.Pens.{start_at, ready, after_register, after_row, fan_at}
 use Rattle.net_picture.specs.Plan.{Plan, box_of, mux_of, mux_plan, plan_of}
@@ -60,7 +60,7 @@ module _ (plan : Plan) where
         let q : Pen = after_register (ready p) (box_of plan r) in
         picked_both active_box_of of_boxes (register_drawn false p r (box_of plan r)) (drawn plan false q rest) [] [] (picked_register active_box_of of_boxes false p r (box_of plan r)) (off q rest)
     off p (MuxThen m rows rest) =
-        let q : Pen = pen_behind plan p m rows in
+        let q : Pen = pen_past plan p m rows in
         picked_both active_box_of of_boxes (mux_drawn plan false p m rows) (drawn plan false q rest) [] []
         (picked_mux active_box_of of_boxes plan false p m rows ∙ append-nil (active_boxes_in (rows_drawn plan false (mux_of plan m).row (ready p) 0 (fan_at (ready p)) rows)) ∙ off_rows (mux_of plan m).row (ready p) 0 (fan_at (ready p)) rows)
         (off q rest)
@@ -140,7 +140,7 @@ module _ (plan : Plan) where
           (meets_both (r ∷ []) others met (r ∷ met) now refl (on q rest (r ∷ met) now ms e))
       on p (MuxThen m rows rest) met now ms e =
           let (mid, f, g) = then_some (walk net holds rest) (walk_rows net holds (select_value net holds m) (rows_of net m) rows met) now e in
-          let q : Pen = pen_behind plan p m rows in
+          let q : Pen = pen_past plan p m rows in
           let inside : List ℕ = active_boxes_in (rows_drawn plan true (mux_of plan m).row (ready p) 0 (fan_at (ready p)) rows) in
           let others : List ℕ = active_boxes_in (drawn plan true q rest) in
           let inner = muxes_in_rows rows in

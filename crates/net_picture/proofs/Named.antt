@@ -14,7 +14,7 @@ use Rattle.net_picture.specs.declared.shape.Shape.{Shape}
 use Rattle.net_picture.specs.declared.shape.Shape.TheVariants.{Register, Mux, Values, Wire}
 use Rattle.net_picture.specs.declared.shape.RowEnd.{RowEnd}
 use Rattle.net_picture.specs.Drawing.{Drawing, first_pen, shapes_of, drawing_by, drawing_of}
-use Rattle.net_picture.specs.Layout.{drawn, pen_after, fan_after, row_ends, rows_drawn, register_drawn, mux_drawn, mux_close, pen_behind, turn_back, wire_to, row_wire, row_shown, row_close, row_closes, is_row}
+use Rattle.net_picture.specs.Layout.{drawn, pen_after, fan_after, row_ends, rows_drawn, register_drawn, mux_drawn, mux_close, pen_past, turn_back, wire_to, row_wire, row_shown, row_close, row_closes, is_row}
 use Rattle.net_picture.specs.Pens.{start_at, is_full, ready, after_register, after_row, fan_at, funnel_at}
 use Rattle.net_picture.specs.Plan.{Plan, box_of, mux_of, plan_of}
 use Rattle.net_picture.specs.There.{IsShapeOf}
@@ -68,7 +68,7 @@ module _ (net : Net) where
           (All-append P (wire_to active p) (box ∷ []) (wires active p) (All-cons P box [] regs.0 (All-nil P)))
           (items_there active q rest regs.2 muxes)
       items_there active p (MuxThen m rows rest) regs muxes =
-          let q : Pen = pen_behind plan p m rows in
+          let q : Pen = pen_past plan p m rows in
           let part : MuxPlan = mux_of plan m in
           let f : Fan = fan_at (ready p) in
           let inside : List Shape = rows_drawn plan active part.row (ready p) 0 f rows in

@@ -13,7 +13,7 @@ use Rattle.net_picture.specs.declared.pen.Pen.{Pen}
 use Rattle.net_picture.specs.declared.pen.Fan.{Fan}
 use Rattle.net_picture.specs.declared.shape.Shape.{Shape}
 use Rattle.net_picture.specs.declared.shape.RowEnd.{RowEnd}
-use Rattle.net_picture.specs.Layout.{drawn, pen_after, fan_after, row_ends, rows_drawn, register_drawn, mux_drawn, mux_close, pen_behind, wire_to, row_wire, is_row}
+use Rattle.net_picture.specs.Layout.{drawn, pen_after, fan_after, row_ends, rows_drawn, register_drawn, mux_drawn, mux_close, pen_past, wire_to, row_wire, is_row}
 use Rattle.net_picture.specs.Pens.{start_at, ready, after_register, after_row, fan_at, after_mux}
 use Rattle.net_picture.specs.Plan.{Plan, box_of, mux_of}
 use Rattle.net_picture.specs.Walk.{ItemsAreLeft, RowsAreLeft}
@@ -66,7 +66,7 @@ module _ (plan : Plan) (active : Bool) where
   -- a multiplexer is next
   abbrev pub MuxIsDrawn : ℕ → ℕ → List Entry → List Entry → Pen → Pen → List Shape → List Shape → Type 0
   MuxIsDrawn m count es next p q shapes more =
-      (rows : Rows) (after : List Entry) → es ≡ row_entries rows ++ after → count ≡ row_count rows → (next ≡ after) × (q ≡ pen_behind plan p m rows) × (more ≡ shapes ++ mux_drawn plan active p m rows)
+      (rows : Rows) (after : List Entry) → es ≡ row_entries rows ++ after → count ≡ row_count rows → (next ≡ after) × (q ≡ pen_past plan p m rows) × (more ≡ shapes ++ mux_drawn plan active p m rows)
 
   mux_step : (items : Items) (m count : ℕ) (es next : List Entry) (p q end : Pen) (shapes more all : List Shape) → Mux m count ∷ es ≡ entries_of items → pen_after plan p items ≡ end → shapes ++ drawn plan active p items ≡ all
       → MuxIsDrawn m count es next p q shapes more → ItemsAreLeft plan active next q more end all
@@ -77,15 +77,15 @@ module _ (plan : Plan) (active : Bool) where
       let many : count ≡ row_count rows = cc in
       let tail : es ≡ row_entries rows ++ entries_of rest = cc in
       let drew = d rows (entries_of rest) tail many in
-      let here : q ≡ pen_behind plan p k rows = drew.1 ∙ ap (λ (n : ℕ). pen_behind plan p n rows) same in
+      let here : q ≡ pen_past plan p k rows = drew.1 ∙ ap (λ (n : ℕ). pen_past plan p n rows) same in
       let added : more ≡ shapes ++ mux_drawn plan active p k rows = drew.2 ∙ ap (λ (n : ℕ). shapes ++ mux_drawn plan active p n rows) same in
       record {
         items = rest;
         entries_are = drew.0;
         end_is = ap (λ (x : Pen). pen_after plan x rest) here ∙ a;
         shapes_are = ap (λ (x : Pen). more ++ drawn plan active x rest) here
-            ∙ ap (λ (xs : List Shape). xs ++ drawn plan active (pen_behind plan p k rows) rest) added
-            ∙ append_assoc shapes (mux_drawn plan active p k rows) (drawn plan active (pen_behind plan p k rows) rest) ∙ s;
+            ∙ ap (λ (xs : List Shape). xs ++ drawn plan active (pen_past plan p k rows) rest) added
+            ∙ append_assoc shapes (mux_drawn plan active p k rows) (drawn plan active (pen_past plan p k rows) rest) ∙ s;
       }
 
   pub mux_left : (es : List Entry) (m count : ℕ) (rest next : List Entry) (p q end : Pen) (shapes more all : List Shape) → es ≡ Mux m count ∷ rest → MuxIsDrawn m count rest next p q shapes more
@@ -219,7 +219,7 @@ if_ok (Err e) P Q f p = tt
 pub mux_done : (plan : Plan) (active : Bool) (p : Pen) (m : ℕ) (rows : Rows) (pen q : Pen) (part : MuxPlan) (f g : Fan) (s0 s1 s2 s3 : List Shape) (none ends now : List RowEnd)
     → pen ≡ ready p → part ≡ mux_of plan m → s1 ≡ s0 ++ wire_to active p → f ≡ fan_at pen → none ≡ []
     → g ≡ fan_after plan f rows → s2 ≡ s1 ++ rows_drawn plan active part.row pen 0 f rows → ends ≡ none ++ row_ends plan f rows → now ≡ ends
-    → s3 ≡ s2 ++ mux_close active part m pen g now → q ≡ after_mux pen g part.values part.name → (q ≡ pen_behind plan p m rows) × (s3 ≡ s0 ++ mux_drawn plan active p m rows)
+    → s3 ≡ s2 ++ mux_close active part m pen g now → q ≡ after_mux pen g part.values part.name → (q ≡ pen_past plan p m rows) × (s3 ≡ s0 ++ mux_drawn plan active p m rows)
 mux_done plan active p m rows pen q part f g s0 s1 s2 s3 none ends now pi ti wi fi ni gi ri ei wi2 ci qi =
     let from : Pen = ready p in
     let fan : Fan = fan_at from in

@@ -12,7 +12,7 @@ use Rattle.net_picture.specs.declared.pen.Fan.{Fan}
 use Rattle.net_picture.specs.declared.shape.Shape.{Shape}
 use Rattle.net_picture.specs.declared.shape.Shape.TheVariants.{Register, Mux, Wire}
 use Rattle.net_picture.specs.Drawing.{shapes_of, first_pen, drawing_of}
-use Rattle.net_picture.specs.Layout.{drawn, pen_after, fan_after, rows_drawn, register_drawn, mux_drawn, pen_behind, row_wire, is_row}
+use Rattle.net_picture.specs.Layout.{drawn, pen_after, fan_after, rows_drawn, register_drawn, mux_drawn, pen_past, row_wire, is_row}
 use Rattle.net_picture.specs.Pens.{start_at, ready, after_register, after_row, fan_at, funnel_at}
 use Rattle.net_picture.specs.Plan.{Plan, box_of, mux_of, plan_of}
 use Rattle.net_picture.specs.Whole.{box_of_shape, funnel_of_shape, boxes_in, funnels_in}
@@ -50,7 +50,7 @@ module _ (f : Shape → List ℕ) (reg mux : ℕ → List ℕ) (k : Picks f reg 
         picked_both f k.of_things (register_drawn active p r (box_of plan r)) (drawn plan active q rest) (reg r) (gather reg mux rest)
         (picked_register f k.of_things active p r (box_of plan r) ∙ k.box r ((ready p).x + 18) (ready p).y (box_of plan r) active) (gathered active q rest)
     gathered active p (MuxThen m rows rest) =
-        let q : Pen = pen_behind plan p m rows in
+        let q : Pen = pen_past plan p m rows in
         let g : Fan = fan_at (ready p) in
         let inside : List Shape = rows_drawn plan active (mux_of plan m).row (ready p) 0 g rows in
         let end : Fan = fan_after plan g rows in

@@ -40,7 +40,9 @@ abbrev pub AreApart : List Area → Type 0
 AreApart [] = Unit {0}
 AreApart (a ∷ others) = All (SharesNone a) others × AreApart others
 
+-- none of it is over the upper edge: it is as high as it is drawn, 26 or more
 pub record IsWithin (width height : ℕ) (a : Area) : Type 0 where
+  pub whole : a.top + 26 ≤ a.bottom
   pub right : a.right ≤ width
   pub bottom : a.bottom ≤ height
 

@@ -19,7 +19,7 @@ flat_width = refl
 flat_height : (drawing_by flat (RegThen 0 Nothing)).height ≡ 72
 flat_height = refl
 
--- a register behind an insertion bit, which is closed
+-- a register after an insertion bit, which is closed
 abbrev closed : Plan
 closed =
     record { boxes = 49 ∷ 49 ∷ []; muxes = record { values = 16; name = 34; row = Some 0 } ∷ [] }

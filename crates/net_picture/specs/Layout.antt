@@ -82,16 +82,16 @@ abbrev mutual
   rows_drawn plan active row p q f (RowThen items rest) =
       (row_wire (active && is_row row q) p f ∷ drawn plan (active && is_row row q) (start_at f.x f.y) items) ++ rows_drawn plan active row p (suc q) (after_row f (pen_after plan (start_at f.x f.y) items)) rest
 
--- a multiplexer with its rows, and where the list goes on behind it
+-- a multiplexer with its rows, and where the list goes on after it
 abbrev pub mux_drawn : Plan → Bool → Pen → ℕ → Rows → List Shape
 mux_drawn plan active p m rows =
     wire_to active p ++ (rows_drawn plan active (mux_of plan m).row (ready p) 0 (fan_at (ready p)) rows ++ mux_close active (mux_of plan m) m (ready p) (fan_after plan (fan_at (ready p)) rows) (row_ends plan (fan_at (ready p)) rows))
 
-abbrev pub pen_behind : Plan → Pen → ℕ → Rows → Pen
-pen_behind plan p m rows =
+abbrev pub pen_past : Plan → Pen → ℕ → Rows → Pen
+pen_past plan p m rows =
     after_mux (ready p) (fan_after plan (fan_at (ready p)) rows) (mux_of plan m).values (mux_of plan m).name
 
--- a register behind its wire
+-- a register after its wire
 abbrev pub register_drawn : Bool → Pen → ℕ → ℕ → List Shape
 register_drawn active p r width =
     wire_to active p ++ Register r ((ready p).x + 18) (ready p).y width active ∷ []

@@ -25,7 +25,7 @@ abbrev pub moved : Pen → ℕ → ℕ → Pen
 moved p x bottom =
     record { left = p.left; x = x; y = p.y; right = max p.right x; bottom = max p.bottom bottom }
 
--- a register stands behind its wire
+-- a register stands after its wire
 abbrev pub after_register : Pen → ℕ → Pen
 after_register p width = moved p (p.x + 18 + width) p.bottom
 

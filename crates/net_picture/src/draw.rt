@@ -67,7 +67,7 @@ pub(crate) fn draw_wire_to(
     Ok(from)
 }
 
-/// Draws a register behind its wire, and answers where it ends.
+/// Draws a register after its wire, and answers where it ends.
 pub(crate) fn draw_register(
     width: u64,
     active: bool,

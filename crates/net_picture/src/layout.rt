@@ -127,7 +127,7 @@ fn draw_mux(
     requires { done.at < length entries.now }
     ensures after { IfOk result (λ next. done.at < next.at) }
     ensures within { IfOk result (λ next. next.at ≤ length entries.now) }
-    ensures drawn { IfOk result (λ next. (rows : Rows) (after : List Entry) → drop (done.at + 1) entries.now ≡ row_entries rows ++ after → count ≡ row_count rows → (drop next.at entries.now ≡ after) × (next.pen ≡ layout.pen_behind (seen_plan plan.now) done.pen mux rows) × (shapes.new.items ≡ shapes.old.items ++ layout.mux_drawn (seen_plan plan.now) active done.pen mux rows)) }
+    ensures drawn { IfOk result (λ next. (rows : Rows) (after : List Entry) → drop (done.at + 1) entries.now ≡ row_entries rows ++ after → count ≡ row_count rows → (drop next.at entries.now ≡ after) × (next.pen ≡ layout.pen_past (seen_plan plan.now) done.pen mux rows) × (shapes.new.items ≡ shapes.old.items ++ layout.mux_drawn (seen_plan plan.now) active done.pen mux rows)) }
 {
     let part = plan.mux_of(mux);
     let pen = draw_wire_to(active, done.pen, shapes)?;

@@ -96,7 +96,7 @@ impl Pen {
         }
     }
 
-    /// A register stands behind its wire.
+    /// A register stands after its wire.
     pub(crate) fn after_register(self, width: u64) -> Result<Pen, OutOfMemory>
         ensures { IfOk result (λ pen. pen ≡ pens.after_register self width) }
     {
@@ -118,7 +118,7 @@ impl Pen {
         })
     }
 
-    /// A multiplexer stands behind its wire.
+    /// A multiplexer stands after its wire.
     pub(crate) fn after_mux(self, fan: Fan, values: u64, name: u64) -> Result<Pen, OutOfMemory>
         ensures { IfOk result (λ pen. pen ≡ pens.after_mux self fan values name) }
     {

@@ -4,7 +4,7 @@ ghost use Rattle.std.specs.List.{flat_map};
 ghost use Rattle.ij_io.specs.Bytes.{Adds, AddsPart};
 ghost use Rattle.ij_io.specs.Causes.{HasCause};
 ghost use Rattle.net_graph.specs.Nets.{IsNet};
-ghost use Rattle.net_graph.specs.PathNames.{with_dot, behind_dot, joined, node_names, instance_path, thing_path, mux_path};
+ghost use Rattle.net_graph.specs.PathNames.{with_dot, after_dot, joined, node_names, instance_path, thing_path, mux_path};
 
 use ij_io::{Sink, StoreFault};
 use ij_text::Name;
@@ -33,9 +33,9 @@ fn put_with_dot<K: Sink>(name: &Name, k: &mut K) -> Result<(), StoreFault>
 }
 
 /// Writes a dot and a name.
-fn put_behind_dot<K: Sink>(name: &Name, k: &mut K) -> Result<(), StoreFault>
-    ensures whole { OnOk result (Adds (K.taken k.old) (K.taken k.new) (behind_dot name.now)) }
-    ensures part { OnErr result (AddsPart (K.taken k.old) (K.taken k.new) (behind_dot name.now)) }
+fn put_after_dot<K: Sink>(name: &Name, k: &mut K) -> Result<(), StoreFault>
+    ensures whole { OnOk result (Adds (K.taken k.old) (K.taken k.new) (after_dot name.now)) }
+    ensures part { OnErr result (AddsPart (K.taken k.old) (K.taken k.new) (after_dot name.now)) }
     ensures cause { HasCause (K.faults k.old) (K.faults k.new) result StoreFault.Failed }
 {
     k.write(b".")?;
@@ -43,7 +43,7 @@ fn put_behind_dot<K: Sink>(name: &Name, k: &mut K) -> Result<(), StoreFault>
     Ok(())
 }
 
-/// Writes each name with a dot behind it.
+/// Writes each name with a dot after it.
 fn put_all_with_dots<K: Sink>(names: &[Name], k: &mut K) -> Result<(), StoreFault>
     ensures whole { OnOk result (Adds (K.taken k.old) (K.taken k.new) (flat_map with_dot names.now)) }
     ensures part { OnErr result (AddsPart (K.taken k.old) (K.taken k.new) (flat_map with_dot names.now)) }
@@ -55,14 +55,14 @@ fn put_all_with_dots<K: Sink>(names: &[Name], k: &mut K) -> Result<(), StoreFaul
     Ok(())
 }
 
-/// Writes each name behind a dot.
-fn put_all_behind_dots<K: Sink>(names: &[Name], k: &mut K) -> Result<(), StoreFault>
-    ensures whole { OnOk result (Adds (K.taken k.old) (K.taken k.new) (flat_map behind_dot names.now)) }
-    ensures part { OnErr result (AddsPart (K.taken k.old) (K.taken k.new) (flat_map behind_dot names.now)) }
+/// Writes each name after a dot.
+fn put_all_after_dots<K: Sink>(names: &[Name], k: &mut K) -> Result<(), StoreFault>
+    ensures whole { OnOk result (Adds (K.taken k.old) (K.taken k.new) (flat_map after_dot names.now)) }
+    ensures part { OnErr result (AddsPart (K.taken k.old) (K.taken k.new) (flat_map after_dot names.now)) }
     ensures cause { HasCause (K.faults k.old) (K.faults k.new) result StoreFault.Failed }
 {
     for name in names {
-        put_behind_dot(name, k)?;
+        put_after_dot(name, k)?;
     }
     Ok(())
 }
@@ -76,7 +76,7 @@ fn put_joined<K: Sink>(names: &[Name], k: &mut K) -> Result<(), StoreFault>
     match names {
         [first, rest @ ..] => {
             put_name(first, k)?;
-            put_all_behind_dots(rest, k)?;
+            put_all_after_dots(rest, k)?;
             Ok(())
         }
         [] => Ok(()),

@@ -89,7 +89,7 @@ find_is f n k item (y ∷ ys) x s h a e =
     go false t rest =
         ⊎_elim (λ q. absurd (true≢false (sym (ap (λ z. same_point z item) (ap (λ z. z.item) q ∙ e) ∙ same_self item) ∙ t))) rest a
 
--- a branch of a place, but for those around: its mux stands in front of it
+-- a branch of a place, but for those around: its mux stands before it
 abbrev IsInside : List Placed → List Branch → Branch → Type 0
 IsInside xs place b = (y : Placed) × Among y xs × (y.item ≡ FromMux b.mux) × (rest : List Branch) × (place ≡ y.place ++ b ∷ rest)
 
@@ -104,16 +104,16 @@ mutual
       ⊎_elim (λ e. inl (subst (Among b) (sym (ap (λ z. z.place) e)) c)) (λ d. ⊎_elim (λ e. inl e) (λ i. inr (inside_more (placed around rest) (placed around (RegThen r rest)) x.place b (λ y z. inr z) i)) (inside rest around x b d c)) a
   inside (MuxThen m rows rest) around x b a c =
       let within = placed_rows around m 0 rows in
-      let behind = placed around rest in
+      let following = placed around rest in
       let all = placed around (MuxThen m rows rest) in
-      ⊎_elim (λ e. inl (subst (Among b) (sym (ap (λ z. z.place) e)) c)) (λ d. ⊎_elim (λ e. ⊎_elim (λ f. inl f) (λ f. ⊎_elim (λ g. inr (record { item = FromMux m; place = around }, inl refl, ap FromMux (sym g.0), g.1, g.2)) (λ g. inr (inside_more within all x.place b (λ y z. inr (among-left y within behind z)) g)) f) (row_inside rows around m 0 x b e c)) (λ e. ⊎_elim (λ f. inl f) (λ f. inr (inside_more behind all x.place b (λ y z. inr (among-right y within behind z)) f)) (inside rest around x b e c)) (among-cases x within behind d)) a
+      ⊎_elim (λ e. inl (subst (Among b) (sym (ap (λ z. z.place) e)) c)) (λ d. ⊎_elim (λ e. ⊎_elim (λ f. inl f) (λ f. ⊎_elim (λ g. inr (record { item = FromMux m; place = around }, inl refl, ap FromMux (sym g.0), g.1, g.2)) (λ g. inr (inside_more within all x.place b (λ y z. inr (among-left y within following z)) g)) f) (row_inside rows around m 0 x b e c)) (λ e. ⊎_elim (λ f. inl f) (λ f. inr (inside_more following all x.place b (λ y z. inr (among-right y within following z)) f)) (inside rest around x b e c)) (among-cases x within following d)) a
 
   row_inside : (rows : Rows) (around : List Branch) (m k : ℕ) (x : Placed) (b : Branch) → Among x (placed_rows around m k rows) → Among b x.place → Among b around ⊎ (((b.mux ≡ m) × (rest : List Branch) × (x.place ≡ around ++ b ∷ rest)) ⊎ IsInside (placed_rows around m k rows) x.place b)
   row_inside NoRow around m k x b a c = absurd a
   row_inside (RowThen items rest) around m k x b a c =
       let within = placed (around ++ one_branch m k) items in
-      let behind = placed_rows around m (suc k) rest in
-      ⊎_elim (λ d. ⊎_elim (λ e. ⊎_elim (λ f. inl f) (λ f. ⊎_elim (λ g. let (t, h) = place_front items (around ++ one_branch m k) x d in inr (inl (ap (λ z. z.mux) (sym g), t, h ∙ append_assoc around (one_branch m k) t ∙ ap (λ z. around ++ z ∷ t) g))) (λ g. absurd g) f) (among-cases b around (one_branch m k) e)) (λ e. inr (inr (inside_more within (within ++ behind) x.place b (λ y z. among-left y within behind z) e))) (inside items (around ++ one_branch m k) x b d c)) (λ d. ⊎_elim (λ e. inl e) (λ e. ⊎_elim (λ f. inr (inl f)) (λ f. inr (inr (inside_more behind (within ++ behind) x.place b (λ y z. among-right y within behind z) f))) e) (row_inside rest around m (suc k) x b d c)) (among-cases x within behind a)
+      let following = placed_rows around m (suc k) rest in
+      ⊎_elim (λ d. ⊎_elim (λ e. ⊎_elim (λ f. inl f) (λ f. ⊎_elim (λ g. let (t, h) = place_front items (around ++ one_branch m k) x d in inr (inl (ap (λ z. z.mux) (sym g), t, h ∙ append_assoc around (one_branch m k) t ∙ ap (λ z. around ++ z ∷ t) g))) (λ g. absurd g) f) (among-cases b around (one_branch m k) e)) (λ e. inr (inr (inside_more within (within ++ following) x.place b (λ y z. among-left y within following z) e))) (inside items (around ++ one_branch m k) x b d c)) (λ d. ⊎_elim (λ e. inl e) (λ e. ⊎_elim (λ f. inr (inl f)) (λ f. inr (inr (inside_more following (within ++ following) x.place b (λ y z. among-right y within following z) f))) e) (row_inside rest around m (suc k) x b d c)) (among-cases x within following a)
 
 -- a branch is a row of its mux
 mutual
@@ -178,7 +178,7 @@ module _ (net : Net) (form : Items) (d : Describes net form) where
   mux_below x m a e =
       route_below (length net.muxes.items) (numbers mux_number (placed [] form)) m muxes_once (among-flat (λ (z : Placed). mux_number z.item) x m (placed [] form) a (subst (λ z. Among m (mux_number z)) (sym e) (inl refl)))
 
-  -- each branch of a place is a row of a mux that stands in front of it
+  -- each branch of a place is a row of a mux that stands before it
   pub record IsAround (place : List Branch) (b : Branch) : Type 0 where
     pub there : b.mux < length net.muxes.items
     pub row : b.row < length (rows_of net b.mux)

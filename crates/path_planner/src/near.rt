@@ -21,13 +21,13 @@ fn place_on(path: &[u32], reg: u32) -> Option<usize>
     None
 }
 
-/// The same, looked for behind a place first, and in front of it.
+/// The same, looked for after a place first, and before it.
 pub(crate) fn place_near(path: &[u32], last: usize, reg: u32) -> Option<usize>
     ensures { is_some result ≡ is_in path.now reg }
 {
-    let behind = last.saturating_add(1);
-    if is_at(path, behind, reg) {
-        return Some(behind);
+    let following = last.saturating_add(1);
+    if is_at(path, following, reg) {
+        return Some(following);
     }
     let front = last.saturating_sub(1);
     if is_at(path, front, reg) {

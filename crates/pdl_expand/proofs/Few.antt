@@ -17,8 +17,8 @@ then_few m t next h k = by_fault t.fault
   where
     by_fault : (fault : Option AFault) → Few m (followed t.steps fault t.count next)
     by_fault None =
-        let behind = k t.count h.1 in
-        (omega (arith, h.0, behind.0, length-append t.steps (next t.count).steps), behind.1)
+        let following = k t.count h.1 in
+        (omega (arith, h.0, following.0, length-append t.steps (next t.count).steps), following.1)
     by_fault (Some f) = h
 
 branch_few : (b : Bool) (at : Place) (node n : ℕ) → n ≤ 100000 → (length (branch_end b at node n).steps ≤ 1) × ((branch_end b at node n).count ≡ n)
@@ -31,8 +31,8 @@ ended_few n t b at node h = by_fault t.fault
   where
     by_fault : (fault : Option AFault) → Few n (followed t.steps fault t.count (branch_end b at node))
     by_fault None =
-        let behind = branch_few b at node t.count h.1 in
-        (omega (arith, h.0, behind.0, behind.1, length-append t.steps (branch_end b at node t.count).steps), omega (arith, h.1, behind.1))
+        let following = branch_few b at node t.count h.1 in
+        (omega (arith, h.0, following.0, following.1, length-append t.steps (branch_end b at node t.count).steps), omega (arith, h.1, following.1))
     by_fault (Some f) = (omega (arith, h.0), h.1)
 
 -- what calls do

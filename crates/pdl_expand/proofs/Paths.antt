@@ -9,7 +9,7 @@ use Rattle.std.proofs.lemmas.List.Elements.{All-map, All-head, All-tail, All-get
 use Rattle.ij_bits.specs.Different.{AreDifferent}
 use Rattle.ij_text.specs.Numbering.{AreDistinct}
 use Rattle.ij_text.specs.Words.{in_name, begins_name, is_name}
-use Rattle.ij_text.specs.Parts.{in_front, split}
+use Rattle.ij_text.specs.Parts.{before, split}
 use Rattle.net_graph.specs.declared.net.Net.{Net}
 use Rattle.net_graph.specs.declared.net.Node.{Node}
 use Rattle.net_graph.specs.Nets.{IsNet, path_of}
@@ -33,8 +33,8 @@ part_of_bytes : (bytes rest : List ℕ) (parts : List (List ℕ)) → list_all i
 part_of_bytes [] rest parts h e = e
 part_of_bytes (b ∷ bs) rest parts h e =
     let (one, more) = and_parts (in_name b) (list_all in_name bs) h in
-    ap (λ t. cond t ([] ∷ split 46 (bs ++ rest)) (in_front b (split 46 (bs ++ rest)))) (no_dot b one)
-    ∙ ap (in_front b) (part_of_bytes bs rest parts more e)
+    ap (λ t. cond t ([] ∷ split 46 (bs ++ rest)) (before b (split 46 (bs ++ rest)))) (no_dot b one)
+    ∙ ap (before b) (part_of_bytes bs rest parts more e)
 
 part_of_name : (name rest : List ℕ) (parts : List (List ℕ)) → is_name name ≡ true → split 46 rest ≡ [] ∷ parts → split 46 (name ++ rest) ≡ name ∷ parts
 part_of_name [] rest parts h e = absurd cc

@@ -24,10 +24,10 @@ use Rattle.pdl_parser.specs.declared.words.FileWord.TheVariants.{OfBlank, OfLeve
 use Rattle.pdl_parser.specs.Cutting.{Word}
 use Rattle.pdl_parser.specs.Values.{AValue, ANumber, AWord, AnArgument, Command, ARead, ALine, AProc}
 use Rattle.pdl_parser.specs.Texts.{Verdict, Taken, Barred, Unfit, name_of, is_too_wide, number_verdict, is_in, argument_verdict, value_of, is_loop_option, count_of}
-use Rattle.pdl_parser.specs.Grammar.{if_plain, mark, value_in, plain, judged, plain_verdict, value, command_behind, line_behind, is_nothing, line, Body, with_line, lines, body, new_name, arguments, full_name, full_names, proc_verdict, proc_name, proc_behind, File, in_module, part_behind, part, procs}
+use Rattle.pdl_parser.specs.Grammar.{if_plain, mark, value_in, plain, judged, plain_verdict, value, command_after, line_after, is_nothing, line, Body, with_line, lines, body, new_name, arguments, full_name, full_names, proc_verdict, proc_name, proc_after, File, in_module, part_after, part, procs}
 use Rattle.pdl_parser.specs.Laws.{IsDeclared, AreDeclared, IsSound}
 
--- a property of the state that each part keeps holds behind all of them
+-- a property of the state that each part keeps holds after all of them
 kept : {T W A S : Type 0} (part : S → Symbol T W A) (next : S → A → S) (P : S → Type 0) → ((s : S) (ts : List T) (a : A) → P s → (part s).derives ts a → P (next s a))
     → (n : ℕ) (s : S) (ts : List T) (last : S) → P s → Parts part next n s ts last → P last
 kept part next P keeps zero s ts last p d = subst P (sym d.1) p
@@ -140,8 +140,8 @@ module _ (args : List (List ℕ)) where
 
   -- ---- commands
 
-  command_declared : (merging : Bool) (w : CommandWord) (ts : List Word) (c : Command) → (command_behind args merging w).derives ts c → AreDeclared args c
-  unfolding command_behind
+  command_declared : (merging : Bool) (w : CommandWord) (ts : List Word) (c : Command) → (command_after args merging w).derives ts c → AreDeclared args c
+  unfolding command_after
   command_declared merging OfNothing ts c d = absurd d
   command_declared merging OfPrefix ts c (front, back, path, e, one, last) = subst (AreDeclared args) (sym last.1) tt
   command_declared merging OfCall ts c (front, back, path, e, one, (more, rest, values, f, (n, parts), last)) =
@@ -167,7 +167,7 @@ module _ (args : List (List ℕ)) where
       given : (o : Option ALine) (l : ALine) → o ≡ Some l → LineDeclared l → All LineDeclared (with_line b o).lines
       given o l e h = subst (λ (x : Option ALine). All LineDeclared (with_line b x).lines) (sym e) (All-push LineDeclared b.lines l p h)
 
-      by_test : (t : Bool) → (cond t (give None) (line_behind args b.merging begin)).derives back o → All LineDeclared (with_line b o).lines
+      by_test : (t : Bool) → (cond t (give None) (line_after args b.merging begin)).derives back o → All LineDeclared (with_line b o).lines
       by_test true d = subst (λ (x : Option ALine). All LineDeclared (with_line b x).lines) (sym d.1) p
       by_test false (f, g, c, i, made, (h, k, end, j, ended, last)) = given o (record { at = begin.at; what = c }) last.1 (command_declared b.merging begin.word f c made)
 
@@ -231,8 +231,8 @@ record AreSound (ps : List AProc) : Type 0 where
   names : AreDistinct (full_names ps)
   each : All IsSound ps
 
-proc_kept : (ps : List AProc) (at : Place) (owner : List ℕ) (ts : List Word) (p : AProc) → AreSound ps → (proc_behind at (full_names ps) owner).derives ts p → AreSound (ps ++ p ∷ [])
-unfolding proc_behind
+proc_kept : (ps : List AProc) (at : Place) (owner : List ℕ) (ts : List Word) (p : AProc) → AreSound ps → (proc_after at (full_names ps) owner).derives ts p → AreSound (ps ++ p ∷ [])
+unfolding proc_after
 proc_kept ps at owner ts p s (t1, u1, n, e1, d1, (t2, u2, o, e2, d2, (t3, u3, args, e3, d3, (t4, u4, c, e4, d4, (t5, u5, q, e5, d5, (t6, u6, ls, e6, d6, (t7, u7, e, e7, d7, last))))))) =
     let made = subst (λ (x : AProc). IsSound x × (is_in (full_names ps) (full_name x.owner x.name) ≡ false)) (sym last.1)
     (record { arguments = arguments_differ t3 args d3; used = body_declared args t6 ls d6 }, name_new (full_names ps) owner t1 n d1) in
@@ -242,7 +242,7 @@ proc_kept ps at owner ts p s (t1, u1, n, e1, d1, (t2, u2, o, e2, d2, (t3, u3, ar
     }
 
 part_kept : (file : File) (ts : List Word) (next : File) → AreSound file.procs → (part file).derives ts next → AreSound next.procs
-unfolding part part_behind
+unfolding part part_after
 part_kept file ts next s (front, back, begin, e, one, two) = by_word begin.word two
   where
     same : (x : File) → x.procs ≡ file.procs → next ≡ x → AreSound next.procs
@@ -252,7 +252,7 @@ part_kept file ts next s (front, back, begin, e, one, two) = by_word begin.word 
     by_owner None d = absurd d
     by_owner (Some owner) (f, g, p, i, made, last) = subst (λ (x : File). AreSound x.procs) (sym last.1) (proc_kept file.procs begin.at owner f p s made)
 
-    by_word : (w : FileWord) → (part_behind file begin.at w).derives back next → AreSound next.procs
+    by_word : (w : FileWord) → (part_after file begin.at w).derives back next → AreSound next.procs
     by_word OfBlank d = same file refl d.1
     by_word OfLevel (t1, u1, l, e1, d1, (t2, u2, v, e2, d2, (t3, u3, e, e3, d3, last))) = same file refl last.1
     by_word OfModule (t1, u1, n, e1, d1, (t2, u2, e, e2, d2, last)) = same (record { owner = Some n; procs = file.procs }) refl last.1

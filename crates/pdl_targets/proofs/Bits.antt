@@ -142,13 +142,13 @@ module _ (net : Net) (well : IsNet net) where
   is_capturing reg pos [] s = tt
   is_capturing reg pos (c ∷ cs) s = by_test (same_source c s) refl (capturing reg (pos + 1) cs s) (is_capturing reg (pos + 1) cs s)
     where
-      behind : (o : Option Picked) → OfOption (λ p. IsAt cs reg (pos + 1) p.bit) o → OfOption (λ p. IsAt (c ∷ cs) reg pos p.bit) o
-      behind None h = tt
-      behind (Some p) h = (suc h.0, omega (arith, h.1), h.2 ∙ ap (λ (k : ℕ). record { reg = reg; pos = k }) (omega arith), h.3)
+      after : (o : Option Picked) → OfOption (λ p. IsAt cs reg (pos + 1) p.bit) o → OfOption (λ p. IsAt (c ∷ cs) reg pos p.bit) o
+      after None h = tt
+      after (Some p) h = (suc h.0, omega (arith, h.1), h.2 ∙ ap (λ (k : ℕ). record { reg = reg; pos = k }) (omega arith), h.3)
 
       by_test : (t : Bool) → same_source c s ≡ t → (o : Option Picked) → OfOption (λ p. IsAt cs reg (pos + 1) p.bit) o → OfOption (λ p. IsAt (c ∷ cs) reg pos p.bit) (cond t (Some (record { bit = record { reg = reg; pos = pos }; inverted = differ (is_inverted c) (is_inverted s) })) o)
       by_test true e o h = (zero, omega arith, ap (λ (k : ℕ). record { reg = reg; pos = k }) (omega arith), has_source c s e)
-      by_test false e o h = behind o h
+      by_test false e o h = after o h
 
   abbrev captures_of : List Reg → ℕ → List Sig
   captures_of regs j = get_or (map (λ reg. reg.capture.items) regs) j []

@@ -24,9 +24,9 @@ or_grouped : (a b c : Option Picked) → or_else (or_else a b) c ≡ or_else a (
 or_grouped None b c = refl
 or_grouped (Some p) b c = refl
 
-one_behind : (cs : List Captor) (c : Captor) (s : Sig) → first_captor (cs ++ c ∷ []) s ≡ or_else (first_captor cs s) (picked c s)
-one_behind [] c s = or_none (picked c s)
-one_behind (d ∷ cs) c s = ap (or_else (picked d s)) (one_behind cs c s) ∙ sym (or_grouped (picked d s) (first_captor cs s) (picked c s))
+one_after : (cs : List Captor) (c : Captor) (s : Sig) → first_captor (cs ++ c ∷ []) s ≡ or_else (first_captor cs s) (picked c s)
+one_after [] c s = or_none (picked c s)
+one_after (d ∷ cs) c s = ap (or_else (picked d s)) (one_after cs c s) ∙ sym (or_grouped (picked d s) (first_captor cs s) (picked c s))
 
 -- ---- slots
 
@@ -97,7 +97,7 @@ module _ (slots : List (Listed Captor)) where
       by_slot : (t : Bool) → (k == slot_of s) ≡ t → captured now s ≡ or_else (captured slots s) (picked c s)
       by_slot true t =
           let f : k ≡ slot_of s = eqb-true k (slot_of s) t in
-          ap (λ j. first_captor (captors_in now j) s) (sym f) ∙ ap (λ cs. first_captor cs s) here ∙ one_behind (captors_in slots k) c s
+          ap (λ j. first_captor (captors_in now j) s) (sym f) ∙ ap (λ cs. first_captor cs s) here ∙ one_after (captors_in slots k) c s
           ∙ ap (λ j. or_else (first_captor (captors_in slots j) s) (picked c s)) f
       by_slot false t =
           ap (λ cs. first_captor cs s) (others (slot_of s) (λ f. let g = eq-eqb k (slot_of s) (sym f) in absurd cc))

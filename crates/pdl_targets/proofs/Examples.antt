@@ -20,7 +20,7 @@ use Rattle.pdl_parser.specs.declared.words.Rule.{Rule}
 use Rattle.pdl_parser.specs.Cutting.{words_of}
 use Rattle.pdl_parser.specs.Values.{AProc}
 use Rattle.pdl_parser.specs.Texts.{command_named, file_named, is_left_out, other_rule}
-use Rattle.pdl_parser.specs.Reading.{whole_text, read_file, read_part, read_part_behind, read_level, read_module, read_proc, read_proc_name, read_arguments, read_body, read_body_end, read_lines, read_line, read_line_behind, read_command, read_prefix, read_call, read_write, read_read, read_run_loop, read_note, read_merge, read_end, read_value, read_values}
+use Rattle.pdl_parser.specs.Reading.{whole_text, read_file, read_part, read_part_after, read_level, read_module, read_proc, read_proc_name, read_arguments, read_body, read_body_end, read_lines, read_line, read_line_after, read_command, read_prefix, read_call, read_write, read_read, read_run_loop, read_note, read_merge, read_end, read_value, read_values}
 use Rattle.pdl_expand.specs.Values.{cells_of}
 use Rattle.pdl_expand.specs.Expansion.{expansion}
 use Rattle.pdl_targets.specs.Targets.{IsNoTarget, IsNoValue, IsValueWide, IsNotWritable, IsSelectTarget, IsBadCount, IsLimit, IsUnapplied}
@@ -107,93 +107,93 @@ mixed = record {
 }
 
 one_write : result one_register ((codes "iProcsForModule chip") ++ (10 ∷ []) ++ (codes "iProc p {} {") ++ (10 ∷ []) ++ (codes "  iWrite net.R 0b0101") ++ (10 ∷ []) ++ (codes "  iApply") ++ (10 ∷ []) ++ (codes "}")) ≡ record { steps = Apply (record { writes = record { bit = record { reg = 0; pos = 0 }; value = true } ∷ record { bit = record { reg = 0; pos = 1 }; value = false } ∷ record { bit = record { reg = 0; pos = 2 }; value = true } ∷ record { bit = record { reg = 0; pos = 3 }; value = false } ∷ []; reads = [] } ∷ []) ∷ []; fault = None }
-unfolding result bound expansion procs_of whole_text words_of read_file read_part read_part_behind read_level read_module read_proc read_proc_name read_arguments read_body read_body_end read_lines read_line read_line_behind read_command read_prefix read_call read_write read_read read_run_loop read_note read_merge read_end read_value read_values command_named file_named is_left_out other_rule
+unfolding result bound expansion procs_of whole_text words_of read_file read_part read_part_after read_level read_module read_proc read_proc_name read_arguments read_body read_body_end read_lines read_line read_line_after read_command read_prefix read_call read_write read_read read_run_loop read_note read_merge read_end read_value read_values command_named file_named is_left_out other_rule
 one_write = refl
 
 only_what_counts : result one_register ((codes "iProcsForModule chip") ++ (10 ∷ []) ++ (codes "iProc p {} {") ++ (10 ∷ []) ++ (codes "  iWrite net.R 0b1xx0") ++ (10 ∷ []) ++ (codes "  iApply") ++ (10 ∷ []) ++ (codes "}")) ≡ record { steps = Apply (record { writes = record { bit = record { reg = 0; pos = 0 }; value = false } ∷ record { bit = record { reg = 0; pos = 3 }; value = true } ∷ []; reads = [] } ∷ []) ∷ []; fault = None }
-unfolding result bound expansion procs_of whole_text words_of read_file read_part read_part_behind read_level read_module read_proc read_proc_name read_arguments read_body read_body_end read_lines read_line read_line_behind read_command read_prefix read_call read_write read_read read_run_loop read_note read_merge read_end read_value read_values command_named file_named is_left_out other_rule
+unfolding result bound expansion procs_of whole_text words_of read_file read_part read_part_after read_level read_module read_proc read_proc_name read_arguments read_body read_body_end read_lines read_line read_line_after read_command read_prefix read_call read_write read_read read_run_loop read_note read_merge read_end read_value read_values command_named file_named is_left_out other_rule
 only_what_counts = refl
 
 last_write_wins : result one_register ((codes "iProcsForModule chip") ++ (10 ∷ []) ++ (codes "iProc p {} {") ++ (10 ∷ []) ++ (codes "  iWrite net.R[1:0] 3") ++ (10 ∷ []) ++ (codes "  iWrite net.R[0] 0") ++ (10 ∷ []) ++ (codes "  iApply") ++ (10 ∷ []) ++ (codes "}")) ≡ record { steps = Apply (record { writes = record { bit = record { reg = 0; pos = 0 }; value = false } ∷ record { bit = record { reg = 0; pos = 1 }; value = true } ∷ []; reads = [] } ∷ []) ∷ []; fault = None }
-unfolding result bound expansion procs_of whole_text words_of read_file read_part read_part_behind read_level read_module read_proc read_proc_name read_arguments read_body read_body_end read_lines read_line read_line_behind read_command read_prefix read_call read_write read_read read_run_loop read_note read_merge read_end read_value read_values command_named file_named is_left_out other_rule
+unfolding result bound expansion procs_of whole_text words_of read_file read_part read_part_after read_level read_module read_proc read_proc_name read_arguments read_body read_body_end read_lines read_line read_line_after read_command read_prefix read_call read_write read_read read_run_loop read_note read_merge read_end read_value read_values command_named file_named is_left_out other_rule
 last_write_wins = refl
 
 last_read_counts : result one_register ((codes "iProcsForModule chip") ++ (10 ∷ []) ++ (codes "iProc p {} {") ++ (10 ∷ []) ++ (codes "  iRead net.R[1] 1") ++ (10 ∷ []) ++ (codes "  iWrite net.R[1] 1") ++ (10 ∷ []) ++ (codes "  iRead net.R[1:0] 0") ++ (10 ∷ []) ++ (codes "  iRead net.R") ++ (10 ∷ []) ++ (codes "  iApply") ++ (10 ∷ []) ++ (codes "}")) ≡ record { steps = Apply (record { writes = record { bit = record { reg = 0; pos = 1 }; value = true } ∷ []; reads = record { bit = record { reg = 0; pos = 1 }; expect = false; read = 2; line = 5; index = 1 } ∷ record { bit = record { reg = 0; pos = 0 }; expect = false; read = 2; line = 5; index = 0 } ∷ [] } ∷ []) ∷ []; fault = None }
-unfolding result bound expansion procs_of whole_text words_of read_file read_part read_part_behind read_level read_module read_proc read_proc_name read_arguments read_body read_body_end read_lines read_line read_line_behind read_command read_prefix read_call read_write read_read read_run_loop read_note read_merge read_end read_value read_values command_named file_named is_left_out other_rule
+unfolding result bound expansion procs_of whole_text words_of read_file read_part read_part_after read_level read_module read_proc read_proc_name read_arguments read_body read_body_end read_lines read_line read_line_after read_command read_prefix read_call read_write read_read read_run_loop read_note read_merge read_end read_value read_values command_named file_named is_left_out other_rule
 last_read_counts = refl
 
 nothing_to_apply : result one_register ((codes "iProcsForModule chip") ++ (10 ∷ []) ++ (codes "iProc p {} {") ++ (10 ∷ []) ++ (codes "  iApply") ++ (10 ∷ []) ++ (codes "  iWrite net.R 0bxxxx") ++ (10 ∷ []) ++ (codes "  iApply") ++ (10 ∷ []) ++ (codes "  iRead net.R") ++ (10 ∷ []) ++ (codes "  iApply") ++ (10 ∷ []) ++ (codes "}")) ≡ record { steps = []; fault = None }
-unfolding result bound expansion procs_of whole_text words_of read_file read_part read_part_behind read_level read_module read_proc read_proc_name read_arguments read_body read_body_end read_lines read_line read_line_behind read_command read_prefix read_call read_write read_read read_run_loop read_note read_merge read_end read_value read_values command_named file_named is_left_out other_rule
+unfolding result bound expansion procs_of whole_text words_of read_file read_part read_part_after read_level read_module read_proc read_proc_name read_arguments read_body read_body_end read_lines read_line read_line_after read_command read_prefix read_call read_write read_read read_run_loop read_note read_merge read_end read_value read_values command_named file_named is_left_out other_rule
 nothing_to_apply = refl
 
 unapplied : result one_register ((codes "iProcsForModule chip") ++ (10 ∷ []) ++ (codes "iProc p {} {") ++ (10 ∷ []) ++ (codes "  iWrite net.R 1") ++ (10 ∷ []) ++ (codes "}")) ≡ record { steps = []; fault = Some (IsUnapplied (record { line = 3; col = 3 })) }
-unfolding result bound expansion procs_of whole_text words_of read_file read_part read_part_behind read_level read_module read_proc read_proc_name read_arguments read_body read_body_end read_lines read_line read_line_behind read_command read_prefix read_call read_write read_read read_run_loop read_note read_merge read_end read_value read_values command_named file_named is_left_out other_rule
+unfolding result bound expansion procs_of whole_text words_of read_file read_part read_part_after read_level read_module read_proc read_proc_name read_arguments read_body read_body_end read_lines read_line read_line_after read_command read_prefix read_call read_write read_read read_run_loop read_note read_merge read_end read_value read_values command_named file_named is_left_out other_rule
 unapplied = refl
 
 unapplied_though_open : result one_register ((codes "iProcsForModule chip") ++ (10 ∷ []) ++ (codes "iProc p {} {") ++ (10 ∷ []) ++ (codes "  iApply") ++ (10 ∷ []) ++ (codes "  iRead net.R") ++ (10 ∷ []) ++ (codes "  iReset") ++ (10 ∷ []) ++ (codes "}")) ≡ record { steps = Reset ∷ []; fault = Some (IsUnapplied (record { line = 4; col = 3 })) }
-unfolding result bound expansion procs_of whole_text words_of read_file read_part read_part_behind read_level read_module read_proc read_proc_name read_arguments read_body read_body_end read_lines read_line read_line_behind read_command read_prefix read_call read_write read_read read_run_loop read_note read_merge read_end read_value read_values command_named file_named is_left_out other_rule
+unfolding result bound expansion procs_of whole_text words_of read_file read_part read_part_after read_level read_module read_proc read_proc_name read_arguments read_body read_body_end read_lines read_line read_line_after read_command read_prefix read_call read_write read_read read_run_loop read_note read_merge read_end read_value read_values command_named file_named is_left_out other_rule
 unapplied_though_open = refl
 
 too_wide_a_value : result one_register ((codes "iProcsForModule chip") ++ (10 ∷ []) ++ (codes "iProc p {} {") ++ (10 ∷ []) ++ (codes "  iWrite net.R 16") ++ (10 ∷ []) ++ (codes "  iApply") ++ (10 ∷ []) ++ (codes "}")) ≡ record { steps = []; fault = Some (IsValueWide (record { line = 3; col = 3 })) }
-unfolding result bound expansion procs_of whole_text words_of read_file read_part read_part_behind read_level read_module read_proc read_proc_name read_arguments read_body read_body_end read_lines read_line read_line_behind read_command read_prefix read_call read_write read_read read_run_loop read_note read_merge read_end read_value read_values command_named file_named is_left_out other_rule
+unfolding result bound expansion procs_of whole_text words_of read_file read_part read_part_after read_level read_module read_proc read_proc_name read_arguments read_body read_body_end read_lines read_line read_line_after read_command read_prefix read_call read_write read_read read_run_loop read_note read_merge read_end read_value read_values command_named file_named is_left_out other_rule
 too_wide_a_value = refl
 
 zeros_above : result one_register ((codes "iProcsForModule chip") ++ (10 ∷ []) ++ (codes "iProc p {} {") ++ (10 ∷ []) ++ (codes "  iWrite net.R[2:2] 0b001") ++ (10 ∷ []) ++ (codes "  iApply") ++ (10 ∷ []) ++ (codes "}")) ≡ record { steps = Apply (record { writes = record { bit = record { reg = 0; pos = 2 }; value = true } ∷ []; reads = [] } ∷ []) ∷ []; fault = None }
-unfolding result bound expansion procs_of whole_text words_of read_file read_part read_part_behind read_level read_module read_proc read_proc_name read_arguments read_body read_body_end read_lines read_line read_line_behind read_command read_prefix read_call read_write read_read read_run_loop read_note read_merge read_end read_value read_values command_named file_named is_left_out other_rule
+unfolding result bound expansion procs_of whole_text words_of read_file read_part read_part_after read_level read_module read_proc read_proc_name read_arguments read_body read_body_end read_lines read_line read_line_after read_command read_prefix read_call read_write read_read read_run_loop read_note read_merge read_end read_value read_values command_named file_named is_left_out other_rule
 zeros_above = refl
 
 no_such_thing : result one_register ((codes "iProcsForModule chip") ++ (10 ∷ []) ++ (codes "iProc p {} {") ++ (10 ∷ []) ++ (codes "  iApply") ++ (10 ∷ []) ++ (codes "  iWrite net.Q 1") ++ (10 ∷ []) ++ (codes "}")) ≡ record { steps = []; fault = Some (IsNoTarget (record { line = 4; col = 3 })) }
-unfolding result bound expansion procs_of whole_text words_of read_file read_part read_part_behind read_level read_module read_proc read_proc_name read_arguments read_body read_body_end read_lines read_line read_line_behind read_command read_prefix read_call read_write read_read read_run_loop read_note read_merge read_end read_value read_values command_named file_named is_left_out other_rule
+unfolding result bound expansion procs_of whole_text words_of read_file read_part read_part_after read_level read_module read_proc read_proc_name read_arguments read_body read_body_end read_lines read_line read_line_after read_command read_prefix read_call read_write read_read read_run_loop read_note read_merge read_end read_value read_values command_named file_named is_left_out other_rule
 no_such_thing = refl
 
 index_outside : result one_register ((codes "iProcsForModule chip") ++ (10 ∷ []) ++ (codes "iProc p {} {") ++ (10 ∷ []) ++ (codes "  iWrite net.R[4] 1") ++ (10 ∷ []) ++ (codes "}")) ≡ record { steps = []; fault = Some (IsNoTarget (record { line = 3; col = 3 })) }
-unfolding result bound expansion procs_of whole_text words_of read_file read_part read_part_behind read_level read_module read_proc read_proc_name read_arguments read_body read_body_end read_lines read_line read_line_behind read_command read_prefix read_call read_write read_read read_run_loop read_note read_merge read_end read_value read_values command_named file_named is_left_out other_rule
+unfolding result bound expansion procs_of whole_text words_of read_file read_part read_part_after read_level read_module read_proc read_proc_name read_arguments read_body read_body_end read_lines read_line read_line_after read_command read_prefix read_call read_write read_read read_run_loop read_note read_merge read_end read_value read_values command_named file_named is_left_out other_rule
 index_outside = refl
 
 the_other_way : result one_register ((codes "iProcsForModule chip") ++ (10 ∷ []) ++ (codes "iProc p {} {") ++ (10 ∷ []) ++ (codes "  iWrite net.R[0:1] 1") ++ (10 ∷ []) ++ (codes "}")) ≡ record { steps = []; fault = Some (IsNoTarget (record { line = 3; col = 3 })) }
-unfolding result bound expansion procs_of whole_text words_of read_file read_part read_part_behind read_level read_module read_proc read_proc_name read_arguments read_body read_body_end read_lines read_line read_line_behind read_command read_prefix read_call read_write read_read read_run_loop read_note read_merge read_end read_value read_values command_named file_named is_left_out other_rule
+unfolding result bound expansion procs_of whole_text words_of read_file read_part read_part_after read_level read_module read_proc read_proc_name read_arguments read_body read_body_end read_lines read_line read_line_after read_command read_prefix read_call read_write read_read read_run_loop read_note read_merge read_end read_value read_values command_named file_named is_left_out other_rule
 the_other_way = refl
 
 no_such_word : result one_register ((codes "iProcsForModule chip") ++ (10 ∷ []) ++ (codes "iProc p {} {") ++ (10 ∷ []) ++ (codes "  iWrite net.R on") ++ (10 ∷ []) ++ (codes "}")) ≡ record { steps = []; fault = Some (IsNoValue (record { line = 3; col = 3 })) }
-unfolding result bound expansion procs_of whole_text words_of read_file read_part read_part_behind read_level read_module read_proc read_proc_name read_arguments read_body read_body_end read_lines read_line read_line_behind read_command read_prefix read_call read_write read_read read_run_loop read_note read_merge read_end read_value read_values command_named file_named is_left_out other_rule
+unfolding result bound expansion procs_of whole_text words_of read_file read_part read_part_after read_level read_module read_proc read_proc_name read_arguments read_body read_body_end read_lines read_line read_line_after read_command read_prefix read_call read_write read_read read_run_loop read_note read_merge read_end read_value read_values command_named file_named is_left_out other_rule
 no_such_word = refl
 
 runs : result one_register ((codes "iProcsForModule chip") ++ (10 ∷ []) ++ (codes "iProc p {} {") ++ (10 ∷ []) ++ (codes "  iRunLoop 0") ++ (10 ∷ []) ++ (codes "  iRunLoop 1000000") ++ (10 ∷ []) ++ (codes "}")) ≡ record { steps = Run 1000000 ∷ []; fault = None }
-unfolding result bound expansion procs_of whole_text words_of read_file read_part read_part_behind read_level read_module read_proc read_proc_name read_arguments read_body read_body_end read_lines read_line read_line_behind read_command read_prefix read_call read_write read_read read_run_loop read_note read_merge read_end read_value read_values command_named file_named is_left_out other_rule
+unfolding result bound expansion procs_of whole_text words_of read_file read_part read_part_after read_level read_module read_proc read_proc_name read_arguments read_body read_body_end read_lines read_line read_line_after read_command read_prefix read_call read_write read_read read_run_loop read_note read_merge read_end read_value read_values command_named file_named is_left_out other_rule
 runs = refl
 
 too_long_a_run : result one_register ((codes "iProcsForModule chip") ++ (10 ∷ []) ++ (codes "iProc p {} {") ++ (10 ∷ []) ++ (codes "  iRunLoop 1000001") ++ (10 ∷ []) ++ (codes "}")) ≡ record { steps = []; fault = Some (IsLimit (record { line = 3; col = 3 }) RunLoop 1000000) }
-unfolding result bound expansion procs_of whole_text words_of read_file read_part read_part_behind read_level read_module read_proc read_proc_name read_arguments read_body read_body_end read_lines read_line read_line_behind read_command read_prefix read_call read_write read_read read_run_loop read_note read_merge read_end read_value read_values command_named file_named is_left_out other_rule
+unfolding result bound expansion procs_of whole_text words_of read_file read_part read_part_after read_level read_module read_proc read_proc_name read_arguments read_body read_body_end read_lines read_line read_line_after read_command read_prefix read_call read_write read_read read_run_loop read_note read_merge read_end read_value read_values command_named file_named is_left_out other_rule
 too_long_a_run = refl
 
 too_many_cycles : result one_register ((codes "iProcsForModule chip") ++ (10 ∷ []) ++ (codes "iProc p {} {") ++ (10 ∷ []) ++ (codes "  iRunLoop 1000000") ++ (10 ∷ []) ++ (codes "  iRunLoop 1000000") ++ (10 ∷ []) ++ (codes "  iRunLoop 1000000") ++ (10 ∷ []) ++ (codes "  iRunLoop 1000000") ++ (10 ∷ []) ++ (codes "  iRunLoop 1") ++ (10 ∷ []) ++ (codes "}")) ≡ record { steps = Run 1000000 ∷ Run 1000000 ∷ Run 1000000 ∷ Run 1000000 ∷ []; fault = Some (IsLimit (record { line = 7; col = 3 }) RunCycles 4000000) }
-unfolding result bound expansion procs_of whole_text words_of read_file read_part read_part_behind read_level read_module read_proc read_proc_name read_arguments read_body read_body_end read_lines read_line read_line_behind read_command read_prefix read_call read_write read_read read_run_loop read_note read_merge read_end read_value read_values command_named file_named is_left_out other_rule
+unfolding result bound expansion procs_of whole_text words_of read_file read_part read_part_after read_level read_module read_proc read_proc_name read_arguments read_body read_body_end read_lines read_line read_line_after read_command read_prefix read_call read_write read_read read_run_loop read_note read_merge read_end read_value read_values command_named file_named is_left_out other_rule
 too_many_cycles = refl
 
 no_count : result one_register ((codes "iProcsForModule chip") ++ (10 ∷ []) ++ (codes "iProc p {} {") ++ (10 ∷ []) ++ (codes "  iRunLoop 0b1") ++ (10 ∷ []) ++ (codes "}")) ≡ record { steps = []; fault = Some (IsBadCount (record { line = 3; col = 3 })) }
-unfolding result bound expansion procs_of whole_text words_of read_file read_part read_part_behind read_level read_module read_proc read_proc_name read_arguments read_body read_body_end read_lines read_line read_line_behind read_command read_prefix read_call read_write read_read read_run_loop read_note read_merge read_end read_value read_values command_named file_named is_left_out other_rule
+unfolding result bound expansion procs_of whole_text words_of read_file read_part read_part_after read_level read_module read_proc read_proc_name read_arguments read_body read_body_end read_lines read_line read_line_after read_command read_prefix read_call read_write read_read read_run_loop read_note read_merge read_end read_value read_values command_named file_named is_left_out other_rule
 no_count = refl
 
 select_bit : result two_rows ((codes "iProcsForModule chip") ++ (10 ∷ []) ++ (codes "iProc p {} {") ++ (10 ∷ []) ++ (codes "  iWrite net.S 1") ++ (10 ∷ []) ++ (codes "  iApply") ++ (10 ∷ []) ++ (codes "}")) ≡ record { steps = []; fault = Some (IsSelectTarget (record { line = 3; col = 3 }) (record { reg = 0; pos = 0 })) }
-unfolding result bound expansion procs_of whole_text words_of read_file read_part read_part_behind read_level read_module read_proc read_proc_name read_arguments read_body read_body_end read_lines read_line read_line_behind read_command read_prefix read_call read_write read_read read_run_loop read_note read_merge read_end read_value read_values command_named file_named is_left_out other_rule
+unfolding result bound expansion procs_of whole_text words_of read_file read_part read_part_after read_level read_module read_proc read_proc_name read_arguments read_body read_body_end read_lines read_line read_line_after read_command read_prefix read_call read_write read_read read_run_loop read_note read_merge read_end read_value read_values command_named file_named is_left_out other_rule
 select_bit = refl
 
 two_rounds : result two_rows ((codes "iProcsForModule chip") ++ (10 ∷ []) ++ (codes "iProc p {} {") ++ (10 ∷ []) ++ (codes "  iWrite net.A 1") ++ (10 ∷ []) ++ (codes "  iWrite net.B 2") ++ (10 ∷ []) ++ (codes "  iApply") ++ (10 ∷ []) ++ (codes "}")) ≡ record { steps = Apply (record { writes = record { bit = record { reg = 1; pos = 0 }; value = true } ∷ record { bit = record { reg = 1; pos = 1 }; value = false } ∷ []; reads = [] } ∷ record { writes = record { bit = record { reg = 2; pos = 0 }; value = false } ∷ record { bit = record { reg = 2; pos = 1 }; value = true } ∷ []; reads = [] } ∷ []) ∷ []; fault = None }
-unfolding result bound expansion procs_of whole_text words_of read_file read_part read_part_behind read_level read_module read_proc read_proc_name read_arguments read_body read_body_end read_lines read_line read_line_behind read_command read_prefix read_call read_write read_read read_run_loop read_note read_merge read_end read_value read_values command_named file_named is_left_out other_rule
+unfolding result bound expansion procs_of whole_text words_of read_file read_part read_part_after read_level read_module read_proc read_proc_name read_arguments read_body read_body_end read_lines read_line read_line_after read_command read_prefix read_call read_write read_read read_run_loop read_note read_merge read_end read_value read_values command_named file_named is_left_out other_rule
 two_rounds = refl
 
 first_mention_first : result two_rows ((codes "iProcsForModule chip") ++ (10 ∷ []) ++ (codes "iProc p {} {") ++ (10 ∷ []) ++ (codes "  iWrite net.B 2") ++ (10 ∷ []) ++ (codes "  iRead net.A 1") ++ (10 ∷ []) ++ (codes "  iWrite net.B[0] 1") ++ (10 ∷ []) ++ (codes "  iApply") ++ (10 ∷ []) ++ (codes "}")) ≡ record { steps = Apply (record { writes = record { bit = record { reg = 2; pos = 0 }; value = true } ∷ record { bit = record { reg = 2; pos = 1 }; value = true } ∷ []; reads = [] } ∷ record { writes = []; reads = record { bit = record { reg = 1; pos = 0 }; expect = true; read = 1; line = 4; index = 0 } ∷ record { bit = record { reg = 1; pos = 1 }; expect = false; read = 1; line = 4; index = 1 } ∷ [] } ∷ []) ∷ []; fault = None }
-unfolding result bound expansion procs_of whole_text words_of read_file read_part read_part_behind read_level read_module read_proc read_proc_name read_arguments read_body read_body_end read_lines read_line read_line_behind read_command read_prefix read_call read_write read_read read_run_loop read_note read_merge read_end read_value read_values command_named file_named is_left_out other_rule
+unfolding result bound expansion procs_of whole_text words_of read_file read_part read_part_after read_level read_module read_proc read_proc_name read_arguments read_body read_body_end read_lines read_line read_line_after read_command read_prefix read_call read_write read_read read_run_loop read_note read_merge read_end read_value read_values command_named file_named is_left_out other_rule
 first_mention_first = refl
 
 an_alias : result mixed ((codes "iProcsForModule chip") ++ (10 ∷ []) ++ (codes "iProc p {} {") ++ (10 ∷ []) ++ (codes "  iWrite net.a on") ++ (10 ∷ []) ++ (codes "  iApply") ++ (10 ∷ []) ++ (codes "  iWrite net.ins.d 0") ++ (10 ∷ []) ++ (codes "  iApply") ++ (10 ∷ []) ++ (codes "  iRead net.ins.q 1") ++ (10 ∷ []) ++ (codes "  iApply") ++ (10 ∷ []) ++ (codes "}")) ≡ record { steps = Apply (record { writes = record { bit = record { reg = 1; pos = 0 }; value = true } ∷ record { bit = record { reg = 1; pos = 1 }; value = false } ∷ record { bit = record { reg = 0; pos = 0 }; value = false } ∷ record { bit = record { reg = 0; pos = 1 }; value = true } ∷ []; reads = [] } ∷ []) ∷ Apply (record { writes = record { bit = record { reg = 0; pos = 0 }; value = true } ∷ []; reads = [] } ∷ []) ∷ Apply (record { writes = []; reads = record { bit = record { reg = 1; pos = 0 }; expect = true; read = 1; line = 7; index = 0 } ∷ [] } ∷ []) ∷ []; fault = None }
-unfolding result bound expansion procs_of whole_text words_of read_file read_part read_part_behind read_level read_module read_proc read_proc_name read_arguments read_body read_body_end read_lines read_line read_line_behind read_command read_prefix read_call read_write read_read read_run_loop read_note read_merge read_end read_value read_values command_named file_named is_left_out other_rule
+unfolding result bound expansion procs_of whole_text words_of read_file read_part read_part_after read_level read_module read_proc read_proc_name read_arguments read_body read_body_end read_lines read_line read_line_after read_command read_prefix read_call read_write read_read read_run_loop read_note read_merge read_end read_value read_values command_named file_named is_left_out other_rule
 an_alias = refl
 
 an_output : result mixed ((codes "iProcsForModule chip") ++ (10 ∷ []) ++ (codes "iProc p {} {") ++ (10 ∷ []) ++ (codes "  iWrite net.ins.q 1") ++ (10 ∷ []) ++ (codes "}")) ≡ record { steps = []; fault = Some (IsNotWritable (record { line = 3; col = 3 })) }
-unfolding result bound expansion procs_of whole_text words_of read_file read_part read_part_behind read_level read_module read_proc read_proc_name read_arguments read_body read_body_end read_lines read_line read_line_behind read_command read_prefix read_call read_write read_read read_run_loop read_note read_merge read_end read_value read_values command_named file_named is_left_out other_rule
+unfolding result bound expansion procs_of whole_text words_of read_file read_part read_part_after read_level read_module read_proc read_proc_name read_arguments read_body read_body_end read_lines read_line read_line_after read_command read_prefix read_call read_write read_read read_run_loop read_note read_merge read_end read_value read_values command_named file_named is_left_out other_rule
 an_output = refl
 
 read_back_of_an_input : result mixed ((codes "iProcsForModule chip") ++ (10 ∷ []) ++ (codes "iProc p {} {") ++ (10 ∷ []) ++ (codes "  iRead net.ins.d 1") ++ (10 ∷ []) ++ (codes "  iApply") ++ (10 ∷ []) ++ (codes "}")) ≡ record { steps = Apply (record { writes = []; reads = record { bit = record { reg = 0; pos = 0 }; expect = false; read = 1; line = 3; index = 0 } ∷ [] } ∷ []) ∷ []; fault = None }
-unfolding result bound expansion procs_of whole_text words_of read_file read_part read_part_behind read_level read_module read_proc read_proc_name read_arguments read_body read_body_end read_lines read_line read_line_behind read_command read_prefix read_call read_write read_read read_run_loop read_note read_merge read_end read_value read_values command_named file_named is_left_out other_rule
+unfolding result bound expansion procs_of whole_text words_of read_file read_part read_part_after read_level read_module read_proc read_proc_name read_arguments read_body read_body_end read_lines read_line read_line_after read_command read_prefix read_call read_write read_read read_run_loop read_note read_merge read_end read_value read_values command_named file_named is_left_out other_rule
 read_back_of_an_input = refl

@@ -26,23 +26,23 @@ refused_as {A = A} x y e s h = record { says = as_well (fault_of e) h.says }
     as_well None h = tt
     as_well (Some fault) h = s ∙ h
 
--- some values in front of those that are found
-abbrev pub behind : {A : Type 0} → List A → Found (List A) → Found (List A)
-behind xs (Is ys) = Is (xs ++ ys)
-behind xs (Fails fault) = Fails fault
+-- some values before those that are found
+abbrev pub after : {A : Type 0} → List A → Found (List A) → Found (List A)
+after xs (Is ys) = Is (xs ++ ys)
+after xs (Fails fault) = Fails fault
 
-pub behind_none : {A : Type 0} (x : Found (List A)) → behind [] x ≡ x
-behind_none (Is ys) = refl
-behind_none (Fails fault) = refl
+pub after_none : {A : Type 0} (x : Found (List A)) → after [] x ≡ x
+after_none (Is ys) = refl
+after_none (Fails fault) = refl
 
--- one value more, found behind some
-pub behind_more : {A : Type 0} (xs : List A) (x : Found A) (a : A) (more : Found (List A)) → x ≡ Is a → behind xs (or_skip (Some x) more) ≡ behind (xs ++ a ∷ []) more
-behind_more {A = A} xs x a more e = ap (λ y. behind xs (and_more y more)) e ∙ by_more more
+-- one value more, found after some
+pub after_more : {A : Type 0} (xs : List A) (x : Found A) (a : A) (more : Found (List A)) → x ≡ Is a → after xs (or_skip (Some x) more) ≡ after (xs ++ a ∷ []) more
+after_more {A = A} xs x a more e = ap (λ y. after xs (and_more y more)) e ∙ by_more more
   where
-    by_more : (more : Found (List A)) → behind xs (and_more (Is a) more) ≡ behind (xs ++ a ∷ []) more
+    by_more : (more : Found (List A)) → after xs (and_more (Is a) more) ≡ after (xs ++ a ∷ []) more
     by_more (Is ys) = ap Is (sym (append_assoc xs (a ∷ []) ys))
     by_more (Fails fault) = refl
 
 -- and one that is refused
-pub refused_more : {A : Type 0} (xs : List A) (x : Found A) (more : Found (List A)) (e : TargetFault) → Refuses x e → Refuses (behind xs (or_skip (Some x) more)) e
-refused_more xs x more e h = refused_by (λ y. behind xs (and_more y more)) (λ fault. refl) x e h
+pub refused_more : {A : Type 0} (xs : List A) (x : Found A) (more : Found (List A)) (e : TargetFault) → Refuses x e → Refuses (after xs (or_skip (Some x) more)) e
+refused_more xs x more e h = refused_by (λ y. after xs (and_more y more)) (λ fault. refl) x e h

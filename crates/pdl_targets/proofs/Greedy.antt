@@ -13,8 +13,8 @@ use Rattle.std.proofs.lemmas.List.Elements.{All-nil, All-cons}
 pub is_first : (q : ℕ) (qs : List ℕ) → is_in (q ∷ qs) q ≡ true
 is_first q qs = or_left (q == q) (is_in qs q) (eq-eqb q q refl)
 
-pub is_behind : (p : ℕ) (qs : List ℕ) (q : ℕ) → is_in qs q ≡ true → is_in (p ∷ qs) q ≡ true
-is_behind p qs q e = or_right (p == q) (is_in qs q) e
+pub is_after : (p : ℕ) (qs : List ℕ) (q : ℕ) → is_in qs q ≡ true → is_in (p ∷ qs) q ≡ true
+is_after p qs q e = or_right (p == q) (is_in qs q) e
 
 pub not_in : (rs : List ℕ) (r : ℕ) → times rs r ≡ 0 → is_in rs r ≡ false
 not_in [] r e = refl
@@ -24,7 +24,7 @@ not_in (q ∷ qs) r e = by_test (q == r) (not_in qs r) e
     by_test true again e = absurd (omega (arith, e))
     by_test false again e = again e
 
--- the first of registers that are there once isn't behind itself
+-- the first of registers that are there once isn't after itself
 pub not_again : (r : ℕ) (rs : List ℕ) → AreEachOnce (r ∷ rs) → is_in rs r ≡ false
 not_again r rs h = not_in rs r (none (r == r) (eq-eqb r r refl) (h r))
   where
@@ -41,9 +41,9 @@ others_once r rs h q = fewer_still (r == q) (h q)
 
 -- ---- order
 
-in_order_behind : (qs : List ℕ) (r : ℕ) (rs : List ℕ) → IsInOrder qs rs → IsInOrder qs (r ∷ rs)
-in_order_behind [] r rs h = tt
-in_order_behind (q ∷ qs) r rs h = inr h
+in_order_after : (qs : List ℕ) (r : ℕ) (rs : List ℕ) → IsInOrder qs rs → IsInOrder qs (r ∷ rs)
+in_order_after [] r rs h = tt
+in_order_after (q ∷ qs) r rs h = inr h
 
 in_order_both : (xs ys zs : List ℕ) → IsInOrder xs ys → IsInOrder ys zs → IsInOrder xs zs
 in_order_both [] ys zs g h = tt
@@ -51,7 +51,7 @@ in_order_both (x ∷ xs) [] zs g h = absurd g
 in_order_both (x ∷ xs) (y ∷ ys) [] g h = absurd h
 in_order_both (x ∷ xs) (y ∷ ys) (z ∷ zs) g h =
     ⊎_elim (λ here. ⊎_elim (λ there. inl (there.0 ∙ here.0, in_order_both xs ys zs there.1 here.1)) (λ there. inr (in_order_both (x ∷ xs) ys zs there here.1)) g)
-    (λ behind. inr (in_order_both (x ∷ xs) (y ∷ ys) zs g behind)) h
+    (λ after. inr (in_order_both (x ∷ xs) (y ∷ ys) zs g after)) h
 
 module _ (places : Places) where
   round_in_order : (taken rs : List ℕ) → IsInOrder (round places taken rs) rs
@@ -59,7 +59,7 @@ module _ (places : Places) where
   round_in_order taken (r ∷ rs) = by_clash (λ t. round_in_order t rs) (clashes places taken r)
     where
       by_clash : ((t : List ℕ) → IsInOrder (round places t rs) rs) → (b : Bool) → IsInOrder (cond b (round places taken rs) (r ∷ round places (taken ++ r ∷ []) rs)) (r ∷ rs)
-      by_clash ih true = in_order_behind (round places taken rs) r rs (ih taken)
+      by_clash ih true = in_order_after (round places taken rs) r rs (ih taken)
       by_clash ih false = inl (refl, ih (taken ++ r ∷ []))
 
   left_in_order : (taken rs : List ℕ) → IsInOrder (left_over places taken rs) rs
@@ -68,7 +68,7 @@ module _ (places : Places) where
     where
       by_clash : ((t : List ℕ) → IsInOrder (left_over places t rs) rs) → (b : Bool) → IsInOrder (cond b (r ∷ left_over places taken rs) (left_over places (taken ++ r ∷ []) rs)) (r ∷ rs)
       by_clash ih true = inl (refl, ih taken)
-      by_clash ih false = in_order_behind (left_over places (taken ++ r ∷ []) rs) r rs (ih (taken ++ r ∷ []))
+      by_clash ih false = in_order_after (left_over places (taken ++ r ∷ []) rs) r rs (ih (taken ++ r ∷ []))
 
   pub all_in_order : (registers : List ℕ) (n : ℕ) (rs : List ℕ) → IsInOrder rs registers → All (λ qs. IsInOrder qs registers) (rounds_upto places n rs)
   all_in_order registers zero rs h = All-nil (λ qs. IsInOrder qs registers)
@@ -80,15 +80,15 @@ module _ (places : Places) where
 
   -- ---- what a round leaves
 
-  -- one that a register waits for: it stands in front, the round has it, and the two clash
+  -- one that a register waits for: it stands before, the round has it, and the two clash
   abbrev Waits : List ℕ → List ℕ → ℕ → Type 0
   Waits front taken q = (p : ℕ) × (is_in front p ≡ true) × (is_in taken p ≡ true) × (clash places p q ≡ true)
 
-  behind_another : (f : ℕ) (front taken : List ℕ) (q : ℕ) → Waits front taken q → Waits (f ∷ front) taken q
-  behind_another f front taken q w = (w.0, is_behind f front w.0 w.1, w.2, w.3)
+  after_another : (f : ℕ) (front taken : List ℕ) (q : ℕ) → Waits front taken q → Waits (f ∷ front) taken q
+  after_another f front taken q w = (w.0, is_after f front w.0 w.1, w.2, w.3)
 
   with_another : (f : ℕ) (front taken : List ℕ) (q : ℕ) → Waits front taken q → Waits (f ∷ front) (f ∷ taken) q
-  with_another f front taken q w = (w.0, is_behind f front w.0 w.1, is_behind f taken w.0 w.2, w.3)
+  with_another f front taken q w = (w.0, is_after f front w.0 w.1, is_after f taken w.0 w.2, w.3)
 
   clashes_last : (taken : List ℕ) (f q : ℕ) → clashes places (taken ++ f ∷ []) q ≡ true → (clashes places taken q ≡ true) ⊎ (clash places f q ≡ true)
   clashes_last [] f q e = ⊎_elim (λ h. inr h) (λ h. absurd cc) (or_cases (clash places f q) false e)
@@ -108,13 +108,13 @@ module _ (places : Places) where
       by_clash : ((t : List ℕ) → is_in (round places t (front ++ q ∷ back)) q ≡ false → (clashes places t q ≡ true) ⊎ Waits front (round places t (front ++ q ∷ back)) q)
           → (b : Bool) → is_in (cond b (round places taken (front ++ q ∷ back)) (f ∷ round places (taken ++ f ∷ []) (front ++ q ∷ back))) q ≡ false
           → (clashes places taken q ≡ true) ⊎ Waits (f ∷ front) (cond b (round places taken (front ++ q ∷ back)) (f ∷ round places (taken ++ f ∷ []) (front ++ q ∷ back))) q
-      by_clash ih true off = ⊎_elim (λ k. inl k) (λ w. inr (behind_another f front (round places taken (front ++ q ∷ back)) q w)) (ih taken off)
+      by_clash ih true off = ⊎_elim (λ k. inl k) (λ w. inr (after_another f front (round places taken (front ++ q ∷ back)) q w)) (ih taken off)
       by_clash ih false off =
           ⊎_elim (λ k. ⊎_elim (λ before. inl before) (λ now. inr (f, is_first f front, is_first f (round places (taken ++ f ∷ []) (front ++ q ∷ back)), now)) (clashes_last taken f q k))
           (λ w. inr (with_another f front (round places (taken ++ f ∷ []) (front ++ q ∷ back)) q w))
           (ih (taken ++ f ∷ []) (or_parts (f == q) (is_in (round places (taken ++ f ∷ []) (front ++ q ∷ back)) q) off).1)
 
-  -- ---- the rounds behind
+  -- ---- the rounds after
 
   unnamed : (r : ℕ) (f : ℕ → Bool) (rs : List ℕ) → is_in rs r ≡ false → filter (λ q. not ((r == q) || f q)) rs ≡ filter (λ q. not (f q)) rs
   unnamed r f [] h = refl

@@ -9,7 +9,7 @@ append_none [] = refl
 append_none (r ∷ rs) = ap (λ (l : List ℕ). r ∷ l) (append_none rs)
 
 module _ (places : Places) where
-  -- the first round takes what it can, and leaves the others to the rounds behind
+  -- the first round takes what it can, and leaves the others to the rounds after
   first_takes : (q : List ℕ) (rss : List (List ℕ)) (rs : List ℕ) → put_all places (q ∷ rss) rs ≡ (q ++ round places q rs) ∷ put_all places rss (left_over places q rs)
   first_takes q rss [] = ap (λ l. l ∷ rss) (append_none q)
   first_takes q rss (r ∷ rs) = by_clash (λ p qss. first_takes p qss rs) (clashes places q r)

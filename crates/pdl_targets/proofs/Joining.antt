@@ -95,12 +95,12 @@ joined (q ∷ qs) zero r old new l o n = ap (λ (rs : List ℕ). rs ∷ seen_rou
 joined (q ∷ qs) (suc k) r old new l o n = ap (λ (rss : List (List ℕ)). q.items ∷ rss) (joined qs k r old new (omega (arith, l)) o n)
 
 pub opened : (rounds now : List (Listed ℕ)) (k r : ℕ) (round : Listed ℕ) → length rounds ≤ k → round.items ≡ r ∷ [] → now ≡ rounds ++ round ∷ [] → seen_rounds now ≡ put_at (seen_rounds rounds) k r
-opened rounds now k r round l e n = ap seen_rounds n ∙ behind rounds k l
+opened rounds now k r round l e n = ap seen_rounds n ∙ after rounds k l
   where
-    behind : (qs : List (Listed ℕ)) (k : ℕ) → length qs ≤ k → seen_rounds (qs ++ round ∷ []) ≡ put_at (seen_rounds qs) k r
-    behind [] k l = ap (λ (rs : List ℕ). rs ∷ []) e
-    behind (q ∷ qs) zero l = absurd (omega (arith, l))
-    behind (q ∷ qs) (suc k) l = ap (λ (rss : List (List ℕ)). q.items ∷ rss) (behind qs k (omega (arith, l)))
+    after : (qs : List (Listed ℕ)) (k : ℕ) → length qs ≤ k → seen_rounds (qs ++ round ∷ []) ≡ put_at (seen_rounds qs) k r
+    after [] k l = ap (λ (rs : List ℕ). rs ∷ []) e
+    after (q ∷ qs) zero l = absurd (omega (arith, l))
+    after (q ∷ qs) (suc k) l = ap (λ (rss : List (List ℕ)). q.items ∷ rss) (after qs k (omega (arith, l)))
 
 pub so_many : (rounds : List (Listed ℕ)) (n : ℕ) → n ≡ length rounds → n ≡ length (seen_rounds rounds)
 so_many rounds n e = e ∙ sym (go rounds)

@@ -12,7 +12,7 @@ use Rattle.pdl_targets.specs.Rounds.{Places, rounds, part_on}
 use Rattle.pdl_targets.specs.Laws.{times, times_in_all, AreEachOnce, IsPartOn, GroupsAreOfRounds, GroupsHaveEachWrite, GroupsHaveEachRead}
 use Rattle.pdl_targets.proofs.Apart.{are_the_queue}
 use Rattle.pdl_targets.proofs.Mentioned.{none_in}
-use Rattle.pdl_targets.proofs.Greedy.{is_first, is_behind}
+use Rattle.pdl_targets.proofs.Greedy.{is_first, is_after}
 
 -- ---- how many rounds have a register
 
@@ -90,7 +90,7 @@ module _ {X : Type 0} (reg : X → ℕ) (test : X → Bool) where
   each_once rss [] h = none_of rss
   each_once rss (x ∷ xs) h =
       one_more x xs rss
-      ∙ by_test (test x) (many rss (reg x)) (length (filter test (flat_map (on xs) rss))) (h (reg x) (is_first (reg x) (map reg xs))) (each_once rss xs (λ r e. h r (is_behind (reg x) (map reg xs) r e)))
+      ∙ by_test (test x) (many rss (reg x)) (length (filter test (flat_map (on xs) rss))) (h (reg x) (is_first (reg x) (map reg xs))) (each_once rss xs (λ r e. h r (is_after (reg x) (map reg xs) r e)))
     where
       by_test : (t : Bool) (m n : ℕ) → m ≡ 1 → n ≡ length (filter test xs) → cond t m 0 + n ≡ length (cond t (x ∷ filter test xs) (filter test xs))
       by_test true m n e f = omega (arith, e, f)

@@ -14,7 +14,7 @@ use Rattle.pdl_targets.specs.Rounds.{Places, exclude, clash, clashes, rounds, pa
 use Rattle.pdl_targets.specs.Laws.{AreApart, IsInOrder, AreItsRegisters, AreTogether, HaveOneRow, GroupsAreTogether, GroupsNeedOneRow, NoGroupIsEmpty}
 use Rattle.pdl_targets.proofs.Apart.{have_registers, are_apart}
 use Rattle.pdl_targets.proofs.Mentioned.{is_in_last}
-use Rattle.pdl_targets.proofs.Greedy.{is_behind, keep_the_order}
+use Rattle.pdl_targets.proofs.Greedy.{is_after, keep_the_order}
 use Rattle.ij_bits.proofs.Tests.{or_four, number_turned}
 use Rattle.ij_bits.proofs.Lists.{any_same, any_false}
 
@@ -49,26 +49,26 @@ module _ (places : Places) where
       let parts = or_parts (clash places t r) (clashes places ts r) h in
       ⊎_elim (λ e. subst (λ n. clash places n r ≡ false) (eqb-true t p e) parts.0) (λ j. no_clash ts r p parts.1 j) (or_cases (t == p) (is_in ts p) i)
 
-  in_front : (front rs : List ℕ) (p r : ℕ) → AreApart places front rs → is_in front p ≡ true → is_in rs r ≡ true → clash places p r ≡ false
-  in_front front [] p r h i j = absurd cc
-  in_front front (s ∷ ss) p r h i j =
+  before : (front rs : List ℕ) (p r : ℕ) → AreApart places front rs → is_in front p ≡ true → is_in rs r ≡ true → clash places p r ≡ false
+  before front [] p r h i j = absurd cc
+  before front (s ∷ ss) p r h i j =
       ⊎_elim (λ e. subst (λ n. clash places p n ≡ false) (eqb-true s r e) (no_clash front s p h.0 i))
-      (λ k. in_front (front ++ s ∷ []) ss p r h.1 (is_in_last front s p ∙ or_left (is_in front p) (s == p) i) k)
+      (λ k. before (front ++ s ∷ []) ss p r h.1 (is_in_last front s p ∙ or_left (is_in front p) (s == p) i) k)
       (or_cases (s == r) (is_in ss r) j)
 
   two_of : (front rs : List ℕ) (q r : ℕ) → AreApart places front rs → is_in rs q ≡ true → is_in rs r ≡ true → q ≢ r → clash places q r ≡ false
   two_of front [] q r h i j other = absurd cc
   two_of front (s ∷ ss) q r h i j other =
-      ⊎_elim (λ e. ⊎_elim (λ f. absurd (other (sym (eqb-true s q e) ∙ eqb-true s r f))) (λ k. in_front (front ++ s ∷ []) ss q r h.1 (is_in_last front s q ∙ or_right (is_in front q) (s == q) e) k) (or_cases (s == r) (is_in ss r) j))
-      (λ k. ⊎_elim (λ f. clash_back q r ∙ in_front (front ++ s ∷ []) ss r q h.1 (is_in_last front s r ∙ or_right (is_in front r) (s == r) f) k) (λ l. two_of (front ++ s ∷ []) ss q r h.1 k l other) (or_cases (s == r) (is_in ss r) j))
+      ⊎_elim (λ e. ⊎_elim (λ f. absurd (other (sym (eqb-true s q e) ∙ eqb-true s r f))) (λ k. before (front ++ s ∷ []) ss q r h.1 (is_in_last front s q ∙ or_right (is_in front q) (s == q) e) k) (or_cases (s == r) (is_in ss r) j))
+      (λ k. ⊎_elim (λ f. clash_back q r ∙ before (front ++ s ∷ []) ss r q h.1 (is_in_last front s r ∙ or_right (is_in front r) (s == r) f) k) (λ l. two_of (front ++ s ∷ []) ss q r h.1 k l other) (or_cases (s == r) (is_in ss r) j))
       (or_cases (s == q) (is_in ss q) i)
 
   -- ---- rows
 
-  behind_flat : (qs : List ℕ) (a : Branch) → Contains (flat_map places qs) a → (q : ℕ) × Contains qs q × Contains (places q) a
-  behind_flat [] a h = absurd (omega (arith, h.1))
-  behind_flat (q ∷ qs) a h =
-      ⊎_elim (λ here. (q, (zero, omega arith, refl), here)) (λ there. let rest = behind_flat qs a there in (rest.0, (suc rest.1.0, omega (arith, rest.1.1), rest.1.2), rest.2))
+  after_flat : (qs : List ℕ) (a : Branch) → Contains (flat_map places qs) a → (q : ℕ) × Contains qs q × Contains (places q) a
+  after_flat [] a h = absurd (omega (arith, h.1))
+  after_flat (q ∷ qs) a h =
+      ⊎_elim (λ here. (q, (zero, omega arith, refl), here)) (λ there. let rest = after_flat qs a there in (rest.0, (suc rest.1.0, omega (arith, rest.1.1), rest.1.2), rest.2))
       (Contains-append_cases (places q) (flat_map places qs) a h)
 
   one_row : (a b : Branch) → exclude a b ≡ false → a.mux ≡ b.mux → a.row ≡ b.row
@@ -89,8 +89,8 @@ module _ (places : Places) where
 
   pub group_rows : (g : SeenGroup) → ((r : ℕ) → HaveOneRow (places r)) → AreTogether places g → HaveOneRow (flat_map places (registers_of g))
   group_rows g alone h a b i j e =
-      let at = behind_flat (registers_of g) a i in
-      let bt = behind_flat (registers_of g) b j in
+      let at = after_flat (registers_of g) a i in
+      let bt = after_flat (registers_of g) b j in
       by_register at.0 bt.0 at.1 bt.1 at.2 bt.2
     where
       by_register : (q r : ℕ) → Contains (registers_of g) q → Contains (registers_of g) r → Contains (places q) a → Contains (places r) b → a.row ≡ b.row
@@ -104,20 +104,20 @@ some_left : {X : Type 0} (reg : X → ℕ) (xs : List X) (rs : List ℕ) (r : �
 some_left {X = X} reg [] rs r i j e = absurd cc
 some_left {X = X} reg (x ∷ xs) rs r i j e =
     ⊎_elim (λ here. kept (is_in rs (reg x)) (filter (λ x. is_in rs (reg x)) xs) (subst (λ n. is_in rs n ≡ true) (sym (eqb-true (reg x) r here)) j) e)
-    (λ there. behind (is_in rs (reg x)) (filter (λ x. is_in rs (reg x)) xs) (some_left reg xs rs r there j) e)
+    (λ there. after (is_in rs (reg x)) (filter (λ x. is_in rs (reg x)) xs) (some_left reg xs rs r there j) e)
     (or_cases (reg x == r) (is_in (map reg xs) r) i)
   where
     kept : (t : Bool) (ys : List X) → t ≡ true → cond t (x ∷ ys) ys ≡ [] → ⊥
     kept true ys on f = absurd (omega (arith, ap length f))
     kept false ys on f = absurd cc
 
-    behind : (t : Bool) (ys : List X) → ys ≢ [] → cond t (x ∷ ys) ys ≡ [] → ⊥
-    behind true ys h f = absurd (omega (arith, ap length f))
-    behind false ys h f = h f
+    after : (t : Bool) (ys : List X) → ys ≢ [] → cond t (x ∷ ys) ys ≡ [] → ⊥
+    after true ys h f = absurd (omega (arith, ap length f))
+    after false ys h f = h f
 
 first_is_there : (r : ℕ) (rs registers : List ℕ) → IsInOrder (r ∷ rs) registers → is_in registers r ≡ true
 first_is_there r rs [] h = absurd h
-first_is_there r rs (s ∷ ss) h = ⊎_elim (λ here. or_left (s == r) (is_in ss r) (eq-eqb s r (sym here.0))) (λ there. is_behind s ss r (first_is_there r rs ss there)) h
+first_is_there r rs (s ∷ ss) h = ⊎_elim (λ here. or_left (s == r) (is_in ss r) (eq-eqb s r (sym here.0))) (λ there. is_after s ss r (first_is_there r rs ss there)) h
 
 module _ (writes : List WriteBit) (reads : List ReadBit) where
   names_in : (rs : List ℕ) (q : ℕ) → Contains (registers_of (part_on writes reads rs)) q → is_in rs q ≡ true

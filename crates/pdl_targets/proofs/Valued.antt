@@ -18,7 +18,7 @@ use Rattle.net_graph.specs.declared.step.ReadBit.{ReadBit}
 use Rattle.pdl_targets.specs.declared.fault.TargetFault.{TargetFault}
 use Rattle.pdl_targets.specs.Seen.{Refuses}
 use Rattle.pdl_targets.specs.Targets.{Found, Is, Fails, IsValueWide, compared, fitted, found_then, is_wide, one_read, one_write, or_skip, read_bit, reads_of, write_bit, writes_of, written}
-use Rattle.pdl_targets.proofs.Finding.{behind, behind_more, refused_as, refused_more}
+use Rattle.pdl_targets.proofs.Finding.{after, after_more, refused_as, refused_more}
 use Rattle.ij_bits.proofs.WordBits.{length-bits_of}
 
 pub value_read : (t : Tern) (i : ℕ) (result : Option Bool) → i < length t.value.items → (get_or t.care.items i false ≡ true → result ≡ Some (get_or t.value.items i false)) → (get_or t.care.items i false ≡ false → result ≡ None)
@@ -58,27 +58,27 @@ module _ (net : Net) (at : Place) (spots : List Spot) (values : List (Option Boo
       ap (λ l. writes_of net at l (drop i values)) (next_spot spots i spot p.below p.spot_is)
       ∙ ap (writes_of net at (spot ∷ drop (i + 1) spots)) (next_value values i v (omega (arith, p.below, p.many)) p.value_is)
 
-  pub skipped : (i : ℕ) (spot : Spot) (ws now : List WriteBit) (all : Found (List WriteBit)) → Pair spots values i spot None → now ≡ ws → behind ws (writes_of net at (drop i spots) (drop i values)) ≡ all → behind now (writes_of net at (drop (i + 1) spots) (drop (i + 1) values)) ≡ all
-  skipped i spot ws now all p n e = ap (λ l. behind l (writes_of net at (drop (i + 1) spots) (drop (i + 1) values))) n ∙ ap (behind ws) (sym (writes_next i spot None p)) ∙ e
+  pub skipped : (i : ℕ) (spot : Spot) (ws now : List WriteBit) (all : Found (List WriteBit)) → Pair spots values i spot None → now ≡ ws → after ws (writes_of net at (drop i spots) (drop i values)) ≡ all → after now (writes_of net at (drop (i + 1) spots) (drop (i + 1) values)) ≡ all
+  skipped i spot ws now all p n e = ap (λ l. after l (writes_of net at (drop (i + 1) spots) (drop (i + 1) values))) n ∙ ap (after ws) (sym (writes_next i spot None p)) ∙ e
 
   pub written_next : (i : ℕ) (spot : Spot) (v : Bool) (o : Option Picked) (w : WriteBit) (ws now : List WriteBit) (all : Found (List WriteBit)) → Pair spots values i spot (Some v) → o ≡ written spot → write_bit net at o v ≡ Is w → now ≡ ws ++ w ∷ []
-      → behind ws (writes_of net at (drop i spots) (drop i values)) ≡ all → behind now (writes_of net at (drop (i + 1) spots) (drop (i + 1) values)) ≡ all
+      → after ws (writes_of net at (drop i spots) (drop i values)) ≡ all → after now (writes_of net at (drop (i + 1) spots) (drop (i + 1) values)) ≡ all
   written_next i spot v o w ws now all p is f n e =
-      ap (λ l. behind l (writes_of net at (drop (i + 1) spots) (drop (i + 1) values))) n
-      ∙ sym (behind_more ws (write_bit net at (written spot) v) w (writes_of net at (drop (i + 1) spots) (drop (i + 1) values)) (ap (λ x. write_bit net at x v) (sym is) ∙ f))
-      ∙ ap (behind ws) (sym (writes_next i spot (Some v) p)) ∙ e
+      ap (λ l. after l (writes_of net at (drop (i + 1) spots) (drop (i + 1) values))) n
+      ∙ sym (after_more ws (write_bit net at (written spot) v) w (writes_of net at (drop (i + 1) spots) (drop (i + 1) values)) (ap (λ x. write_bit net at x v) (sym is) ∙ f))
+      ∙ ap (after ws) (sym (writes_next i spot (Some v) p)) ∙ e
 
   pub write_refused : (i : ℕ) (spot : Spot) (v : Bool) (o : Option Picked) (ws : List WriteBit) (all : Found (List WriteBit)) (fault : TargetFault) → Pair spots values i spot (Some v) → o ≡ written spot → Refuses (write_bit net at o v) fault
-      → behind ws (writes_of net at (drop i spots) (drop i values)) ≡ all → Refuses all fault
+      → after ws (writes_of net at (drop i spots) (drop i values)) ≡ all → Refuses all fault
   write_refused i spot v o ws all fault p is f e =
-      refused_as all (behind ws (or_skip (one_write net at spot (Some v)) (writes_of net at (drop (i + 1) spots) (drop (i + 1) values)))) fault
-      (sym e ∙ ap (behind ws) (writes_next i spot (Some v) p))
+      refused_as all (after ws (or_skip (one_write net at spot (Some v)) (writes_of net at (drop (i + 1) spots) (drop (i + 1) values)))) fault
+      (sym e ∙ ap (after ws) (writes_next i spot (Some v) p))
       (refused_more ws (write_bit net at (written spot) v) (writes_of net at (drop (i + 1) spots) (drop (i + 1) values)) fault
       (refused_as (write_bit net at (written spot) v) (write_bit net at o v) fault (ap (λ x. write_bit net at x v) (sym is)) f))
 
-  pub all_written : (i : ℕ) (ws : List WriteBit) (all : Found (List WriteBit)) → length spots ≤ i → behind ws (writes_of net at (drop i spots) (drop i values)) ≡ all → all ≡ Is ws
+  pub all_written : (i : ℕ) (ws : List WriteBit) (all : Found (List WriteBit)) → length spots ≤ i → after ws (writes_of net at (drop i spots) (drop i values)) ≡ all → all ≡ Is ws
   all_written i ws all h e =
-      sym e ∙ ap (λ l. behind ws (writes_of net at l (drop i values))) (nothing_left spots i h) ∙ ap Is (append-nil ws)
+      sym e ∙ ap (λ l. after ws (writes_of net at l (drop i values))) (nothing_left spots i h) ∙ ap Is (append-nil ws)
 
 module _ (net : Net) (at : Place) (number : ℕ) (spots : List Spot) (values : List (Option Bool)) where
   reads_next : (i : ℕ) (spot : Spot) (v : Option Bool) → Pair spots values i spot v → reads_of net at number i (drop i spots) (drop i values) ≡ or_skip (one_read net at number i spot v) (reads_of net at number (i + 1) (drop (i + 1) spots) (drop (i + 1) values))
@@ -86,27 +86,27 @@ module _ (net : Net) (at : Place) (number : ℕ) (spots : List Spot) (values : L
       ap (λ l. reads_of net at number i l (drop i values)) (next_spot spots i spot p.below p.spot_is)
       ∙ ap (reads_of net at number i (spot ∷ drop (i + 1) spots)) (next_value values i v (omega (arith, p.below, p.many)) p.value_is)
 
-  pub not_read : (i : ℕ) (spot : Spot) (rs now : List ReadBit) (all : Found (List ReadBit)) → Pair spots values i spot None → now ≡ rs → behind rs (reads_of net at number i (drop i spots) (drop i values)) ≡ all → behind now (reads_of net at number (i + 1) (drop (i + 1) spots) (drop (i + 1) values)) ≡ all
-  not_read i spot rs now all p n e = ap (λ l. behind l (reads_of net at number (i + 1) (drop (i + 1) spots) (drop (i + 1) values))) n ∙ ap (behind rs) (sym (reads_next i spot None p)) ∙ e
+  pub not_read : (i : ℕ) (spot : Spot) (rs now : List ReadBit) (all : Found (List ReadBit)) → Pair spots values i spot None → now ≡ rs → after rs (reads_of net at number i (drop i spots) (drop i values)) ≡ all → after now (reads_of net at number (i + 1) (drop (i + 1) spots) (drop (i + 1) values)) ≡ all
+  not_read i spot rs now all p n e = ap (λ l. after l (reads_of net at number (i + 1) (drop (i + 1) spots) (drop (i + 1) values))) n ∙ ap (after rs) (sym (reads_next i spot None p)) ∙ e
 
   pub read_next : (i : ℕ) (spot : Spot) (v : Bool) (o : Option Picked) (r : ReadBit) (rs now : List ReadBit) (all : Found (List ReadBit)) → Pair spots values i spot (Some v) → o ≡ compared net spot → read_bit net at number i o v ≡ Is r → now ≡ rs ++ r ∷ []
-      → behind rs (reads_of net at number i (drop i spots) (drop i values)) ≡ all → behind now (reads_of net at number (i + 1) (drop (i + 1) spots) (drop (i + 1) values)) ≡ all
+      → after rs (reads_of net at number i (drop i spots) (drop i values)) ≡ all → after now (reads_of net at number (i + 1) (drop (i + 1) spots) (drop (i + 1) values)) ≡ all
   read_next i spot v o r rs now all p is f n e =
-      ap (λ l. behind l (reads_of net at number (i + 1) (drop (i + 1) spots) (drop (i + 1) values))) n
-      ∙ sym (behind_more rs (read_bit net at number i (compared net spot) v) r (reads_of net at number (i + 1) (drop (i + 1) spots) (drop (i + 1) values)) (ap (λ x. read_bit net at number i x v) (sym is) ∙ f))
-      ∙ ap (behind rs) (sym (reads_next i spot (Some v) p)) ∙ e
+      ap (λ l. after l (reads_of net at number (i + 1) (drop (i + 1) spots) (drop (i + 1) values))) n
+      ∙ sym (after_more rs (read_bit net at number i (compared net spot) v) r (reads_of net at number (i + 1) (drop (i + 1) spots) (drop (i + 1) values)) (ap (λ x. read_bit net at number i x v) (sym is) ∙ f))
+      ∙ ap (after rs) (sym (reads_next i spot (Some v) p)) ∙ e
 
   pub read_refused : (i : ℕ) (spot : Spot) (v : Bool) (o : Option Picked) (rs : List ReadBit) (all : Found (List ReadBit)) (fault : TargetFault) → Pair spots values i spot (Some v) → o ≡ compared net spot → Refuses (read_bit net at number i o v) fault
-      → behind rs (reads_of net at number i (drop i spots) (drop i values)) ≡ all → Refuses all fault
+      → after rs (reads_of net at number i (drop i spots) (drop i values)) ≡ all → Refuses all fault
   read_refused i spot v o rs all fault p is f e =
-      refused_as all (behind rs (or_skip (one_read net at number i spot (Some v)) (reads_of net at number (i + 1) (drop (i + 1) spots) (drop (i + 1) values)))) fault
-      (sym e ∙ ap (behind rs) (reads_next i spot (Some v) p))
+      refused_as all (after rs (or_skip (one_read net at number i spot (Some v)) (reads_of net at number (i + 1) (drop (i + 1) spots) (drop (i + 1) values)))) fault
+      (sym e ∙ ap (after rs) (reads_next i spot (Some v) p))
       (refused_more rs (read_bit net at number i (compared net spot) v) (reads_of net at number (i + 1) (drop (i + 1) spots) (drop (i + 1) values)) fault
       (refused_as (read_bit net at number i (compared net spot) v) (read_bit net at number i o v) fault (ap (λ x. read_bit net at number i x v) (sym is)) f))
 
-  pub all_read : (i : ℕ) (rs : List ReadBit) (all : Found (List ReadBit)) → length spots ≤ i → behind rs (reads_of net at number i (drop i spots) (drop i values)) ≡ all → all ≡ Is rs
+  pub all_read : (i : ℕ) (rs : List ReadBit) (all : Found (List ReadBit)) → length spots ≤ i → after rs (reads_of net at number i (drop i spots) (drop i values)) ≡ all → all ≡ Is rs
   all_read i rs all h e =
-      sym e ∙ ap (λ l. behind rs (reads_of net at number i l (drop i values))) (nothing_left spots i h) ∙ ap Is (append-nil rs)
+      sym e ∙ ap (λ l. after rs (reads_of net at number i l (drop i values))) (nothing_left spots i h) ∙ ap Is (append-nil rs)
 
 -- ---- the width of a value
 

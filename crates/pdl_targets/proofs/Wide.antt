@@ -24,19 +24,19 @@ is_zero (Some false) = true
 abbrev NotZero : List (Option Bool) → ℕ → Type 0
 NotZero bits from = (k : ℕ) × (from ≤ k) × (k < length bits) × (get_or bits k (Some false) ≢ Some false)
 
-one_behind : (b : Option Bool) (bits : List (Option Bool)) (from : ℕ) → NotZero bits from → NotZero (b ∷ bits) (suc from)
-one_behind b bits from (k, h, l, n) = (suc k, omega (arith, h), omega (arith, l), n)
+one_after : (b : Option Bool) (bits : List (Option Bool)) (from : ℕ) → NotZero bits from → NotZero (b ∷ bits) (suc from)
+one_after b bits from (k, h, l, n) = (suc k, omega (arith, h), omega (arith, l), n)
 
-any_behind : (b : Option Bool) (bits : List (Option Bool)) → NotZero bits 0 → NotZero (b ∷ bits) 0
-any_behind b bits (k, h, l, n) = (suc k, omega arith, omega (arith, l), n)
+any_after : (b : Option Bool) (bits : List (Option Bool)) → NotZero bits 0 → NotZero (b ∷ bits) 0
+any_after b bits (k, h, l, n) = (suc k, omega arith, omega (arith, l), n)
 
 where_not_zero : (bits : List (Option Bool)) (from : ℕ) → all_zero (drop from bits) ≡ false → NotZero bits from
 where_not_zero [] zero e = absurd cc
 where_not_zero [] (suc from) e = absurd cc
-where_not_zero (b ∷ bits) (suc from) e = one_behind b bits from (where_not_zero bits from e)
+where_not_zero (b ∷ bits) (suc from) e = one_after b bits from (where_not_zero bits from e)
 where_not_zero (None ∷ bits) zero e = (0, omega arith, omega arith, λ h. let e : false ≡ true = ap is_zero h in absurd cc)
 where_not_zero (Some true ∷ bits) zero e = (0, omega arith, omega arith, λ h. let e : false ≡ true = ap is_zero h in absurd cc)
-where_not_zero (Some false ∷ bits) zero e = any_behind (Some false) bits (where_not_zero bits zero e)
+where_not_zero (Some false ∷ bits) zero e = any_after (Some false) bits (where_not_zero bits zero e)
 
 pub wide_is : (width : ℕ) (w : Written) → IsWide width w → is_wide width w ≡ true
 wide_is width (InDecimal n) h = by_test (nat_lt n (2 ^ width)) refl

@@ -26,7 +26,7 @@ pub record Queue : Type 0 where
 abbrev pub empty : Queue
 empty = record { writes = []; reads = []; registers = []; pending = None; asked = 0; rounds = 0; cycles = 0 }
 
--- a step's answer: the queue behind it, and its bit step
+-- a step's answer: the queue after it, and its bit step
 pub record Answer : Type 0 where
   pub queue : Queue
   pub step : Option SeenStep

@@ -4,7 +4,7 @@ use Rattle.std.specs.List.{list_any}
 use Rattle.net_graph.specs.declared.branch.Branch.{Branch}
 use Rattle.pdl_targets.specs.Rounds.{Places, clashes, exclude}
 
--- a register goes into the first round with none of whose registers it clashes, or into a round of its own behind
+-- a register goes into the first round with none of whose registers it clashes, or into a round of its own after
 abbrev pub put_in : Places → List (List ℕ) → ℕ → List (List ℕ)
 put_in places [] r = (r ∷ []) ∷ []
 put_in places (q ∷ rss) r = cond (clashes places q r) (q ∷ put_in places rss r) ((q ++ r ∷ []) ∷ rss)
@@ -14,7 +14,7 @@ abbrev pub put_all : Places → List (List ℕ) → List ℕ → List (List ℕ)
 put_all places rss [] = rss
 put_all places rss (r ∷ rs) = put_all places (put_in places rss r) rs
 
--- a register goes into this round, or behind the last
+-- a register goes into this round, or after the last
 abbrev pub put_at : List (List ℕ) → ℕ → ℕ → List (List ℕ)
 put_at [] k r = (r ∷ []) ∷ []
 put_at (q ∷ rss) zero r = (q ++ r ∷ []) ∷ rss

@@ -99,7 +99,7 @@ fn make_long(alloc: Global, slots: &mut Vec<List<Captor>>, slot: usize) -> Resul
     Ok(())
 }
 
-/// Adds a register bit behind the others of its slot.
+/// Adds a register bit after the others of its slot.
 fn add_captor(
     alloc: Global,
     slots: &mut Vec<List<Captor>>,

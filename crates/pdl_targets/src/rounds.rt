@@ -30,7 +30,7 @@ fn round_of(alloc: Global, register: u32) -> Result<List<u32>, OutOfMemory>
     Ok(round)
 }
 
-/// Puts a register into a round, or into one of its own behind the last.
+/// Puts a register into a round, or into one of its own after the last.
 fn put_at(
     alloc: Global,
     rounds: &mut Vec<List<u32>>,

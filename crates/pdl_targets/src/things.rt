@@ -18,8 +18,8 @@ use net_graph::{Net, Spot, Thing};
 use pdl_expand::put_names;
 use std::alloc::Global;
 
-/// The names in front of the last one.
-fn in_front(path: &[Name]) -> &[Name]
+/// The names before the last one.
+fn names_before(path: &[Name]) -> &[Name]
     ensures { map bytes_of result.now ≡ but_last (map bytes_of path.now) }
 {
     match path {
@@ -102,7 +102,7 @@ fn path_of<'a>(net: &'a Net, node: u32, none: &'a [Name]) -> &'a [Name]
     }
 }
 
-/// The cell that the names in front of a path's last one lead to, from a cell.
+/// The cell that the names before a path's last one lead to, from a cell.
 fn cell_of(
     alloc: Global,
     net: &Net,
@@ -114,7 +114,7 @@ fn cell_of(
     ensures { IfOk result (λ o. o ≡ cell_at (cells_of net.now) ((cell (cells_of net.now) node).path ++ but_last (map bytes_of path.now))) }
 {
     let key = put_names(List::new(alloc), path_of(net, node, &path[..0]))?;
-    let key = put_names(key, in_front(path))?;
+    let key = put_names(key, names_before(path))?;
     Ok(index.cells.find(&key))
 }
 

@@ -122,7 +122,7 @@ fn put_compare<K: Sink>(d: &Differ, k: &mut K) -> Result<(), StoreFault>
     Ok(())
 }
 
-/// Writes the line of a compare that differs: `differs scan S bit B expected E read V`, behind it ` iread R line L index I` where the
+/// Writes the line of a compare that differs: `differs scan S bit B expected E read V`, after it ` iread R line L index I` where the
 /// iRead is known; and where there is no scan, `differs iread R line L index I expected E read V` (IEEE 1687-2014, PDL level 0: iRead;
 /// Serial Vector Format, revision E: TDO and MASK). It takes no memory itself.
 ///

@@ -1,4 +1,4 @@
--- Bit steps that are written one after the other, each behind a piece.
+-- Bit steps that are written one after the other, each after a piece.
 use Rattle.std.proofs.Common.{◌≡◌, ℕ, Option, Some, List, ◌∷◌, refl, sym, subst}
 use Rattle.ij_io.specs.Files.{Files}
 use Rattle.net_graph.specs.SeenSteps.{SeenStep}
@@ -17,7 +17,7 @@ module _ (first : Session) (steps : List SeenStep) (old : Option (List ℕ)) (na
   pub is_part : (now : Option Files) → HoldsFront now name (with_piece files name piece) → (text : Option (List ℕ)) × WritesStepsPart first steps old text × HoldsFront now name text
   is_part now h = (with_piece files name piece, part_so_far first steps old s left (with_piece files name piece) go, h)
 
-  -- a bit step is written behind the piece, and this may have gone to the file
+  -- a bit step is written after the piece, and this may have gone to the file
   pub one_more : (step : SeenStep) (later : List SeenStep) (after : Session) (longer next : List ℕ) (now : Option Files) → left ≡ step ∷ later → WritesStep s step (Some piece) (Some longer) → IsAfterStep s step after
       → with_piece now name next ≡ with_piece files name longer → Go first steps old after later (with_piece now name next)
   one_more step later after longer next now e w h same =

@@ -27,7 +27,7 @@ use Rattle.retargeter.specs.Writing.{HasPlan, WritesStep, WritesStepPart, IsAfte
 use Rattle.retargeter.proofs.Found.{step_listed, step_planned}
 use Rattle.ij_bits.proofs.Lists.{no_head}
 
--- ---- the first of some planned steps, and those behind it
+-- ---- the first of some planned steps, and those after it
 
 module _ (net : Net) (form : Items) where
   pub first_planned : (x : PlannedStep) (xs : List PlannedStep) (holds : Holds) → StepsArePlanned net form holds (x ∷ xs) → StepsArePlanned net form holds (x ∷ [])

@@ -12,7 +12,7 @@ use Rattle.headline.specs.Retargeting.{PlannedStep, script_of, IsRetargeted}
 use Rattle.retargeter.specs.Plans.{AreStepsOf}
 use Rattle.retargeter.specs.Session.{Session}
 
--- ---- bit steps behind others, whatever their plans are
+-- ---- bit steps after others, whatever their plans are
 
 module _ (s : Session) (steps : List SeenStep) where
   -- exactly their text is added

@@ -29,7 +29,7 @@ module _ (net : Net) (form : Items) (holds : Holds) (g : SeenGroup) where
 
 -- ---- a round: the comment with its number, and its scans
 
--- the comment in front of the j-th round of the n-th iApply
+-- the comment before the j-th round of the n-th iApply
 abbrev pub front : ℕ → ℕ → List ℕ
 front n j = cond (j == 1) (mark n) (round_mark n j)
 

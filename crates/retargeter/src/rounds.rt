@@ -17,7 +17,7 @@ use net_tree::Tree;
 use std::alloc::Global;
 use svf_writer::{put_mark, put_round};
 
-/// Writes the comment in front of a round, by the numbers of its iApply and of the round, counted from 1. Takes no memory.
+/// Writes the comment before a round, by the numbers of its iApply and of the round, counted from 1. Takes no memory.
 fn put_front<K: Sink>(apply: u32, round: u32, k: &mut K) -> Result<(), StoreFault>
     requires some { 1 ≤ round }
     ensures whole { OnOk result (Adds (K.taken k.old) (K.taken k.new) (front apply round)) }

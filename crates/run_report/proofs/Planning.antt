@@ -1,4 +1,4 @@
--- The first of some planned steps, and those behind it.
+-- The first of some planned steps, and those after it.
 use Rattle.std.proofs.Common.{List, ◌∷◌, get_or, drop, ap}
 use Rattle.net_graph.specs.declared.net.Net.{Net}
 use Rattle.net_graph.specs.SeenSteps.{SeenStep}

@@ -25,7 +25,7 @@ use Rattle.run_report.specs.Reaching.{CanGoOn, IsCursor, Stands, StandsOn}
 use Rattle.run_report.specs.declared.place.ReadPlace.{ReadPlace}
 use Rattle.run_report.proofs.Looking.{none_front, none_back}
 use Rattle.run_report.proofs.Planning.{first_of, others_of}
-use Rattle.run_report.proofs.Within.{none_behind, none_before, after_more}
+use Rattle.run_report.proofs.Within.{none_after, none_before, after_more}
 use Rattle.pdl_targets.proofs.Counted.{rounds_first}
 use Rattle.ij_bits.proofs.Lists.{no_head}
 
@@ -68,7 +68,7 @@ module _ (net : Net) (form : Items) where
             rest = xs;
             is_left = others_of net form holds step steps x xs a;
             found = λ scan bit l. later scan bit l;
-            later = λ scan bit l. let more = after_more x scans in later scan bit (omega (arith, l, more)) ∙ none_front (step_places net holds scans x) rest scan bit (none_behind net x holds scans scan bit l);
+            later = λ scan bit l. let more = after_more x scans in later scan bit (omega (arith, l, more)) ∙ none_front (step_places net holds scans x) rest scan bit (none_after net x holds scans scan bit l);
           } in
           subst (λ (ps : List ReadPlace). Stands net form steps after (suc scans) after_scans ps all) (sym here) (subst (λ (k : ℕ). Stands net form steps after (suc scans) k (step_places net holds scans x) all) (sym count) (subst (λ (k : Holds). Stands net form steps k (suc scans) (scans_after_step scans x) (step_places net holds scans x) all) (sym there) stands))
 
@@ -154,7 +154,7 @@ module _ (p : Procedure) (before after : Cursor) (is : IsCursor p.net p.form p.s
     pub read_found : (scan ≤ after.scans) ⊎ (after.steps.steps ≡ []) → read ≡ names scan bit
     read_found there = found ∙ reached there ∙ sym (are.named scan bit)
 
--- a cursor at the begin stands in front of any scan
+-- a cursor at the begin stands before any scan
 pub first_zero : {E : Type 0} (r : Result Cursor E) (scan : ℕ) → IfOk r (λ c. c.first ≡ 0) → IfOk r (λ c. c.first ≤ scan)
 first_zero (Ok c) scan e = omega (arith, e)
 first_zero (Err x) scan e = tt

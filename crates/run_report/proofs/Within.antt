@@ -71,9 +71,9 @@ steps_above net (x ∷ xs) holds scans =
     let more = after_more x scans in
     All-append (IsAbove scans) here there (All-weaker (IsWithin scans after) (IsAbove scans) (λ p w. w.0) here (step_within net x holds scans)) (All-weaker (IsAbove after) (IsAbove scans) (λ p w. omega (arith, w, more)) there (steps_above net xs (holds_after_step net holds x) after))
 
--- a step has no read behind its scans, and no step one in front of them
-pub none_behind : (net : Net) (x : PlannedStep) (holds : Holds) (scans scan bit : ℕ) → scans_after_step scans x < scan → read_at (step_places net holds scans x) scan bit ≡ None
-none_behind net x holds scans scan bit l =
+-- a step has no read after its scans, and no step one before them
+pub none_after : (net : Net) (x : PlannedStep) (holds : Holds) (scans scan bit : ℕ) → scans_after_step scans x < scan → read_at (step_places net holds scans x) scan bit ≡ None
+none_after net x holds scans scan bit l =
     none_of (step_places net holds scans x) scan bit (All-weaker (IsWithin scans (scans_after_step scans x)) (λ p. p.scan ≢ scan) (λ p w e. let above = w.1 in omega (arith, l, above, e)) (step_places net holds scans x) (step_within net x holds scans))
 
 pub none_before : (net : Net) (xs : List PlannedStep) (holds : Holds) (scans scan bit : ℕ) → scan ≤ scans → read_at (steps_places net holds scans xs) scan bit ≡ None

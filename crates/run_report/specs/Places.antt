@@ -20,7 +20,7 @@ place_in net holds scan r = record { scan = scan; bit = position (route_of net h
 abbrev pub scan_places : Net → Holds → ℕ → List ReadBit → List ReadPlace
 scan_places net holds scan reads = map (place_in net holds scan) reads
 
--- a scan for each plan, behind so many others
+-- a scan for each plan, after so many others
 abbrev pub plans_places : Net → Holds → ℕ → List SeenGroup → List ReadPlace
 plans_places net holds scans [] = []
 plans_places net holds scans (p ∷ ps) =
@@ -41,7 +41,7 @@ step_places net holds scans (Applies rounds) = rounds_places net holds scans rou
 step_places net holds scans (Runs n) = []
 step_places net holds scans Resets = []
 
--- behind a reset one scan loads the instruction
+-- after a reset one scan loads the instruction
 abbrev pub scans_after_step : ℕ → PlannedStep → ℕ
 scans_after_step scans (Applies rounds) = scans_after_rounds scans rounds
 scans_after_step scans (Runs n) = scans
@@ -52,7 +52,7 @@ steps_places net holds scans [] = []
 steps_places net holds scans (x ∷ xs) =
     step_places net holds scans x ++ steps_places net (holds_after_step net holds x) (scans_after_step scans x) xs
 
--- the reads of all steps from power-up on, behind the scan that loads the instruction
+-- the reads of all steps from power-up on, after the scan that loads the instruction
 abbrev pub places : Net → List PlannedStep → List ReadPlace
 places net xs = steps_places net (start_holds net) 1 xs
 

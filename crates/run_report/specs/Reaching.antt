@@ -23,7 +23,7 @@ pub record CanGoOn (net : Net) (form : Items) (c : Cursor) : Type 0 where
   pub scannable : IsScannable net c.holds
   pub room : HasRoom net c.route
 
--- of all planned steps these are left: from scan `first` on the reads are those that are noted and those of the rest, and behind
+-- of all planned steps these are left: from scan `first` on the reads are those that are noted and those of the rest, and after
 -- `scans` scans those of the rest alone
 pub record Stands (net : Net) (form : Items) (left : List SeenStep) (holds : Holds) (first scans : ℕ) (noted : List ReadPlace) (all : List PlannedStep) : Type 0 where
   pub rest : List PlannedStep

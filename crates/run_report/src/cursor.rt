@@ -27,9 +27,9 @@ use std::alloc::Global;
 /// Bit steps of a procedure up to one of them, with the reads of that one.
 #[derive(Drop)]
 pub(crate) struct Cursor<'a> {
-    /// The bit steps behind it.
+    /// The bit steps after it.
     pub steps: BitSteps<'a>,
-    /// What the update stages hold behind it.
+    /// What the update stages hold after it.
     pub holds: Holds,
     /// The number of its first scan.
     pub first: u32,
@@ -58,7 +58,7 @@ fn steps_of<'a>(
 }
 
 impl<'a> Cursor<'a> {
-    /// Before the first bit step, behind the scan that loads the instruction.
+    /// Before the first bit step, after the scan that loads the instruction.
     pub(crate) fn new(
         alloc: Global,
         procs: &'a [Proc],

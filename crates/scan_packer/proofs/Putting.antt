@@ -25,13 +25,13 @@ place_within [] s b c h = absurd (omega (arith, c.1))
 place_within (r ∷ rs) s b c h =
     ⊎_elim (λ q. let wide : b.pos < length (bits_at s r) = omega (arith, h, length_at s b.reg, ap (λ z. length (bits_at s z)) q.1) in subst (λ z. cond z b.pos (length (bits_at s r) + position rs s b) < length (bits_at s r ++ chain rs s)) (sym q.0) (omega (arith, wide, length-append (bits_at s r) (chain rs s)))) (λ q. subst (λ z. cond z b.pos (length (bits_at s r) + position rs s b) < length (bits_at s r ++ chain rs s)) (sym q.0) (omega (arith, place_within rs s b (pop r rs b.reg q.1 c) h, length-append (bits_at s r) (chain rs s)))) (eqb_tells r b.reg)
 
--- a bit stands so far behind the first one of its register
-pub behind_start : (p : List ℕ) (s : Holds) (b : BitId) → Contains p b.reg → position p s b ≡ position p s (record { reg = b.reg; pos = 0 }) + b.pos
-behind_start [] s b c = absurd (omega (arith, c.1))
-behind_start (r ∷ rs) s b c =
+-- a bit stands so far after the first one of its register
+pub after_start : (p : List ℕ) (s : Holds) (b : BitId) → Contains p b.reg → position p s b ≡ position p s (record { reg = b.reg; pos = 0 }) + b.pos
+after_start [] s b c = absurd (omega (arith, c.1))
+after_start (r ∷ rs) s b c =
     let first : BitId = record { reg = b.reg; pos = 0 } in
     let P : Bool → Type 0 = λ z. cond z b.pos (length (bits_at s r) + position rs s b) ≡ cond z 0 (length (bits_at s r) + position rs s first) + b.pos in
-    ⊎_elim (λ q. subst P (sym q.0) (omega arith)) (λ q. let more = behind_start rs s b (pop r rs b.reg q.1 c) in subst P (sym q.0) (omega (arith, more))) (eqb_tells r b.reg)
+    ⊎_elim (λ q. subst P (sym q.0) (omega arith)) (λ q. let more = after_start rs s b (pop r rs b.reg q.1 c) in subst P (sym q.0) (omega (arith, more))) (eqb_tells r b.reg)
 
 pub put_at : (n : ℕ) (p : List ℕ) (s t : Holds) (b : BitId) (v : Bool) → IsRoute n p → shape s ≡ shape t → Contains p b.reg → IsHeld (shape s) b → slice_set (chain p s) (position p t b) v ≡ chain p (set_hold s b v)
 put_at n [] s t b v u e c h = absurd (omega (arith, c.1))

@@ -67,8 +67,8 @@ module _ (holds : Holds) where
       let z : 0 + i ≡ i = omega arith in
       get_or_append_left (first_bits r) (bits_on holds rs) d i (omega (arith, k, l)) ∙ get-bits_from r 0 (length (bits_at holds r)) i d l ∙ ap (bit_id r) z
 
-  behind_first : (r : ℕ) (rs : List ℕ) (i : ℕ) (d : BitId) → get_or (bits_on holds (r ∷ rs)) (length (bits_at holds r) + i) d ≡ get_or (bits_on holds rs) i d
-  behind_first r rs i d =
+  after_first : (r : ℕ) (rs : List ℕ) (i : ℕ) (d : BitId) → get_or (bits_on holds (r ∷ rs)) (length (bits_at holds r) + i) d ≡ get_or (bits_on holds rs) i d
+  after_first r rs i d =
       ap (λ n. get_or (bits_on holds (r ∷ rs)) (n + i) d) (sym (length-bits_from r 0 (length (bits_at holds r))))
       ∙ get_or-append-add (first_bits r) (bits_on holds rs) i d
 
@@ -78,7 +78,7 @@ module _ (holds : Holds) where
   place_at (r ∷ rs) b d s =
       ⊎_elim
       (λ c. let l : b.pos < length (bits_at holds r) = subst (λ q. b.pos < length (bits_at holds q)) (sym c.0) s.there in ap (λ n. get_or (bits_on holds (r ∷ rs)) n d) c.1 ∙ in_first r rs b.pos d l ∙ ap (λ q. bit_id q b.pos) c.0)
-      (λ c. ap (λ n. get_or (bits_on holds (r ∷ rs)) n d) c.1 ∙ behind_first r rs (position rs holds b) d ∙ place_at rs b d (record { on = ⊎_elim (λ e. absurd (c.0 e)) (λ i. i) s.on; there = s.there }))
+      (λ c. ap (λ n. get_or (bits_on holds (r ∷ rs)) n d) c.1 ∙ after_first r rs (position rs holds b) d ∙ place_at rs b d (record { on = ⊎_elim (λ e. absurd (c.0 e)) (λ i. i) s.on; there = s.there }))
       (place_cases holds r rs b)
 
   abbrev Here : List ℕ → BitId → ℕ → Type 0
@@ -94,7 +94,7 @@ module _ (holds : Holds) where
   here_later r rs i j d n e k =
       let b = get_or (bits_on holds rs) j d in
       let at : position (r ∷ rs) holds b ≡ i = ⊎_elim (λ c. absurd (not_in rs b.reg (subst (λ q. NotIn q rs) c.0 n) k.0.on)) (λ c. omega (arith, c.1, k.1, e)) (place_cases holds r rs b) in
-      let is : get_or (bits_on holds (r ∷ rs)) i d ≡ b = ap (λ m. get_or (bits_on holds (r ∷ rs)) m d) e ∙ behind_first r rs j d in
+      let is : get_or (bits_on holds (r ∷ rs)) i d ≡ b = ap (λ m. get_or (bits_on holds (r ∷ rs)) m d) e ∙ after_first r rs j d in
       subst (λ x. Here (r ∷ rs) x i) (sym is) (record { on = inr k.0.on; there = k.0.there }, at)
 
   -- and at each place stands a bit of the path

@@ -1,4 +1,4 @@
--- Redundant groups in front of what is due, and cycles behind them.
+-- Redundant groups before what is due, and cycles after them.
 use Rattle.std.proofs.Common.{◌≡◌, ⊎_elim, length, ℕ, zero, suc, ◌+◌, ◌-◌, ◌<◌, ◌≤◌, Bool, true, false, None, List, [], ◌∷◌, ◌++◌, refl, sym, ap, ◌∙◌, subst, arith}
 use Rattle.std.specs.Prelude.{All, option_and_then, replicate, ◌==◌}
 use Rattle.std.proofs.lemmas.Bool.Decides.{eqb_tells}
@@ -7,11 +7,11 @@ use Rattle.net_graph.specs.Signals.{Holds}
 use Rattle.tap_machine.specs.Play.{is_empty}
 use Rattle.svf_audit.specs.declared.left.Left.{Left}
 use Rattle.svf_audit.specs.Left.{redundant_first, work_left, AreHeld, IsHeldPiece, IsSettled, IsWithin}
-use Rattle.svf_audit.specs.Work.{Work, Cycle, is_redundant, due, behind_cycle, behind_cycles}
-use Rattle.svf_audit.proofs.Cycles.{cycles_behind, cycles_split}
+use Rattle.svf_audit.specs.Work.{Work, Cycle, is_redundant, due, after_cycle, after_cycles}
+use Rattle.svf_audit.proofs.Cycles.{cycles_after, cycles_split}
 use Rattle.svf_audit.proofs.Lefts.{drop_front, due_stays, no_piece, some_piece}
 
--- ---- redundant groups in front of cycles
+-- ---- redundant groups before cycles
 
 pub due_first : (h : Holds) (ws : List Work) → redundant_first h (due h ws) ≡ false
 due_first h [] = refl
@@ -33,28 +33,28 @@ due_all P h (w ∷ ws) a = by (is_redundant h w) refl (due_all P h ws (All-tail 
     by false e f = subst (λ b. All P (elim b [ true ↦ due h ws | false ↦ w ∷ ws ])) (sym e) a
 
 -- one cycle more asks for what is due
-pub cycles_due : (h : Holds) (n : ℕ) (ws : List Work) → 0 < n → behind_cycles h n (due h ws) ≡ behind_cycles h n ws
+pub cycles_due : (h : Holds) (n : ℕ) (ws : List Work) → 0 < n → after_cycles h n (due h ws) ≡ after_cycles h n ws
 cycles_due h zero ws l = absurd (omega (arith, l))
-cycles_due h (suc n) ws l = ap (λ x. option_and_then (behind_cycles h n) (behind_cycle x)) (due_twice h ws)
+cycles_due h (suc n) ws l = ap (λ x. option_and_then (after_cycles h n) (after_cycle x)) (due_twice h ws)
 
 -- no cycle is due
-pub no_cycles : (h : Holds) (n : ℕ) (ws : List Work) → 0 < n → behind_cycle (due h ws) ≡ None → behind_cycles h n ws ≡ None
+pub no_cycles : (h : Holds) (n : ℕ) (ws : List Work) → 0 < n → after_cycle (due h ws) ≡ None → after_cycles h n ws ≡ None
 no_cycles h zero ws l e = absurd (omega (arith, l))
-no_cycles h (suc n) ws l e = ap (option_and_then (behind_cycles h n)) e
+no_cycles h (suc n) ws l e = ap (option_and_then (after_cycles h n)) e
 
 -- some of them are done
-pub cycles_done : (h : Holds) (n k : ℕ) (ws now more : List Work) → 0 < n → k ≤ n → now ≡ due h ws → now ≡ replicate k Cycle ++ more → behind_cycles h (n - k) more ≡ behind_cycles h n ws
+pub cycles_done : (h : Holds) (n k : ℕ) (ws now more : List Work) → 0 < n → k ≤ n → now ≡ due h ws → now ≡ replicate k Cycle ++ more → after_cycles h (n - k) more ≡ after_cycles h n ws
 cycles_done h n k ws now more l m d e =
     let all : k + (n - k) ≡ n = omega arith in
     sym (
     sym (cycles_due h n ws l)
-    ∙ ap (behind_cycles h n) (sym d ∙ e)
-    ∙ ap (λ j. behind_cycles h j (replicate k Cycle ++ more)) (sym all)
+    ∙ ap (after_cycles h n) (sym d ∙ e)
+    ∙ ap (λ j. after_cycles h j (replicate k Cycle ++ more)) (sym all)
     ∙ cycles_split h k (n - k) (replicate k Cycle ++ more)
-    ∙ ap (option_and_then (behind_cycles h (n - k))) (cycles_behind h k more)
+    ∙ ap (option_and_then (after_cycles h (n - k))) (cycles_after h k more)
     )
 
--- nothing is left exactly behind the last step
+-- nothing is left exactly after the last step
 pub done_is : (l : Left) (n : ℕ) → IsWithin l → IsSettled l → n ≡ length l.steps.now.items → (l.at == n) ≡ is_empty (work_left l)
 done_is l n w s e =
     ⊎_elim
@@ -62,7 +62,7 @@ done_is l n w s e =
     (λ t. let there : l.at < length l.steps.now.items = omega (arith, w.steps, e, t.1) in t.0 ∙ sym (ap is_empty (some_piece l there (s there))))
     (eqb_tells l.at n)
 
--- the bits of what is left behind some cycles are there
+-- the bits of what is left after some cycles are there
 pub held_on : (h : Holds) (k : ℕ) (ws now more : List Work) → AreHeld h ws → now ≡ due h ws → now ≡ replicate k Cycle ++ more → AreHeld h more
 held_on h k ws now more a d e =
     let all : AreHeld h (replicate k Cycle ++ more) = subst (AreHeld h) (sym d ∙ e) (due_all (IsHeldPiece h) h ws a) in

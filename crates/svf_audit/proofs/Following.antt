@@ -52,7 +52,7 @@ use Rattle.headline.proofs.Scanning.{HasRoutes}
 use Rattle.svf_audit.specs.declared.answer.Cause.{Cause}
 use Rattle.svf_audit.specs.declared.answer.Cause.TheVariants.{End}
 use Rattle.svf_audit.specs.Audit.{State, Reading, Yes, No, at_end, audit_from, changed, does_writes, does_reads, need, need_some, note, scanned, was_reset, reset, step, has_row, load, pass, scan, do_group as do_due}
-use Rattle.svf_audit.specs.Work.{Work, Group, Cycle, Reset, due, group_first, behind_reset, behind_cycles}
+use Rattle.svf_audit.specs.Work.{Work, Group, Cycle, Reset, due, group_first, after_reset, after_cycles}
 use Rattle.svf_audit.specs.Law.{reads_of, read_compares}
 use Rattle.svf_audit.proofs.Changing.{none_changed, writes_done}
 use Rattle.svf_audit.proofs.Clocking.{idle_plays, idle_quiet, clocks_quiet, sdr_quiet, sir_quiet, sir_loads, passing, sdr_passes, reset_again}
@@ -93,7 +93,7 @@ same_group (Group g ∷ ws) x e = ap (λ o. let y = unwrap_or o (g, ws) in Group
 same_group (Cycle ∷ ws) x e = absurd (none-some x e)
 same_group (Reset ∷ ws) x e = absurd (none-some x e)
 
-same_reset : (w : List Work) (x : List Work) → behind_reset w ≡ Some x → w ≡ Reset ∷ x
+same_reset : (w : List Work) (x : List Work) → after_reset w ≡ Some x → w ≡ Reset ∷ x
 same_reset [] x e = absurd (none-some x e)
 same_reset (Group g ∷ ws) x e = absurd (none-some x e)
 same_reset (Cycle ∷ ws) x e = absurd (none-some x e)
@@ -104,7 +104,7 @@ no_yes n cause readings e = true≢false (sym (ap (λ z. elim z [ Yes rs ↦ tru
 
 -- ---- commands that fit, one by one
 
--- the lengths of the last scans of each kind, behind a command
+-- the lengths of the last scans of each kind, after a command
 abbrev pub last_ir : Option ℕ → SeenCommand → Option ℕ
 last_ir ir (SIR x) = Some x.len
 last_ir ir _ = ir
@@ -287,7 +287,7 @@ module _ {L : Type 0} (log : Log L) (net : Net) (device : Device) (machines : Li
         let here : Follows b0 t past = record { tap = refl; shaped = record { stages = f.shaped.stages; holds = reset-shape net s.holds ∙ f.shaped.holds; ir = f.shaped.ir }; linked = reset_unlinked device v; holds = refl; stays = λ z. reset_twice net s.holds; known = f.known; meaning = f.meaning; along = record { agrees = record { holds = λ c z. ap (λ h. hold_at h c) same ∙ g.agrees.holds c z; insts = g.agrees.insts }; widths = g.widths; valid = g.valid; ends = g.ends; reads = g.reads }; reads = f.reads; compared = f.compared } in
         subst (Goes a StateReset s past) is (record { ir = refl; dr = refl; pins = λ cs. refl; follows = arrives b0 s t (replicate 5 (no_shift true)) past [] there (clocks_quiet chip 5 true s) (more_of_nothing past b0 t here) })
 
-    work_reset_goes : (b : State) (left : List Work) → a.rest ≡ InIdle → behind_reset (due s.holds a.left) ≡ Some left → was_reset net device A left ≡ b → Goes a StateReset s past b
+    work_reset_goes : (b : State) (left : List Work) → a.rest ≡ InIdle → after_reset (due s.holds a.left) ≡ Some left → was_reset net device A left ≡ b → Goes a StateReset s past b
     work_reset_goes b left r q is =
         let b0 : State = was_reset net device A left in
         let t = bench_reset chip s in
@@ -303,13 +303,13 @@ module _ {L : Type 0} (log : Log L) (net : Net) (device : Device) (machines : Li
     reset_goes : (r : Stable) (b : State) → a.rest ≡ r → reset net device r A ≡ Ok b → Goes a StateReset s past b
     reset_goes InReset b r e = again_goes b r (same_answer (was_reset net device A a.left) b e)
     reset_goes InIdle b r e =
-        let (left, q, e1) = needed_some (behind_reset (due s.holds a.left)) _ _ b e in
+        let (left, q, e1) = needed_some (after_reset (due s.holds a.left)) _ _ b e in
         work_reset_goes b left r q (same_answer (was_reset net device A left) b e1)
 
     -- a run
     run_goes : (k : ℕ) (b : State) → step net device A (RunTest k) ≡ Ok b → Goes a (RunTest k) s past b
     run_goes k b e =
-        let (left, q, e1) = needed_some (behind_cycles s.holds k a.left) _ _ b e in
+        let (left, q, e1) = needed_some (after_cycles s.holds k a.left) _ _ b e in
         let b0 : State = record A { rest = InIdle; left = left } in
         let is : b0 ≡ b = same_answer b0 b e1 in
         let ps = replicate k (no_shift false) in

@@ -77,7 +77,7 @@ turned_skip r tdi from n t l e =
       room = omega (arith, t.room);
     }
 
--- behind the last
+-- after the last
 pub turned_all : (r : Registers) (tdi : List Bool) (n : ℕ) → IsTurned r tdi n → n ≡ length r.chain.items → r.chain.items ≡ tdi
 turned_all r tdi n t e = all_taken r.chain.items tdi (sym t.long) (subst (λ j. take j r.chain.items ≡ take j tdi) e t.done)
 
@@ -105,7 +105,7 @@ rows_stay r s e = rows_same r.net.now r.holds r.after (select_stay r s e)
 pub path_stays : (r : Registers) → AreShifted r → list_any (is_select r.net.now) r.moved.items ≡ false → path_in r ≡ route_of r.net.now r.after
 path_stays r s e = path_same r.net.now r.holds r.after (select_stay r s e)
 
--- what was found is what is active behind the update
+-- what was found is what is active after the update
 pub ready_then : (r : Registers) (now : Holds) → AreRegisters r → AreFound r → AreShifted r → list_any (is_select r.net.now) r.moved.items ≡ false → now ≡ r.after
     → (r.path.items ≡ route_of r.net.now now) × (r.bits.items ≡ bits_on now (route_of r.net.now now)) × (r.chain.items ≡ chain (route_of r.net.now now) now)
 ready_then r now k f s e is =

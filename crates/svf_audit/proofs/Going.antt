@@ -18,7 +18,7 @@ use Rattle.svf_audit.specs.declared.kept.Kept.{Kept}
 use Rattle.svf_audit.specs.Audit.{Reading, State, changed, compares, do_group, does_reads, does_writes, has_row, load, need, need_some, note, pass, reset, scan, scanned, was_reset}
 use Rattle.svf_audit.specs.Auditing.{act, ok}
 use Rattle.svf_audit.specs.Kept.{looked_for, seen_kept, seen_tdi}
-use Rattle.svf_audit.specs.Work.{Work, Group, Cycle, Reset as ResetWork, due, group_first, behind_cycles, behind_reset}
+use Rattle.svf_audit.specs.Work.{Work, Group, Cycle, Reset as ResetWork, due, group_first, after_cycles, after_reset}
 use Rattle.std.proofs.lemmas.Bool.{ne_eqb}
 
 -- ---- what a scan shifts and looks for
@@ -101,16 +101,16 @@ module _ (net : Net) (device : Device) (a : State) (x : SeenScan) (now : Holds) 
 -- ---- resets and runs
 
 module _ (net : Net) (device : Device) (a : State) where
-  pub reset_goes : (left : List Work) → behind_reset (due a.holds a.left) ≡ Some left → reset net device InIdle a ≡ ok (was_reset net device a left)
+  pub reset_goes : (left : List Work) → after_reset (due a.holds a.left) ≡ Some left → reset net device InIdle a ≡ ok (was_reset net device a left)
   reset_goes left e = ap (λ o. need_some o Reset (λ l. ok (was_reset net device a l))) e
 
-  pub reset_fails : behind_reset (due a.holds a.left) ≡ None → reset net device InIdle a ≡ Err Reset
+  pub reset_fails : after_reset (due a.holds a.left) ≡ None → reset net device InIdle a ≡ Err Reset
   reset_fails e = ap (λ o. need_some o Reset (λ l. ok (was_reset net device a l))) e
 
-  pub run_goes : (n : ℕ) (left : List Work) → behind_cycles a.holds n a.left ≡ Some left → need_some (behind_cycles a.holds n a.left) Run (λ l. ok (record a { rest = InIdle; left = l })) ≡ ok (record a { rest = InIdle; left = left })
+  pub run_goes : (n : ℕ) (left : List Work) → after_cycles a.holds n a.left ≡ Some left → need_some (after_cycles a.holds n a.left) Run (λ l. ok (record a { rest = InIdle; left = l })) ≡ ok (record a { rest = InIdle; left = left })
   run_goes n left e = ap (λ o. need_some o Run (λ l. ok (record a { rest = InIdle; left = l }))) e
 
-  pub run_fails : (n : ℕ) → behind_cycles a.holds n a.left ≡ None → need_some (behind_cycles a.holds n a.left) Run (λ l. ok (record a { rest = InIdle; left = l })) ≡ Err Run
+  pub run_fails : (n : ℕ) → after_cycles a.holds n a.left ≡ None → need_some (after_cycles a.holds n a.left) Run (λ l. ok (record a { rest = InIdle; left = l })) ≡ Err Run
   run_fails n e = ap (λ o. need_some o Run (λ l. ok (record a { rest = InIdle; left = l }))) e
 
 -- ---- what is first

@@ -88,8 +88,8 @@ pub mask_length : (len : ℕ) (mask : Option (List Bool)) → HasLength len mask
 mask_length len None h = length-replicate len true
 mask_length len (Some bits) h = h
 
-in_front : (mask : List Bool) (from n : ℕ) → has_one (drop from mask) ≡ (has_one (slice_range mask from (from + n)) || has_one (drop (from + n) mask))
-in_front mask from n =
+before : (mask : List Bool) (from n : ℕ) → has_one (drop from mask) ≡ (has_one (slice_range mask from (from + n)) || has_one (drop (from + n) mask))
+before mask from n =
     let size : from + n - from ≡ n = omega arith in
     ap has_one (sym (take-append-drop n (drop from mask)))
     ∙ list_any-append (λ b. b) (take n (drop from mask)) (drop n (drop from mask))
@@ -97,10 +97,10 @@ in_front mask from n =
     ∙ ap (λ k. has_one (take k (drop from mask)) || has_one (drop (from + n) mask)) (sym size)
 
 pub no_one_here : (mask : List Bool) (from n : ℕ) → has_one (slice_range mask from (from + n)) ≡ false → has_one (drop (from + n) mask) ≡ has_one (drop from mask)
-no_one_here mask from n e = sym (in_front mask from n ∙ ap (λ t. t || has_one (drop (from + n) mask)) e)
+no_one_here mask from n e = sym (before mask from n ∙ ap (λ t. t || has_one (drop (from + n) mask)) e)
 
 pub one_here : (mask : List Bool) (from n : ℕ) → has_one (slice_range mask from (from + n)) ≡ true → has_one (drop from mask) ≡ true
-one_here mask from n e = in_front mask from n ∙ ap (λ t. t || has_one (drop (from + n) mask)) e
+one_here mask from n e = before mask from n ∙ ap (λ t. t || has_one (drop (from + n) mask)) e
 
 -- ---- a number
 

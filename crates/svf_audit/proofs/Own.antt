@@ -27,12 +27,12 @@ use Rattle.headline.specs.Script.{Round, ScannedStep, Applied, Ran, WasReset, st
 use Rattle.svf_audit.specs.declared.answer.Cause.{Cause}
 use Rattle.svf_audit.specs.declared.answer.Cause.TheVariants.{Length, Compare, Run, Reset as ResetCause, End}
 use Rattle.svf_audit.specs.Audit.{State, Reading, Yes, No, audit_from, start, step, reset, was_reset, need_some, audit, Reading}
-use Rattle.svf_audit.specs.Work.{Work, Group, Cycle, Reset, all_work, due, behind_cycle, behind_cycles, behind_reset}
-use Rattle.svf_audit.specs.Listed.{behind_scan, behind_scans, ScansList, RoundsList, behind_rounds, ScriptLists}
+use Rattle.svf_audit.specs.Work.{Work, Group, Cycle, Reset, all_work, due, after_cycle, after_cycles, after_reset}
+use Rattle.svf_audit.specs.Listed.{following_scan, after_scans, ScansList, RoundsList, after_rounds, ScriptLists}
 use Rattle.svf_audit.specs.Own.{PlannedScriptsPass, PlannedTextsPass}
 use Rattle.svf_reader.specs.Meaning.{Refusal, svf}
 use Rattle.svf_audit.proofs.Following.{ok}
-use Rattle.svf_audit.proofs.Passing.{Stands, Steps, IsRedundant, need_is, due_behind, opening_steps, opening_lands, group_steps, group_lands, none_expected}
+use Rattle.svf_audit.proofs.Passing.{Stands, Steps, IsRedundant, need_is, due_after, opening_steps, opening_lands, group_steps, group_lands, none_expected}
 use Rattle.ij_bits.proofs.Tests.{number_self}
 
 abbrev nothings : ℕ → List (Option Bool)
@@ -67,7 +67,7 @@ module _ (net : Net) (device : Device) (w : IsNet net) where
 
   -- ---- the scans of a group
 
-  pub group_goes : (xs : List SeenScan) (a : State) (g : SeenGroup) (after : Holds) (left : List Work) → Stand a (Group g ∷ left) → IsGroup net g → ScansDo net g a.holds xs after → Lists a.holds xs → Goes a (map SDR xs) after left × (behind_scans net a.holds xs ≡ after)
+  pub group_goes : (xs : List SeenScan) (a : State) (g : SeenGroup) (after : Holds) (left : List Work) → Stand a (Group g ∷ left) → IsGroup net g → ScansDo net g a.holds xs after → Lists a.holds xs → Goes a (map SDR xs) after left × (after_scans net a.holds xs ≡ after)
   group_goes [] a g after left st v p l = absurd p
   group_goes (x ∷ []) a g after left st v p l =
       let s = group_steps net device w a g x left st v p.0 l.0 in
@@ -76,15 +76,15 @@ module _ (net : Net) (device : Device) (w : IsNet net) where
   group_goes (x ∷ (y ∷ ys)) a g after left st v p l =
       let (next, o, rest) = p in
       let s = opening_steps net device w a x next (Group g ∷ left) st o l.0 in
-      let there : behind_scan net a.holds x ≡ next = opening_lands net device w a x next (Group g ∷ left) st o l.0 in
+      let there : following_scan net a.holds x ≡ next = opening_lands net device w a x next (Group g ∷ left) st o l.0 in
       let moved : ScansDo net g s.to.holds (y ∷ ys) after = subst (λ h. ScansDo net g h (y ∷ ys) after) (sym s.holds) rest in
       let lists : Lists s.to.holds (y ∷ ys) = subst (λ h. Lists h (y ∷ ys)) (there ∙ sym s.holds) l.1 in
       let (k, e) = group_goes (y ∷ ys) s.to g after left s.stands v moved lists in
-      (then a (SDR x ∷ []) (map SDR (y ∷ ys)) next after (Group g ∷ left) left (one a (SDR x) next (Group g ∷ left) s) k, ap (λ h. behind_scans net h (y ∷ ys)) (there ∙ sym s.holds) ∙ e)
+      (then a (SDR x ∷ []) (map SDR (y ∷ ys)) next after (Group g ∷ left) left (one a (SDR x) next (Group g ∷ left) s) k, ap (λ h. after_scans net h (y ∷ ys)) (there ∙ sym s.holds) ∙ e)
 
   -- ---- the rounds of an iApply
 
-  pub rounds_go : (rs : List Round) (a : State) (after : Holds) (left : List Work) → Stand a (map Group (map (λ r. r.group) rs) ++ left) → RoundsArePlanned net a.holds rs after → RoundsList net a.holds rs → Goes a (rounds_commands rs) after left × (behind_rounds net a.holds rs ≡ after)
+  pub rounds_go : (rs : List Round) (a : State) (after : Holds) (left : List Work) → Stand a (map Group (map (λ r. r.group) rs) ++ left) → RoundsArePlanned net a.holds rs after → RoundsList net a.holds rs → Goes a (rounds_commands rs) after left × (after_rounds net a.holds rs ≡ after)
   rounds_go [] a after left st p l =
       (record { to = a; goes = λ rest. refl; stands = st; holds = sym p }, sym p)
   rounds_go (r ∷ rs) a after left st p l =
@@ -94,14 +94,14 @@ module _ (net : Net) (device : Device) (w : IsNet net) where
       let moved = subst (λ h. RoundsArePlanned net h rs after) (sym g.holds) rest in
       let lists = subst (λ h. RoundsList net h rs) (e ∙ sym g.holds) l.1 in
       let (k, q) = rounds_go rs g.to after left g.stands moved lists in
-      (then a (map SDR r.scans) (rounds_commands rs) next after later left g k, ap (λ h. behind_rounds net h rs) (e ∙ sym g.holds) ∙ q)
+      (then a (map SDR r.scans) (rounds_commands rs) next after later left g k, ap (λ h. after_rounds net h rs) (e ∙ sym g.holds) ∙ q)
 
   -- ---- runs
 
   abbrev cycle_left : Holds → ℕ → List Work → Option (List Work)
-  cycle_left h n ws = option_and_then (behind_cycles h n) (behind_cycle ws)
+  cycle_left h n ws = option_and_then (after_cycles h n) (after_cycle ws)
 
-  cycles_left : (h : Holds) (n : ℕ) (left : List Work) → behind_cycles h n (replicate n Cycle ++ left) ≡ Some left
+  cycles_left : (h : Holds) (n : ℕ) (left : List Work) → after_cycles h n (replicate n Cycle ++ left) ≡ Some left
   cycles_left h zero left = refl
   cycles_left h (suc n) left = cycles_left h n left
 
@@ -112,8 +112,8 @@ module _ (net : Net) (device : Device) (w : IsNet net) where
       record { to = to; goes = λ rest. refl; stands = record { linked = st.linked; rest = refl; shaped = st.shaped; front = st.front; waits = st.waits; redundant = st.redundant }; holds = refl }
   run_goes (suc n) a left st =
       let to : State = record a { rest = InIdle; left = left } in
-      let its : due a.holds a.left ≡ Cycle ∷ (replicate n Cycle ++ left) = ap (due a.holds) st.waits ∙ due_behind net a.holds st.front (Cycle ∷ (replicate n Cycle ++ left)) st.redundant in
-      let done : behind_cycles a.holds (suc n) a.left ≡ Some left = ap (cycle_left a.holds n) its ∙ cycles_left a.holds n left in
+      let its : due a.holds a.left ≡ Cycle ∷ (replicate n Cycle ++ left) = ap (due a.holds) st.waits ∙ due_after net a.holds st.front (Cycle ∷ (replicate n Cycle ++ left)) st.redundant in
+      let done : after_cycles a.holds (suc n) a.left ≡ Some left = ap (cycle_left a.holds n) its ∙ cycles_left a.holds n left in
       let steps : step net device a (RunTest (suc n)) ≡ ok to = ap (λ o. need_some o Run (λ left. ok (record a { rest = InIdle; left = left }))) done in
       record { to = to; goes = λ rest. by_step a to (RunTest (suc n)) rest steps; stands = record { linked = st.linked; rest = refl; shaped = st.shaped; front = []; waits = refl; redundant = All-nil (IsRedundant net a.holds) }; holds = refl }
 
@@ -142,9 +142,9 @@ module _ (net : Net) (device : Device) (w : IsNet net) where
 
   reset_goes : (a : State) (left : List Work) → Stand a (Reset ∷ left) → Goes a (StateReset ∷ StateIdle ∷ load_link device ∷ []) (reset_holds net a.holds) left
   reset_goes a left st =
-      let its : due a.holds a.left ≡ Reset ∷ left = ap (due a.holds) st.waits ∙ due_behind net a.holds st.front (Reset ∷ left) st.redundant in
+      let its : due a.holds a.left ≡ Reset ∷ left = ap (due a.holds) st.waits ∙ due_after net a.holds st.front (Reset ∷ left) st.redundant in
       let b : State = record a { left = left } in
-      let steps : step net device a StateReset ≡ ok (was_reset net device b b.left) = ap (λ r. reset net device r a) st.rest ∙ ap (λ ws. need_some (behind_reset ws) ResetCause (λ left. ok (was_reset net device a left))) its in
+      let steps : step net device a StateReset ≡ ok (was_reset net device b b.left) = ap (λ r. reset net device r a) st.rest ∙ ap (λ ws. need_some (after_reset ws) ResetCause (λ left. ok (was_reset net device a left))) its in
       let g = from_reset b left st.shaped refl in
       record { to = g.to; goes = λ rest. by_step a (was_reset net device b b.left) StateReset (StateIdle ∷ load_link device ∷ rest) steps ∙ g.goes rest; stands = g.stands; holds = g.holds }
 
@@ -155,7 +155,7 @@ module _ (net : Net) (device : Device) (w : IsNet net) where
 
   at_the_end : (a : State) → Stand a [] → Says a []
   at_the_end a st =
-      let gone : due a.holds a.left ≡ [] = ap (due a.holds) st.waits ∙ due_behind net a.holds st.front [] st.redundant in
+      let gone : due a.holds a.left ≡ [] = ap (due a.holds) st.waits ∙ due_after net a.holds st.front [] st.redundant in
       (a.readings, ap (λ ws. elim (is_empty ws) [ true ↦ Yes a.readings | false ↦ No a.scans End ]) gone)
 
   and_on : (a : State) (cs rest : List SeenCommand) (after : Holds) (left : List Work) → (g : Goes a cs after left) → Says g.to rest → Says a (cs ++ rest)

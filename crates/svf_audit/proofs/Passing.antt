@@ -39,7 +39,7 @@ use Rattle.svf_audit.specs.declared.answer.Cause.{Cause}
 use Rattle.svf_audit.specs.declared.answer.Cause.TheVariants.{Length, Select, Step, Write, Read}
 use Rattle.svf_audit.specs.Audit.{State, bits_on, changed, expected_of, same_expects, is_written, does_writes, does_reads, need, need_some, note, scanned, step, scan, pass, has_row, do_group as do_due}
 use Rattle.svf_audit.specs.Work.{Work, Group, Cycle, Reset, has_value, is_redundant, due, group_first}
-use Rattle.svf_audit.specs.Listed.{behind_scan}
+use Rattle.svf_audit.specs.Listed.{following_scan}
 use Rattle.svf_audit.proofs.Changing.{length-bits_on, place_at, at_place, none_changed}
 use Rattle.svf_audit.proofs.Finding.{expected_at, expected_from}
 use Rattle.svf_audit.proofs.Following.{ok}
@@ -95,12 +95,12 @@ all_redundant_same net h k [] s a = All-nil (IsRedundant net k)
 all_redundant_same net h k (x ∷ xs) s a =
     All-cons (IsRedundant net k) x xs (redundant_same net h k x s (All-head (IsRedundant net h) x xs a)) (all_redundant_same net h k xs s (All-tail (IsRedundant net h) x xs a))
 
--- redundant pieces in front are dropped
-pub due_behind : (net : Net) (h : Holds) (front left : List Work) → All (IsRedundant net h) front → due h (front ++ left) ≡ due h left
-due_behind net h [] left a = refl
-due_behind net h (x ∷ xs) left a =
+-- redundant pieces before are dropped
+pub due_after : (net : Net) (h : Holds) (front left : List Work) → All (IsRedundant net h) front → due h (front ++ left) ≡ due h left
+due_after net h [] left a = refl
+due_after net h (x ∷ xs) left a =
     ap (λ t. elim t [ true ↦ due h (xs ++ left) | false ↦ x ∷ (xs ++ left) ]) (All-head (IsRedundant net h) x xs a).0
-    ∙ due_behind net h xs left (All-tail (IsRedundant net h) x xs a)
+    ∙ due_after net h xs left (All-tail (IsRedundant net h) x xs a)
 
 module _ (net : Net) (device : Device) (w : IsNet net) where
   -- the state of an audit of a script between its scans: these redundant pieces are still there, and then what is left
@@ -114,7 +114,7 @@ module _ (net : Net) (device : Device) (w : IsNet net) where
 
   -- ---- one scan
 
-  module _ (a : State) (x : SeenScan) (after : Holds) (left : List Work) (st : Stands a left) (p : IsPathScan net a.holds after x) (d : DifferOn p.path a.holds after) (listed : AreListed net (behind_scan net a.holds x)) where
+  module _ (a : State) (x : SeenScan) (after : Holds) (left : List Work) (st : Stands a left) (p : IsPathScan net a.holds after x) (d : DifferOn p.path a.holds after) (listed : AreListed net (following_scan net a.holds x)) where
     abbrev path : List ℕ
     path = route_of net a.holds
 
@@ -180,7 +180,7 @@ module _ (net : Net) (device : Device) (w : IsNet net) where
     pub stands : Stands to left
     pub holds : to.holds ≡ after
 
-  pub opening_steps : (a : State) (x : SeenScan) (next : Holds) (left : List Work) → Stands a left → IsOpening net a.holds next x → AreListed net (behind_scan net a.holds x) → Steps a (SDR x) next left
+  pub opening_steps : (a : State) (x : SeenScan) (next : Holds) (left : List Work) → Stands a left → IsOpening net a.holds next x → AreListed net (following_scan net a.holds x) → Steps a (SDR x) next left
   opening_steps a x next left st o listed =
       let d : DifferOn o.scans.path a.holds next = record { shapes = o.widths; off = λ r m. o.off_path r (not_contained o.scans.path r m) } in
       let same : SameData net next a.holds = o.data_stays in
@@ -189,14 +189,14 @@ module _ (net : Net) (device : Device) (w : IsNet net) where
       let quiet = and_from _ _ still (not_from_false _ none) in
       record { to = scanned net device a x next a.readings a.left; steps = reached a x next left st o.scans d listed true quiet; stands = quiet_stands a x next left st o.scans d listed same; holds = refl }
 
-  pub opening_lands : (a : State) (x : SeenScan) (next : Holds) (left : List Work) → Stands a left → IsOpening net a.holds next x → AreListed net (behind_scan net a.holds x) → behind_scan net a.holds x ≡ next
+  pub opening_lands : (a : State) (x : SeenScan) (next : Holds) (left : List Work) → Stands a left → IsOpening net a.holds next x → AreListed net (following_scan net a.holds x) → following_scan net a.holds x ≡ next
   opening_lands a x next left st o listed =
       let d : DifferOn o.scans.path a.holds next = record { shapes = o.widths; off = λ r m. o.off_path r (not_contained o.scans.path r m) } in
       lands a x next left st o.scans d listed no_scan
 
   -- ---- the scan of a group
 
-  module _ (a : State) (g : SeenGroup) (x : SeenScan) (left : List Work) (st : Stands a (Group g ∷ left)) (v : IsGroup net g) (p : IsGroupScan net a.holds g x) (listed : AreListed net (behind_scan net a.holds x)) where
+  module _ (a : State) (g : SeenGroup) (x : SeenScan) (left : List Work) (st : Stands a (Group g ∷ left)) (v : IsGroup net g) (p : IsGroupScan net a.holds g x) (listed : AreListed net (following_scan net a.holds x)) where
     abbrev h : Holds
     h = a.holds
 
@@ -312,7 +312,7 @@ module _ (net : Net) (device : Device) (w : IsNet net) where
     abbrev still : Bool
     still = is_empty (changed net along h after) && not (list_any is_some expects)
 
-    -- a group that is redundant is still to be dropped behind its scan
+    -- a group that is redundant is still to be dropped after its scan
     still_steps : still ≡ true → Steps a (SDR x) after left
     still_steps q =
         let parts = and_parts (is_empty (changed net along h after)) (not (list_any is_some expects)) q in
@@ -338,7 +338,7 @@ module _ (net : Net) (device : Device) (w : IsNet net) where
     its_due : still ≡ false → due h a.left ≡ Group g ∷ left
     its_due q =
         ap (due h) st.waits
-        ∙ due_behind net h st.front (Group g ∷ left) st.redundant
+        ∙ due_after net h st.front (Group g ∷ left) st.redundant
         ∙ ap (λ t. elim t [ true ↦ due h left | false ↦ Group g ∷ left ]) (false_from_ne_true (is_redundant h (Group g)) (not_redundant q))
 
     done_steps : still ≡ false → Steps a (SDR x) after left
@@ -352,5 +352,5 @@ module _ (net : Net) (device : Device) (w : IsNet net) where
     pub group_steps : Steps a (SDR x) after left
     group_steps = ⊎_elim still_steps done_steps (cases_Bool still)
 
-    pub group_lands : behind_scan net h x ≡ after
+    pub group_lands : following_scan net h x ≡ after
     group_lands = lands a x after (Group g ∷ left) st p.scans d listed no_scan

@@ -79,12 +79,12 @@ both_next holds bits whole path old i k w l m e wide within last was =
     let front = take k bits in
     let own = bits_from r 0 w in
     let rest = bits_on holds (drop (i + 1) old) in
-    let behind : drop k bits ≡ own ++ rest =
+    let following : drop k bits ≡ own ++ rest =
     last
     ∙ ap (bits_on holds) (drop_more old i 0 m)
     ∙ ap (λ x. bits_from x 0 (length (bits_at holds x)) ++ rest) (sym e)
     ∙ ap (λ n. bits_from r 0 n ++ rest) (sym wide) in
-    let all : bits ≡ front ++ (own ++ rest) = sym (take-append-drop k bits) ∙ ap (λ xs. front ++ xs) behind in
+    let all : bits ≡ front ++ (own ++ rest) = sym (take-append-drop k bits) ∙ ap (λ xs. front ++ xs) following in
     let size : k + w ≡ length front + length own = omega (arith, length-take-le k bits within, length-bits_from r 0 w) in
     let now : take (k + w) bits ≡ front ++ own =
     ap (λ n. take n bits) size

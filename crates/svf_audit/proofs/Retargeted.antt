@@ -26,12 +26,12 @@ use Rattle.headline.specs.Scans.{scan_of, scans_of, holds_after}
 use Rattle.headline.specs.Retargeting.{PlannedGroup, PlannedStep, Applies, Runs, Resets, rounds_of, holds_after_rounds, script_of, IsPlannedGroup, GroupsArePlanned, StepsArePlanned, IsRetargetable}
 use Rattle.headline.proofs.Retargeting.{can_open, does, rounds_listed, plans_are_scripts}
 use Rattle.headline.proofs.Right.{steps_same}
-use Rattle.svf_audit.specs.Listed.{behind_scan, behind_scans, ScansList, behind_rounds, RoundsList, ScriptLists}
+use Rattle.svf_audit.specs.Listed.{following_scan, after_scans, ScansList, after_rounds, RoundsList, ScriptLists}
 use Rattle.svf_audit.specs.Own.{PlansList, PlansPass, PlanTextsPass}
 use Rattle.svf_audit.proofs.Own.{planned_scripts_pass, planned_texts_pass}
 
--- behind the scan of a plan are the writes of the plan
-scan_lands : (net : Net) → IsNet net → (h : Holds) (p : SeenGroup) → IsScan net h p → behind_scan net h (scan_of net h (route_of net h) p) ≡ write_all h p.writes
+-- after the scan of a plan are the writes of the plan
+scan_lands : (net : Net) → IsNet net → (h : Holds) (p : SeenGroup) → IsScan net h p → following_scan net h (scan_of net h (route_of net h) p) ≡ write_all h p.writes
 scan_lands net w h p s =
     let path = s.step.path in
     let after = write_all h p.writes in
@@ -45,11 +45,11 @@ scannable_now net h [] a = a
 scannable_now net h (p ∷ ps) a = a.0.scannable
 
 module _ (net : Net) (w : IsNet net) where
-  scans_land : (ps : List SeenGroup) (h : Holds) → AreScans net h ps → behind_scans net h (scans_of net h ps) ≡ holds_after h ps
+  scans_land : (ps : List SeenGroup) (h : Holds) → AreScans net h ps → after_scans net h (scans_of net h ps) ≡ holds_after h ps
   scans_land [] h a = refl
   scans_land (p ∷ ps) h a =
       let next = write_all h p.writes in
-      ap (λ k. behind_scans net k (scans_of net next ps)) (scan_lands net w h p a.0) ∙ scans_land ps next a.1
+      ap (λ k. after_scans net k (scans_of net next ps)) (scan_lands net w h p a.0) ∙ scans_land ps next a.1
 
   scans_list : (ps : List SeenGroup) (h : Holds) → AreScans net h ps → ScansList net h (scans_of net h ps)
   scans_list [] h a = tt
@@ -65,22 +65,22 @@ module _ (net : Net) (form : Items) (c : IsRetargetable net form) where
   scanned : (h : Holds) (p : PlannedGroup) → IsScannable net h → (a : IsPlannedGroup net form h p) → AreScans net h p.plans
   scanned h p s a = (planned net form p.group h p.plans (can_open net form c h p s a) a.plans).scans
 
-  behind : (h : Holds) (p : PlannedGroup) → IsScannable net h → IsPlannedGroup net form h p → IsScannable net (holds_after h p.plans)
-  behind h p s a = (does net form c h p s a).listed
+  following : (h : Holds) (p : PlannedGroup) → IsScannable net h → IsPlannedGroup net form h p → IsScannable net (holds_after h p.plans)
+  following h p s a = (does net form c h p s a).listed
 
-  rounds_land : (ps : List PlannedGroup) (h : Holds) → IsScannable net h → GroupsArePlanned net form h ps → behind_rounds net h (rounds_of net h ps) ≡ holds_after_rounds h ps
+  rounds_land : (ps : List PlannedGroup) (h : Holds) → IsScannable net h → GroupsArePlanned net form h ps → after_rounds net h (rounds_of net h ps) ≡ holds_after_rounds h ps
   rounds_land [] h s a = refl
   rounds_land (p ∷ ps) h s a =
       let scans = scanned h p s a.0 in
       let next = holds_after h p.plans in
-      ap (λ k. behind_rounds net k (rounds_of net next ps)) (scans_land net w p.plans h scans) ∙ rounds_land ps next (behind h p s a.0) a.1
+      ap (λ k. after_rounds net k (rounds_of net next ps)) (scans_land net w p.plans h scans) ∙ rounds_land ps next (following h p s a.0) a.1
 
   rounds_list : (ps : List PlannedGroup) (h : Holds) → IsScannable net h → GroupsArePlanned net form h ps → RoundsList net h (rounds_of net h ps)
   rounds_list [] h s a = tt
   rounds_list (p ∷ ps) h s a =
       let scans = scanned h p s a.0 in
       let next = holds_after h p.plans in
-      (scans_list net w p.plans h scans, subst (λ k. RoundsList net k (rounds_of net next ps)) (sym (scans_land net w p.plans h scans)) (rounds_list ps next (behind h p s a.0) a.1))
+      (scans_list net w p.plans h scans, subst (λ k. RoundsList net k (rounds_of net next ps)) (sym (scans_land net w p.plans h scans)) (rounds_list ps next (following h p s a.0) a.1))
 
   steps_list : (xs : List PlannedStep) (h : Holds) → IsScannable net h → StepsArePlanned net form h xs → ScriptLists net h (script_of net h xs)
   steps_list [] h s a = tt

@@ -26,7 +26,7 @@ use Rattle.net_bench.specs.Bench.{Chip, State, fault_free}
 use Rattle.pdl_meaning.specs.Direct.{Direct, do_group, do_rounds, do_step, do_all, run_cycles, found as found_in}
 use Rattle.headline.specs.Agreement.{Agrees}
 use Rattle.tap_machine.specs.Play.{is_empty}
-use Rattle.svf_audit.specs.Work.{Work, Group, Cycle, Reset, work_of, all_work, has_value, is_redundant, due, behind_cycle, behind_cycles}
+use Rattle.svf_audit.specs.Work.{Work, Group, Cycle, Reset, work_of, all_work, has_value, is_redundant, due, after_cycle, after_cycles}
 use Rattle.svf_audit.specs.AuditedWork.{do_piece, do_work}
 use Rattle.svf_audit.proofs.Changing.{writes_done}
 use Rattle.std.proofs.lemmas.Option.{none-some}
@@ -129,7 +129,7 @@ module _ {L : Type 0} (log : Log L) (net : Net) (device : Device) (machines : Li
     abbrev after : Work → List Work → Bool → List Work
     after x ws t = elim t [ true ↦ due s.holds ws | false ↦ x ∷ ws ]
 
-    -- what is due, behind redundant groups
+    -- what is due, after redundant groups
     pub due_along : (left : List Work) (d : Direct L) → Along s left d → GoesAlong s (due s.holds left)
     due_along [] d a = (d, a)
     due_along (Cycle ∷ ws) d a = (d, a)
@@ -144,7 +144,7 @@ module _ {L : Type 0} (log : Log L) (net : Net) (device : Device) (machines : Li
   abbrev pub cycled : State L → State L
   cycled s = record s { insts = all_have log net machines RunEvent s.holds s.insts }
 
-  same_left : (w : List Work) (ws : List Work) → behind_cycle w ≡ Some ws → w ≡ Cycle ∷ ws
+  same_left : (w : List Work) (ws : List Work) → after_cycle w ≡ Some ws → w ≡ Cycle ∷ ws
   same_left [] ws e = absurd (none-some ws e)
   same_left (Group g ∷ vs) ws e = absurd (none-some ws e)
   same_left (Reset ∷ vs) ws e = absurd (none-some ws e)
@@ -160,10 +160,10 @@ module _ {L : Type 0} (log : Log L) (net : Net) (device : Device) (machines : Li
   then_some f (Some x) y e = (x, refl, e)
 
   -- so many of them
-  pub cycles_along : (n : ℕ) (s : State L) (left after : List Work) (d : Direct L) → shape s.holds ≡ widths net → behind_cycles s.holds n left ≡ Some after → Along s left d → GoesAlong (ran chip n s) after
+  pub cycles_along : (n : ℕ) (s : State L) (left after : List Work) (d : Direct L) → shape s.holds ≡ widths net → after_cycles s.holds n left ≡ Some after → Along s left d → GoesAlong (ran chip n s) after
   cycles_along zero s left after d w e a = subst (GoesAlong s) (ap (λ o. elim o [ Some x ↦ x | None ↦ left ]) e) (d, a)
   cycles_along (suc n) s left after d w e a =
-      let (ws, q, e') = then_some (behind_cycles s.holds n) (behind_cycle (due s.holds left)) after e in
+      let (ws, q, e') = then_some (after_cycles s.holds n) (after_cycle (due s.holds left)) after e in
       let (d1, a1) = due_along s w left d a in
       let a2 = subst (λ l. Along s l d1) (same_left (due s.holds left) ws q) a1 in
       cycles_along n (cycled s) ws after (run_cycles log net machines 1 d1) w e' (cycle_along s ws d1 a2)

@@ -121,7 +121,7 @@ abbrev pub DidReset : Auditor → Auditor → Type 0
 DidReset old new =
     (readings : List Reading) → reset_by old.registers.net.now old.device.now old.rest (state_of old readings) ≡ ok (was_reset old.registers.net.now old.device.now (state_of old readings) (work_left new.left))
 
--- behind all commands
+-- after all commands
 abbrev pub Ends : Audit → Auditor → Type 0
 Ends answer a =
     (readings : List Reading) → AreNoted a readings → Says answer (at_end a.registers.net.now a.device.now (state_of a readings))
@@ -134,7 +134,7 @@ IsNo (CauseHalt cause) scan (SaysNo k c) = (k ≡ scan) × (c ≡ cause)
 
 -- ---- commands that fit, one by one
 
--- the lengths of the last scans of each kind, behind a command
+-- the lengths of the last scans of each kind, after a command
 abbrev pub last_ir : Option ℕ → SeenCommand → Option ℕ
 last_ir ir (SIR x) = Some x.len
 last_ir ir _ = ir

@@ -1,4 +1,4 @@
--- The scan registers of a network as an audit keeps them, before and behind the scan at hand.
+-- The scan registers of a network as an audit keeps them, before and after the scan at hand.
 use Rattle.std.specs.Prelude.{◌≡◌, ℕ, ◌+◌, ◌≤◌, Bool, true, false, List, [], ◌∷◌, ◌++◌, length, take, drop, filter, not, vec_capacity, IsTrue}
 use Rattle.std.specs.List.{list_all}
 use Rattle.ij_bits.specs.BitLists.{same_bit}

@@ -18,7 +18,7 @@ use std::mem::swap;
 use svf_writer::Commands;
 use tap_machine::scans_of;
 
-/// What comes of the audit behind all commands.
+/// What comes of the audit after all commands.
 fn end(alloc: Global, auditor: &mut Auditor<'_>) -> Audit
     requires { IsAuditor auditor.old }
     ensures { Ends result auditor.old }
@@ -35,7 +35,7 @@ fn end(alloc: Global, auditor: &mut Auditor<'_>) -> Audit
     }
 }
 
-/// What comes of the audit where it goes no further, behind so many scans.
+/// What comes of the audit where it goes no further, after so many scans.
 fn stopped(halt: Halt, scan: u32) -> Result<Audit, OutOfMemory>
     ensures { IfOk result (IsNo halt scan) }
 {

@@ -1,4 +1,4 @@
-// The scan registers of a network, before and behind a scan.
+// The scan registers of a network, before and after a scan.
 ghost use Rattle.std.specs.Prelude.{◌≡◌, ◌+◌, ◌<◌, ◌≤◌, ◌++◌, [], true, false, length, drop, map, vec_capacity, All, IfOk};
 ghost use Rattle.std.specs.List.{list_all, list_any};
 ghost use Rattle.net_graph.specs.declared.net.BitId.{BitId as ABit};
@@ -24,7 +24,7 @@ use std::mem::swap;
 const MOST_BITS: u32 = 4096;
 
 /// The scan registers: what they hold, the active path, nearest scan-out first, its bits and what these hold; and what the
-/// registers hold behind the scan at hand, with the bits that it changes. The bits are those of the path at every time, as
+/// registers hold after the scan at hand, with the bits that it changes. The bits are those of the path at every time, as
 /// the width of a register stays.
 #[derive(Drop)]
 pub(crate) struct Registers<'a> {
@@ -317,7 +317,7 @@ impl<'a> Registers<'a> {
         }
     }
 
-    /// Puts TDI on the path: what the registers hold behind the scan, and which bits change. What they hold stays.
+    /// Puts TDI on the path: what the registers hold after the scan, and which bits change. What they hold stays.
     pub fn shift(&mut self, kept: &Kept)
         requires sound { AreRegisters self.old }
         requires still { AreStill self.old }

@@ -3,7 +3,7 @@ use Rattle.std.proofs.Common.{◌≡◌, ℕ, suc, ◌<◌, Bool, true, false, c
 use Rattle.std.specs.Prelude.{◌==◌, ◌⊎◌}
 use Rattle.std.proofs.Common.{inl, inr}
 use Rattle.std.proofs.lemmas.Bool.Decides.{nat_tests}
-use Rattle.ij_text.specs.Parts.{in_front}
+use Rattle.ij_text.specs.Parts.{before}
 use Rattle.svf_reader.specs.Texts.{first, in_comment, plain_from, plain, texts}
 use Rattle.svf_reader.proofs.Whole.{texts_some}
 
@@ -13,19 +13,19 @@ pub record IsCut (inside : Bool) (src t : List ℕ) (later : List (List ℕ)) : 
   pub any : (xs : List ℕ) → texts (plain_from inside (take (suc (length t)) src ++ xs)) ≡ t ∷ texts (plain xs)
 
 -- a byte that ends no command
-in_command : (c : ℕ) (ys t : List ℕ) (later : List (List ℕ)) → (c == 59) ≡ false → in_front c (texts ys) ≡ t ∷ later → (w : List ℕ) × (texts ys ≡ w ∷ later) × (t ≡ c ∷ w)
+in_command : (c : ℕ) (ys t : List ℕ) (later : List (List ℕ)) → (c == 59) ≡ false → before c (texts ys) ≡ t ∷ later → (w : List ℕ) × (texts ys ≡ w ∷ later) × (t ≡ c ∷ w)
 in_command c ys t later other e = cases (texts_some ys).0 (texts_some ys).1 (texts_some ys).2
   where
     cases : (w : List ℕ) (ws : List (List ℕ)) → texts ys ≡ w ∷ ws → (v : List ℕ) × (texts ys ≡ v ∷ later) × (t ≡ c ∷ v)
     cases w ws is =
-        let both : (c ∷ w) ∷ ws ≡ t ∷ later = ap (in_front c) (sym is) ∙ e in
+        let both : (c ∷ w) ∷ ws ≡ t ∷ later = ap (before c) (sym is) ∙ e in
         let heads : t ≡ c ∷ w = cc in
         let tails : ws ≡ later = cc in
         (w, is ∙ ap (λ (l : List (List ℕ)). w ∷ l) tails, heads)
 
 front_of : (c : ℕ) (ys w : List ℕ) (later : List (List ℕ)) → (c == 59) ≡ false → texts ys ≡ w ∷ later → texts (c ∷ ys) ≡ (c ∷ w) ∷ later
 front_of c ys w later other is =
-    ap (λ k. cond k ([] ∷ texts ys) (in_front c (texts ys))) other ∙ ap (in_front c) is
+    ap (λ k. cond k ([] ∷ texts ys) (before c (texts ys))) other ∙ ap (before c) is
 
 -- a `;` outside of comments begins none, and stands in none
 no_comment : (inside : Bool) (next other : ℕ) → in_comment inside 59 next ≡ false → in_comment inside 59 other ≡ false
@@ -61,7 +61,7 @@ cut_after inside b bs t u us h eh e more = elim (no_end h b) [ inl other ↦ wit
     within : (cond h 32 b == 59) ≡ false → IsCut inside (b ∷ bs) t (u ∷ us)
     within other =
         let c = cond h 32 b in
-        let front : in_front c (texts (plain_from h bs)) ≡ t ∷ u ∷ us = sym (ap (λ k. cond k ([] ∷ texts (plain_from h bs)) (in_front c (texts (plain_from h bs)))) other) ∙ e in
+        let front : before c (texts (plain_from h bs)) ≡ t ∷ u ∷ us = sym (ap (λ k. cond k ([] ∷ texts (plain_from h bs)) (before c (texts (plain_from h bs)))) other) ∙ e in
         let part = in_command c (plain_from h bs) t (u ∷ us) other front in
         let w = part.0 in
         let is = more w part.1 in

@@ -7,3 +7,5 @@ pub mod Same
 pub mod Rows
 pub mod Scanning
 pub mod Texts
+pub mod Numbered
+pub mod Earlier

@@ -6,7 +6,7 @@ use Rattle.std.proofs.lemmas.Bool.Decides.{nat_tests}
 use Rattle.svf_writer.specs.SeenCommands.{SeenCommand}
 use Rattle.svf_reader.specs.Commands.{is_scan}
 use Rattle.svf_reader.specs.Texts.{first, plain_from, plain, texts, words, blanks}
-use Rattle.svf_reader.specs.Meaning.{Cause, Refusal, Step, at_first, listed, in_front_of, at_end, and_then, read_command, read_from, svf}
+use Rattle.svf_reader.specs.Meaning.{Cause, Refusal, Step, at_first, listed, before, at_end, and_then, read_command, read_from, svf}
 use Rattle.svf_reader.specs.Scripts.{IsOnLine}
 use Rattle.svf_reader.proofs.Rereading.{blank_front}
 use Rattle.svf_reader.proofs.Whole.{read_more}
@@ -21,8 +21,8 @@ use Rattle.svf_notes.proofs.OnLine.{notes_on}
 
 -- ---- where a text is read from decides nothing but the place of a refusal
 
-front_again : (l cs : List SeenCommand) (q r : Result (List SeenCommand) Refusal) → ((ds : List SeenCommand) → q ≡ Ok ds → r ≡ Ok ds) → in_front_of l q ≡ Ok cs → in_front_of l r ≡ Ok cs
-front_again l cs (Ok ds) r same e = ap (in_front_of l) (same ds refl) ∙ e
+front_again : (l cs : List SeenCommand) (q r : Result (List SeenCommand) Refusal) → ((ds : List SeenCommand) → q ≡ Ok ds → r ≡ Ok ds) → before l q ≡ Ok cs → before l r ≡ Ok cs
+front_again l cs (Ok ds) r same e = ap (before l) (same ds refl) ∙ e
 front_again l cs (Err refusal) r same e = absurd (cc)
 
 then_again : (r : Result Step Cause) (a b i j : ℕ) (ts us : List (List ℕ)) (cs : List SeenCommand) → ((s : Step) (ds : List SeenCommand) → read_from s.1 i ts ≡ Ok ds → read_from s.1 j us ≡ Ok ds)
@@ -35,7 +35,7 @@ end_again [] s a b cs e = e
 end_again (w ∷ ws) (Ok step) a b cs e = e
 end_again (w ∷ ws) (Err cause) a b cs e = absurd (cc)
 
--- behind any command
+-- after any command
 anywhere : (ts : List (List ℕ)) (s : Step) (a b : ℕ) (cs : List SeenCommand) → read_from s.1 a ts ≡ Ok cs → read_from s.1 b ts ≡ Ok cs
 anywhere [] s a b cs e = e
 anywhere (t ∷ []) s a b cs e = end_again (words t) (read_command s.1 false t) (a + blanks t) (b + blanks t) cs e

@@ -8,7 +8,7 @@ use Rattle.svf_notes.specs.declared.scan.Shifted.{Shifted}
 use Rattle.svf_notes.specs.Scans.{Scan, led_by, shifted_at, last_bit, with_clock, scans_of}
 
 module _ {L : Type 0} where
-  -- bits in front of those of the first scan
+  -- bits before those of the first scan
   abbrev pub led : List Shifted → List (Scan L) → List (Scan L)
   led [] xs = xs
   led (b ∷ bs) xs = led_by b (led bs xs)

@@ -1,12 +1,13 @@
 -- What the scans of a play are: what their commands say, and what the play compares (Serial Vector Format, revision E: SIR, SDR;
 -- IEEE 1149.1-2013, clause 6: update stages change in Update-IR and Update-DR alone).
-use Rattle.std.specs.Prelude.{◌≡◌, ◌<◌, ℕ, suc, Bool, List, [], ◌∷◌, ◌++◌, length, map}
+use Rattle.std.specs.Prelude.{◌≡◌, ◌<◌, ℕ, zero, suc, Bool, List, [], ◌∷◌, ◌++◌, length, map}
 use Rattle.std.specs.List.{flat_map}
 use Rattle.instruments.specs.declared.Counts.{Counts}
-use Rattle.svf_writer.specs.SeenCommands.{SeenCommand}
+use Rattle.svf_writer.specs.SeenCommands.{SIR, SDR, Reset, Idle, Run, SeenCommand}
 use Rattle.tap_machine.specs.declared.TapState.{TapState}
 use Rattle.tap_machine.specs.declared.TapState.TheVariants.{RunTestIdle, Exit1Dr, Exit1Ir}
-use Rattle.tap_machine.specs.Play.{Played, sdr_pins, sir_pins}
+use Rattle.tap_machine.specs.declared.Stable.{Stable}
+use Rattle.tap_machine.specs.Play.{LastScan, Played, after_scan, no_scan, played, scans_in, sdr_pins, sir_pins}
 use Rattle.net_bench.specs.Bench.{Chip, State}
 use Rattle.net_bench.specs.Playing.{Compare, compare_of, compares_from, resting}
 use Rattle.tap_machine.specs.Play.{pins}
@@ -42,3 +43,24 @@ abbrev pub ScansKeepTheirPath : Type 0
 ScansKeepTheirPath =
     (chip : Chip Counts) (n : ℕ) (p : Played) (s : State Counts) → s.tap ≡ RunTestIdle → 0 < length p.tdi
     → IsScanOf (scans_of chip (sdr_pins (suc n) p) s) (suc n) p.tdi Exit1Dr s × IsScanOf (scans_of chip (sir_pins (suc n) p) s) (suc n) p.tdi Exit1Ir s
+
+-- each command that scans has bits: those of its own TDI, or of the last one of its kind
+abbrev pub HaveBits : LastScan → LastScan → List SeenCommand → Type 0
+HaveBits ir dr [] = Unit {0}
+HaveBits ir dr (SIR s ∷ cs) = (0 < length (played ir s).tdi) × HaveBits (after_scan ir s) dr cs
+HaveBits ir dr (SDR s ∷ cs) = (0 < length (played dr s).tdi) × HaveBits ir (after_scan dr s) cs
+HaveBits ir dr (Reset ∷ cs) = HaveBits ir dr cs
+HaveBits ir dr (Idle ∷ cs) = HaveBits ir dr cs
+HaveBits ir dr (Run n ∷ cs) = HaveBits ir dr cs
+
+-- as many numbers, those after this one
+abbrev pub counted : ℕ → ℕ → List ℕ
+counted n zero = []
+counted n (suc k) = suc n ∷ counted (suc n) k
+
+-- A play has one scan for each command that scans, in the order of the commands: the k-th has the number k. So the k-th note of a text is
+-- that of its k-th scan.
+abbrev pub ScansAreNumbered : Type 0
+ScansAreNumbered =
+    (chip : Chip Counts) (from : Stable) (commands : List SeenCommand) (s : State Counts) → HaveBits no_scan no_scan commands
+    → map (λ x. x.number) (scans_of chip (pins from 0 commands) s) ≡ counted 0 (scans_in commands)

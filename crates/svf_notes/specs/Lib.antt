@@ -4,5 +4,6 @@ pub mod Explained
 pub mod Targets
 pub mod Left
 pub mod Places
+pub mod Before
 pub mod Laws
 pub mod Examples

@@ -11,7 +11,7 @@ pub record Scan (L : Type 0) : Type 0 where
   pub bits : List Shifted
   pub state : State L
 
--- a bit in front of the bits of the first scan; without one that is shifted to its end it is in none
+-- a bit before the bits of the first scan; without one that is shifted to its end it is in none
 abbrev pub led_by : {L : Type 0} → Shifted → List (Scan L) → List (Scan L)
 led_by b [] = []
 led_by b (x ∷ xs) = record x { bits = b ∷ x.bits } ∷ xs

@@ -1,6 +1,6 @@
 // What holds of all texts with notes.
 ghost use Rattle.svf_notes.specs.Explained.{ExplainedIsSame, SameCommands};
-ghost use Rattle.svf_notes.specs.Laws.{ScansCompare, ScansKeepTheirPath};
+ghost use Rattle.svf_notes.specs.Laws.{ScansAreNumbered, ScansCompare, ScansKeepTheirPath};
 
 /// Notes change no command: whatever they are, as long as none of their lines has a line feed, an SVF text has the same
 /// commands with them as without them (Serial Vector Format, revision E: comments).
@@ -23,4 +23,10 @@ pub fn scans_compare()
 /// hold when its command begins: nothing is updated before its last bit is shifted (IEEE 1149.1-2013, clause 6).
 pub fn scans_keep_their_path()
     ensures { ScansKeepTheirPath }
+{}
+
+/// A play has one scan for each SIR and SDR, in their order, and numbers them from 1: so the k-th note of a text is that of its
+/// k-th scan (Serial Vector Format, revision E: SIR, SDR).
+pub fn scans_are_numbered()
+    ensures { ScansAreNumbered }
 {}

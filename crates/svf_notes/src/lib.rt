@@ -1,6 +1,7 @@
 //! Notes for SVF: what each bit of each scan of a play is (Serial Vector Format, revision E).
 #![tactic(auto)]
 
+mod before;
 mod digits;
 mod explained;
 mod instruction;
@@ -12,6 +13,10 @@ mod playing;
 mod row;
 mod scan;
 
+pub use before::holds_at;
 pub use explained::{explained_len, put_explained_file};
-pub use laws::{commands_stay, explained_commands_stay, scans_compare, scans_keep_their_path};
+pub use laws::{
+    commands_stay, explained_commands_stay, scans_are_numbered, scans_compare,
+    scans_keep_their_path,
+};
 pub use place::{BitAnswer, FoundBit, find_bit};

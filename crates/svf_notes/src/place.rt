@@ -256,7 +256,7 @@ fn find_in(
 /// The line is `scan N bit K PLACE writes B expects E finds F` and a line feed. PLACE is `register BIT captures SIGNAL` in a
 /// scan of the network that is as long as its active path, and `no register` in one that isn't; `instruction`, `identity` or
 /// `bypass` in any other scan. SIGNAL is what the register bit captures: a register bit, an output bit of an instrument,
-/// either with `~` in front where it is inverted, a constant 0 or 1, or `-` where there is none. E is `-` where nothing is
+/// either with `~` before where it is inverted, a constant 0 or 1, or `-` where there is none. E is `-` where nothing is
 /// compared.
 ///
 /// # Errors

@@ -7,9 +7,9 @@ use Rattle.std.specs.Str.{bytes_eq}
 use Rattle.ij_bits.specs.Hex.{hex_digit}
 use Rattle.svf_writer.specs.Written.{next_column, hex_lines, hex_text}
 use Rattle.ij_text.specs.Bytes.{is_blank}
-use Rattle.ij_text.specs.Parts.{in_front, longer}
+use Rattle.ij_text.specs.Parts.{before, longer}
 use Rattle.svf_reader.specs.Texts.{first, in_comment, plain_from, plain, texts, is_mark, in_word, goes_on, cut, words}
-use Rattle.svf_reader.specs.Commands.{is_close, behind_hex, hex_digits}
+use Rattle.svf_reader.specs.Commands.{is_close, after_hex, hex_digits}
 use Rattle.svf_reader.proofs.Digits.{is_quiet, IsDigit, a_digit, hex_list}
 
 -- ---- texts without comments and ends of commands
@@ -48,8 +48,8 @@ plain_quiet (b ∷ bs) rest h =
 texts_quiet : (xs ys : List ℕ) → AreQuiet xs → texts (xs ++ (59 ∷ ys)) ≡ xs ∷ texts ys
 texts_quiet [] ys h = refl
 texts_quiet (b ∷ bs) ys h =
-    ap (λ k. cond k ([] ∷ texts (bs ++ (59 ∷ ys))) (in_front b (texts (bs ++ (59 ∷ ys))))) (not_end b h.0)
-    ∙ ap (in_front b) (texts_quiet bs ys h.1)
+    ap (λ k. cond k ([] ∷ texts (bs ++ (59 ∷ ys))) (before b (texts (bs ++ (59 ∷ ys))))) (not_end b h.0)
+    ∙ ap (before b) (texts_quiet bs ys h.1)
 
 -- a command's text, its `;` and what follows
 pub command_cut : (body rest : List ℕ) → AreQuiet body → texts (plain (body ++ (59 ∷ rest))) ≡ body ∷ texts (plain rest)
@@ -132,33 +132,33 @@ first_word (c ∷ xs) h =
 -- a hexadecimal text, its `)` and what follows
 pub record HexRead (text : List (List ℕ)) (digits : List ℕ) (rest : List (List ℕ)) : Type 0 where
   pub digits_are : hex_digits text ≡ digits
-  pub behind : behind_hex true text ≡ Some rest
+  pub after : after_hex true text ≡ Some rest
 
 -- a word of digits
-digits_word : (some : Bool) (w : List ℕ) (ws rest : List (List ℕ)) → is_close w ≡ false → list_all is_ascii_hexdigit w ≡ true → behind_hex true ws ≡ Some rest → behind_hex some (w ∷ ws) ≡ Some rest
+digits_word : (some : Bool) (w : List ℕ) (ws rest : List (List ℕ)) → is_close w ≡ false → list_all is_ascii_hexdigit w ≡ true → after_hex true ws ≡ Some rest → after_hex some (w ∷ ws) ≡ Some rest
 digits_word some w ws rest close all h =
-    ap (λ k. cond k (cond some (let o : Option (List (List ℕ)) = Some ws in o) None) (cond (list_all is_ascii_hexdigit w) (behind_hex true ws) None)) close
-    ∙ ap (λ k. cond k (behind_hex true ws) None) all ∙ h
+    ap (λ k. cond k (cond some (let o : Option (List (List ℕ)) = Some ws in o) None) (cond (list_all is_ascii_hexdigit w) (after_hex true ws) None)) close
+    ∙ ap (λ k. cond k (after_hex true ws) None) all ∙ h
 
 -- and back
-word_digits : (w : List ℕ) (ws rest : List (List ℕ)) (all : Bool) → is_close w ≡ false → list_all is_ascii_hexdigit w ≡ all → behind_hex true (w ∷ ws) ≡ Some rest → (all ≡ true) × (behind_hex true ws ≡ Some rest)
+word_digits : (w : List ℕ) (ws rest : List (List ℕ)) (all : Bool) → is_close w ≡ false → list_all is_ascii_hexdigit w ≡ all → after_hex true (w ∷ ws) ≡ Some rest → (all ≡ true) × (after_hex true ws ≡ Some rest)
 word_digits w ws rest true close ea h =
-    (refl, sym (ap (λ k. cond k (let o : Option (List (List ℕ)) = Some ws in o) (cond (list_all is_ascii_hexdigit w) (behind_hex true ws) None)) close ∙ ap (λ k. cond k (behind_hex true ws) None) ea) ∙ h)
+    (refl, sym (ap (λ k. cond k (let o : Option (List (List ℕ)) = Some ws in o) (cond (list_all is_ascii_hexdigit w) (after_hex true ws) None)) close ∙ ap (λ k. cond k (after_hex true ws) None) ea) ∙ h)
 word_digits w ws rest false close ea h =
-    absurd (let e : None ≡ Some rest = sym (ap (λ k. cond k (let o : Option (List (List ℕ)) = Some ws in o) (cond (list_all is_ascii_hexdigit w) (behind_hex true ws) None)) close ∙ ap (λ k. cond k (behind_hex true ws) None) ea) ∙ h in cc)
+    absurd (let e : None ≡ Some rest = sym (ap (λ k. cond k (let o : Option (List (List ℕ)) = Some ws in o) (cond (list_all is_ascii_hexdigit w) (after_hex true ws) None)) close ∙ ap (λ k. cond k (after_hex true ws) None) ea) ∙ h in cc)
 
 word_value : (w : List ℕ) (ws : List (List ℕ)) → is_close w ≡ false → hex_digits (w ∷ ws) ≡ w ++ hex_digits ws
 word_value w ws close = ap (λ k. cond k [] (w ++ hex_digits ws)) close
 
--- a digit in front, at either start
+-- a digit before, at either start
 digit_front : (b v : ℕ) (xs : List ℕ) (g : Bool) (digits : List ℕ) (rest : List (List ℕ)) → IsDigit b v → goes_on is_mark xs ≡ g → HexRead (words xs) digits rest
-    → (hex_digits (words (b ∷ xs)) ≡ b ∷ digits) × ((some : Bool) → behind_hex some (words (b ∷ xs)) ≡ Some rest)
+    → (hex_digits (words (b ∷ xs)) ≡ b ∷ digits) × ((some : Bool) → after_hex some (words (b ∷ xs)) ≡ Some rest)
 digit_front b v xs false digits rest is eg read =
     let here : words (b ∷ xs) ≡ (b ∷ []) ∷ words xs = byte_in is_mark b xs is.blank is.mark ∙ ap (λ g. longer g b (words xs)) eg in
     let close = no_close b [] is.mark in
     let all : list_all is_ascii_hexdigit (b ∷ []) ≡ true = ap (λ k. k && true) is.hex in (
       ap hex_digits here ∙ word_value (b ∷ []) (words xs) close ∙ ap (λ (l : List ℕ). b ∷ l) read.digits_are,
-      (λ some. ap (behind_hex some) here ∙ digits_word some (b ∷ []) (words xs) rest close all read.behind),
+      (λ some. ap (after_hex some) here ∙ digits_word some (b ∷ []) (words xs) rest close all read.after),
     )
 digit_front b v xs true digits rest is eg read =
     let first = first_word xs eg in
@@ -166,22 +166,22 @@ digit_front b v xs true digits rest is eg read =
     let ws = first.1 in
     let here : words (b ∷ xs) ≡ (b ∷ w) ∷ ws = byte_in is_mark b xs is.blank is.mark ∙ ap (λ g. longer g b (words xs)) eg ∙ ap (λ l. longer true b l) first.2 in
     let close = no_close b w is.mark in
-    let part = word_digits w ws rest (list_all is_ascii_hexdigit w) first.3 refl (ap (behind_hex true) (sym first.2) ∙ read.behind) in
+    let part = word_digits w ws rest (list_all is_ascii_hexdigit w) first.3 refl (ap (after_hex true) (sym first.2) ∙ read.after) in
     let all : list_all is_ascii_hexdigit (b ∷ w) ≡ true = ap (λ k. k && list_all is_ascii_hexdigit w) is.hex ∙ part.0 in (
       ap hex_digits here ∙ word_value (b ∷ w) ws close ∙ ap (λ (l : List ℕ). b ∷ l) (sym (word_value w ws first.3) ∙ ap hex_digits (sym first.2) ∙ read.digits_are),
-      (λ some. ap (behind_hex some) here ∙ digits_word some (b ∷ w) ws rest close all part.1),
+      (λ some. ap (after_hex some) here ∙ digits_word some (b ∷ w) ws rest close all part.1),
     )
 
 hex_read : (h t : List ℕ) → AreHex h → HexRead (words (h ++ (41 ∷ t))) (squeezed h) (words t)
-hex_read [] t hex = record { digits_are = refl; behind = refl }
+hex_read [] t hex = record { digits_are = refl; after = refl }
 hex_read (b ∷ bs) t (inl e, hex) =
     subst (λ (c : ℕ). HexRead (words (c ∷ (bs ++ (41 ∷ t)))) (squeezed (c ∷ bs)) (words t)) (sym e)
-    (let read = hex_read bs t hex in record { digits_are = read.digits_are; behind = read.behind })
+    (let read = hex_read bs t hex in record { digits_are = read.digits_are; after = read.after })
 hex_read (b ∷ bs) t (inr (v, is), hex) =
     let front = digit_front b v (bs ++ (41 ∷ t)) (goes_on is_mark (bs ++ (41 ∷ t))) (squeezed bs) (words t) is refl (hex_read bs t hex) in
     record {
       digits_are = front.0 ∙ sym (ap (λ k. cond k (squeezed bs) (b ∷ squeezed bs)) is.end);
-      behind = front.1 true;
+      after = front.1 true;
     }
 
 -- ---- the text of bits
@@ -217,7 +217,7 @@ hex_quiet (b ∷ bs) (inr (v, is), hex) = (is.quiet, hex_quiet bs hex)
 -- a text of some bits in parentheses
 pub record PartRead (text : List (List ℕ)) (digits : List ℕ) (rest : List (List ℕ)) : Type 0 where
   pub digits_are : hex_digits text ≡ digits
-  pub behind : behind_hex false text ≡ Some rest
+  pub after : after_hex false text ≡ Some rest
 
 pub text_quiet : (bits : List Bool) → AreQuiet (hex_text bits)
 unfolding hex_text
@@ -229,7 +229,7 @@ lines_read bits d e t is =
     let read = hex_read rest t (lines_hex bits e 1 false refl) in
     let front = digit_front (hex_digit bits e) _ (rest ++ (41 ∷ t)) (goes_on is_mark (rest ++ (41 ∷ t))) (squeezed rest) (words t) (a_digit bits e) refl read in
     subst (λ (k : ℕ). PartRead (words (hex_lines bits k 0 ++ (41 ∷ t))) (hex_list bits k) (words t)) (sym is)
-    (record { digits_are = front.0 ∙ ap (λ (l : List ℕ). hex_digit bits e ∷ l) (lines_squeezed bits e 1 false refl); behind = front.1 false })
+    (record { digits_are = front.0 ∙ ap (λ (l : List ℕ). hex_digit bits e ∷ l) (lines_squeezed bits e 1 false refl); after = front.1 false })
 
 pub text_read : (bits : List Bool) (t : List ℕ) → 1 ≤ length bits → PartRead (words (hex_text bits ++ (41 ∷ t))) (hex_list bits ((length bits + 3) / 4)) (words t)
 unfolding hex_text

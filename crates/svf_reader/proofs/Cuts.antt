@@ -4,7 +4,7 @@ use Rattle.std.specs.Prelude.{◌==◌, ◌||◌, ◌++◌}
 use Rattle.std.proofs.lemmas.Bool.Decides.{nat_tests}
 use Rattle.svf_reader.specs.declared.bytes.Class.TheVariants.{Gap, Command}
 use Rattle.ij_text.specs.Bytes.{is_blank}
-use Rattle.ij_text.specs.Parts.{in_front}
+use Rattle.ij_text.specs.Parts.{before}
 use Rattle.svf_reader.specs.Texts.{first, in_comment, plain_from, plain, blanks, texts}
 use Rattle.svf_reader.specs.Reading.{run_length}
 
@@ -47,11 +47,11 @@ same_next inside h b (c ∷ cs) zero e within =
 same_next inside h b (c ∷ cs) (suc m) e within = refl
 
 -- a byte that belongs to a command
-shown : (h : Bool) (b : ℕ) (rest : List ℕ) → (h || not (b == 59)) ≡ true → texts (cond h 32 b ∷ rest) ≡ in_front (cond h 32 b) (texts rest)
+shown : (h : Bool) (b : ℕ) (rest : List ℕ) → (h || not (b == 59)) ≡ true → texts (cond h 32 b ∷ rest) ≡ before (cond h 32 b) (texts rest)
 shown true b rest t = refl
 shown false b rest t =
     let other : (b == 59) ≡ false = grind (arith, nat_tests) in
-    ap (λ k. cond k ([] ∷ texts rest) (in_front b (texts rest))) other
+    ap (λ k. cond k ([] ∷ texts rest) (before b (texts rest))) other
 
 cut_at : (inside : Bool) (b : ℕ) (bs : List ℕ) (h t : Bool) (n : ℕ) → in_comment inside b (first bs) ≡ h → (h || not (b == 59)) ≡ t → cond t (suc (run_length Command h bs)) 0 ≡ n → n < suc (length bs)
     → ((m : ℕ) → run_length Command h bs ≡ m → m < length bs → texts (plain_from h bs) ≡ plain_from h (take m bs) ∷ texts (plain (drop (suc m) bs)))
@@ -59,7 +59,7 @@ cut_at : (inside : Bool) (b : ℕ) (bs : List ℕ) (h t : Bool) (n : ℕ) → in
 cut_at inside b bs h false n eh et en within more =
     let none = no_run h (not (b == 59)) 0 (ap (λ k. cond k 1 0) et) in
     let last : (b == 59) ≡ true = grind (arith, nat_tests) in
-    let at_none : texts (cond false 32 b ∷ plain_from false bs) ≡ [] ∷ texts (plain bs) = ap (λ k. cond k ([] ∷ texts (plain bs)) (in_front b (texts (plain bs)))) last in
+    let at_none : texts (cond false 32 b ∷ plain_from false bs) ≡ [] ∷ texts (plain bs) = ap (λ k. cond k ([] ∷ texts (plain bs)) (before b (texts (plain bs)))) last in
     ap (λ k. texts (cond k 32 b ∷ plain_from k bs)) none.0 ∙ at_none
     ∙ ap (λ k. plain_from inside (take k (b ∷ bs)) ∷ texts (plain (drop (suc k) (b ∷ bs)))) en
 cut_at inside b bs h true zero eh et en within more = absurd (cc)
@@ -68,7 +68,7 @@ cut_at inside b bs h true (suc m) eh et en within more =
     let short : m < length bs = omega arith in
     let same : in_comment inside b (first (take m bs)) ≡ h = same_next inside h b bs m run short ∙ eh in
     shown h b (plain_from h bs) et
-    ∙ ap (in_front (cond h 32 b)) (more m run short)
+    ∙ ap (before (cond h 32 b)) (more m run short)
     ∙ ap (λ k. (cond k 32 b ∷ plain_from k (take m bs)) ∷ texts (plain (drop (suc m) bs))) (sym same)
 
 pub cut_is : (inside : Bool) (text : List ℕ) (n : ℕ) → run_length Command inside text ≡ n → n < length text → texts (plain_from inside text) ≡ plain_from inside (take n text) ∷ texts (plain (drop (suc n) text))
@@ -100,7 +100,7 @@ last_at : (inside : Bool) (b : ℕ) (bs : List ℕ) (h t : Bool) → (h || not (
 last_at inside b bs h false et en more = absurd (cc)
 last_at inside b bs h true et en more =
     let run : run_length Command h bs ≡ length bs = cc in
-    shown h b (plain_from h bs) et ∙ ap (in_front (cond h 32 b)) (more run)
+    shown h b (plain_from h bs) et ∙ ap (before (cond h 32 b)) (more run)
 
 pub last_is : (inside : Bool) (text : List ℕ) → run_length Command inside text ≡ length text → texts (plain_from inside text) ≡ plain_from inside text ∷ []
 last_is inside [] e = refl

@@ -53,7 +53,7 @@ nibble (suc (suc (suc (suc (suc (suc (suc (suc (suc (suc (suc (suc (suc (suc (su
 
 -- ---- bits of a number
 
--- exactly w bits, with zeros behind
+-- exactly w bits, with zeros after
 abbrev pub padded : ℕ → List Bool → List Bool
 padded zero bs = []
 padded (suc w) [] = false ∷ padded w []

@@ -6,9 +6,9 @@ use Rattle.svf_reader.specs.declared.so_far.ReadSoFar.{ReadSoFar}
 use Rattle.svf_reader.specs.declared.parsed.Register.{Register}
 use Rattle.svf_reader.specs.declared.parsed.Register.TheVariants.{Instruction, Data}
 use Rattle.svf_reader.specs.Commands.{SeenParsed, Scans, ToReset, ToIdle, Runs, NoEffect, Parts, command_of_words, left_out}
-use Rattle.svf_reader.specs.Texts.{words, behind_word, texts, plain, blanks}
+use Rattle.svf_reader.specs.Texts.{words, after_word, texts, plain, blanks}
 use Rattle.svf_writer.specs.Clocks.{clocks_from}
-use Rattle.svf_reader.specs.Meaning.{Cause, SvfLimit, SvfSyntax, HexWide, TdiMissing, LeftOut, Refusal, Step, at_first, with_length, last_length, with_leaving_clock, scan_clocks, within_clock_limit, any_wide, tdi_missing, scan_with, scan_command, scanned, effect_of, if_parsed, unless_left_out, read_command, listed, in_front_of, at_end, and_then, read_from, svf}
+use Rattle.svf_reader.specs.Meaning.{Cause, SvfLimit, SvfSyntax, HexWide, TdiMissing, LeftOut, Refusal, Step, at_first, with_length, last_length, with_leaving_clock, scan_clocks, within_clock_limit, any_wide, tdi_missing, scan_with, scan_command, scanned, effect_of, if_parsed, unless_left_out, read_command, listed, before, at_end, and_then, read_from, svf}
 use Rattle.svf_reader.specs.Scripts.{ReadCommandsAreWithinLimits}
 
 -- ---- one command
@@ -79,7 +79,7 @@ ended_counts kept false text None step e = no_step SvfSyntax step (Counts kept s
 
 comes_counts : (kept : ReadSoFar) (ended : Bool) (text : List ℕ) (step : Step) → read_command kept ended text ≡ Ok step → Counts kept step
 unfolding read_command
-comes_counts kept ended text step e = ended_counts kept ended text (left_out (words text) (behind_word text)) step e
+comes_counts kept ended text step e = ended_counts kept ended text (left_out (words text) (after_word text)) step e
 
 -- ---- a text
 
@@ -116,7 +116,7 @@ still_few : (kept : ReadSoFar) (step : Step) → kept.clocks ≤ 1000000000 → 
 still_few kept (None, next) few counts = omega (arith, few, counts.0)
 still_few kept (Some c, next) few counts = counts.0
 
-front_few : (kept : ReadSoFar) (step : Step) (q : Result (List SeenCommand) Refusal) (cs : List SeenCommand) → Counts kept step → ((ds : List SeenCommand) → q ≡ Ok ds → AreFew step.1 ds) → in_front_of (listed step.0) q ≡ Ok cs → AreFew kept cs
+front_few : (kept : ReadSoFar) (step : Step) (q : Result (List SeenCommand) Refusal) (cs : List SeenCommand) → Counts kept step → ((ds : List SeenCommand) → q ≡ Ok ds → AreFew step.1 ds) → before (listed step.0) q ≡ Ok cs → AreFew kept cs
 front_few kept step (Ok ds) cs counts later e = subst (AreFew kept) (same_list (listed step.0 ++ ds) cs e) (both_few kept step ds counts (later ds refl))
 front_few kept step (Err refusal) cs counts later e = no_list refusal cs (AreFew kept cs) e
 

@@ -9,7 +9,7 @@ use Rattle.svf_writer.specs.Fits.{HasLength, TakesTdi, FitsAfter, AreFitAfter}
 use Rattle.svf_reader.specs.declared.parsed.Register.{Register}
 use Rattle.svf_reader.specs.declared.parsed.Register.TheVariants.{Instruction, Data}
 use Rattle.svf_reader.specs.declared.so_far.ReadSoFar.{ReadSoFar}
-use Rattle.svf_reader.specs.Texts.{words, behind_word}
+use Rattle.svf_reader.specs.Texts.{words, after_word}
 use Rattle.svf_reader.specs.Values.{fitted, hex_bits}
 use Rattle.svf_reader.specs.Commands.{Parts, SeenParsed, Scans, ToReset, ToIdle, Runs, NoEffect, is_word, is_one_of, words_are, number, parts, no_parts, scan_of, scan, state, cycles, run_test, is_frequency, is_trst, no_effect_if, headers, end_states, parsed_by, command_of_words, left_out}
 use Rattle.svf_reader.specs.Meaning.{Cause, SvfSyntax, SvfLimit, HexWide, TdiMissing, Step, last_length, with_length, with_leaving_clock, scan_clocks, within_clock_limit, part_of, scan_with, scan_command, other_length, tdi_missing, scanned, effect_of, if_parsed, unless_left_out, read_command, listed}
@@ -170,4 +170,4 @@ unless_follows kept ended text None step e =
 
 pub comes_follows : (kept : ReadSoFar) (ended : Bool) (text : List ℕ) (step : Step) → read_command kept ended text ≡ Ok step → Follows kept step
 unfolding read_command
-comes_follows kept ended text step e = unless_follows kept ended text (left_out (words text) (behind_word text)) step e
+comes_follows kept ended text step e = unless_follows kept ended text (left_out (words text) (after_word text)) step e

@@ -1,4 +1,4 @@
--- Blanks and comments in front of a written command.
+-- Blanks and comments before a written command.
 use Rattle.std.proofs.Common.{◌≡◌, ℕ, suc, ◌+◌, Bool, true, false, cond, List, [], ◌∷◌, ◌++◌, length, refl, ap, sym, ◌∙◌, arith}
 use Rattle.std.specs.Prelude.{◌==◌, ◌&&◌, ◌||◌}
 use Rattle.std.proofs.lemmas.Bool.Decides.{nat_tests}
@@ -52,6 +52,6 @@ gap_read inside (b ∷ bs) xs h kept at =
     ∙ gap_read hidden bs xs h.1 kept (suc at)
     ∙ ap (λ n. read_from kept n (texts (plain xs))) next
 
-pub behind_gap_read : CommandsAreReadAgain
-behind_gap_read c written kept at gap rest is =
+pub after_gap_read : CommandsAreReadAgain
+after_gap_read c written kept at gap rest is =
     gap_read false gap (text_of c ++ rest) is kept at ∙ written_read c written kept (at + length gap) rest

@@ -4,7 +4,7 @@ use Rattle.std.specs.Prelude.{◌||◌}
 use Rattle.std.specs.List.{list_any}
 use Rattle.std.specs.Str.{str_to_ascii_lowercase}
 use Rattle.svf_reader.specs.declared.so_far.ReadSoFar.{ReadSoFar}
-use Rattle.svf_reader.specs.Texts.{words, runs, behind_word}
+use Rattle.svf_reader.specs.Texts.{words, runs, after_word}
 use Rattle.svf_reader.specs.Meaning.{Cause, SvfSyntax, Step, if_parsed, unless_left_out, read_command}
 use Rattle.svf_reader.specs.Commands.{is_word, is_one_of, begins_with_length, begins_with_on, headers, end_states, left_out_names, any_is_one_of, is_left_out, left_out, command_of_words}
 use Rattle.ij_text.proofs.EqualTexts.{bytes_are}
@@ -33,7 +33,7 @@ scan_kept w rest ws is =
 pub nothing_read : (kept : ReadSoFar) (ended : Bool) (t : List ℕ) → words t ≡ [] → read_command kept ended t ≡ Err SvfSyntax
 unfolding left_out command_of_words read_command
 nothing_read kept ended t none =
-    ap (λ ws. unless_left_out kept ended t (left_out ws (behind_word t))) none
+    ap (λ ws. unless_left_out kept ended t (left_out ws (after_word t))) none
     ∙ ap (λ ws. cond ended (if_parsed kept (command_of_words ws)) (let e : Result Step Cause = Err SvfSyntax in e)) none
     ∙ cases ended
   where

@@ -7,7 +7,7 @@ use Rattle.svf_reader.specs.declared.bytes.Class.{Class}
 use Rattle.svf_reader.specs.declared.bytes.Class.TheVariants.{Gap, Word, Run}
 use Rattle.ij_text.specs.Bytes.{is_blank}
 use Rattle.ij_text.specs.Parts.{longer}
-use Rattle.svf_reader.specs.Texts.{first, in_comment, plain_from, plain, is_mark, is_any, in_word, goes_on, cut, behind_bytes, behind_word}
+use Rattle.svf_reader.specs.Texts.{first, in_comment, plain_from, plain, is_mark, is_any, in_word, goes_on, cut, after_bytes, after_word}
 use Rattle.svf_reader.specs.Reading.{in_class, run_length, word_length, words_of, runs_of}
 
 -- ---- one step of a run
@@ -60,7 +60,7 @@ pub gap_words : (alone : ℕ → Bool) (inside : Bool) (text : List ℕ) → cut
 gap_words alone inside text =
     gap_skipped (List (List ℕ)) (cut alone) (λ b bs e. ap (λ k. cond k (cut alone bs) (cond (alone b) ((b ∷ []) ∷ cut alone bs) (longer (goes_on alone bs) b (cut alone bs)))) e) inside text
 
--- behind a gap no gap begins
+-- after a gap no gap begins
 gap_stops_at : (inside : Bool) (b : ℕ) (bs : List ℕ) (h k : Bool) → in_comment inside b (first bs) ≡ h → is_blank b ≡ k
     → run_length Gap false (drop (run_length Gap true bs) bs) ≡ 0
     → run_length Gap false (drop (run_length Gap false bs) bs) ≡ 0
@@ -112,7 +112,7 @@ module _ (class : Class) (alone : ℕ → Bool) (of_word : (h : Bool) (b : ℕ) 
   word_byte b false true ek el w = absurd (let e = ap (λ l. not l) (sym el) ∙ ap (λ k. not (k || alone b)) (sym ek) ∙ w in cc)
   word_byte b false false ek el w = (refl, refl)
 
-  -- a byte of a word in front
+  -- a byte of a word before
   first_byte : (b : ℕ) (bs : List ℕ) → in_comment false b (first bs) ≡ false → in_word alone b ≡ true → cut alone (plain (b ∷ bs)) ≡ longer (goes_on alone (plain bs)) b (cut alone (plain bs))
   first_byte b bs eh ew =
       let is = word_byte b (is_blank b) (alone b) refl refl ew in
@@ -122,7 +122,7 @@ module _ (class : Class) (alone : ℕ → Bool) (of_word : (h : Bool) (b : ℕ) 
       ∙ ap (λ k. cond k rest (cond (alone b) ((b ∷ []) ∷ rest) more)) is.0
       ∙ ap (λ l. cond l ((b ∷ []) ∷ rest) more) is.1
 
-  -- the test of a byte that a run goes on behind
+  -- the test of a byte that a run goes on after
   run_byte : (b : ℕ) (bs : List ℕ) (h k : Bool) (n : ℕ) → in_comment false b (first bs) ≡ h → in_word alone b ≡ k → run_length class false (b ∷ bs) ≡ suc n → (h ≡ false) × (k ≡ true) × (run_length class false bs ≡ n)
   run_byte b bs true k n eh ek e =
       absurd (let f : 0 ≡ suc n = sym (run_stops class false true (b ∷ bs) bs b refl (sym eh) (of_word true b)) ∙ e in cc)
@@ -199,40 +199,40 @@ pub no_runs : runs_of [] ≡ []
 unfolding runs_of
 no_runs = refl
 
--- ---- behind the first word
+-- ---- after the first word
 
-pub behind_gap : (text : List ℕ) → behind_word (plain text) ≡ behind_word (plain (drop (run_length Gap false text) text))
-behind_gap text =
-    gap_skipped (List ℕ) behind_word (λ b bs e. ap (λ k. cond k (behind_word bs) (cond (is_mark b) bs (behind_bytes bs))) e) false text
+pub after_gap : (text : List ℕ) → after_word (plain text) ≡ after_word (plain (drop (run_length Gap false text) text))
+after_gap text =
+    gap_skipped (List ℕ) after_word (λ b bs e. ap (λ k. cond k (after_word bs) (cond (is_mark b) bs (after_bytes bs))) e) false text
 
-bytes_at : (b : ℕ) (bs : List ℕ) (h k : Bool) → in_comment false b (first bs) ≡ h → in_word is_mark b ≡ k → behind_bytes (plain bs) ≡ plain (drop (run_length Word false bs) bs)
-    → behind_bytes (plain (b ∷ bs)) ≡ plain (drop (run_length Word false (b ∷ bs)) (b ∷ bs))
+bytes_at : (b : ℕ) (bs : List ℕ) (h k : Bool) → in_comment false b (first bs) ≡ h → in_word is_mark b ≡ k → after_bytes (plain bs) ≡ plain (drop (run_length Word false bs) bs)
+    → after_bytes (plain (b ∷ bs)) ≡ plain (drop (run_length Word false (b ∷ bs)) (b ∷ bs))
 bytes_at b bs true k eh ek rest =
-    subst (λ h. behind_bytes (cond h 32 b ∷ plain_from h bs) ≡ plain (drop (cond (not h && in_word is_mark b) (suc (run_length Word h bs)) 0) (b ∷ bs))) (sym eh)
+    subst (λ h. after_bytes (cond h 32 b ∷ plain_from h bs) ≡ plain (drop (cond (not h && in_word is_mark b) (suc (run_length Word h bs)) 0) (b ∷ bs))) (sym eh)
     (sym (ap (λ h. cond h 32 b ∷ plain_from h bs) eh))
 bytes_at b bs false true eh ek rest =
-    subst (λ h. behind_bytes (cond h 32 b ∷ plain_from h bs) ≡ plain (drop (cond (not h && in_word is_mark b) (suc (run_length Word h bs)) 0) (b ∷ bs))) (sym eh)
-    (subst (λ k. cond k (behind_bytes (plain bs)) (b ∷ plain bs) ≡ plain (drop (cond k (suc (run_length Word false bs)) 0) (b ∷ bs))) (sym ek) rest)
+    subst (λ h. after_bytes (cond h 32 b ∷ plain_from h bs) ≡ plain (drop (cond (not h && in_word is_mark b) (suc (run_length Word h bs)) 0) (b ∷ bs))) (sym eh)
+    (subst (λ k. cond k (after_bytes (plain bs)) (b ∷ plain bs) ≡ plain (drop (cond k (suc (run_length Word false bs)) 0) (b ∷ bs))) (sym ek) rest)
 bytes_at b bs false false eh ek rest =
-    subst (λ h. behind_bytes (cond h 32 b ∷ plain_from h bs) ≡ plain (drop (cond (not h && in_word is_mark b) (suc (run_length Word h bs)) 0) (b ∷ bs))) (sym eh)
-    (subst (λ k. cond k (behind_bytes (plain bs)) (b ∷ plain bs) ≡ plain (drop (cond k (suc (run_length Word false bs)) 0) (b ∷ bs))) (sym ek) (sym (ap (λ h. cond h 32 b ∷ plain_from h bs) eh)))
+    subst (λ h. after_bytes (cond h 32 b ∷ plain_from h bs) ≡ plain (drop (cond (not h && in_word is_mark b) (suc (run_length Word h bs)) 0) (b ∷ bs))) (sym eh)
+    (subst (λ k. cond k (after_bytes (plain bs)) (b ∷ plain bs) ≡ plain (drop (cond k (suc (run_length Word false bs)) 0) (b ∷ bs))) (sym ek) (sym (ap (λ h. cond h 32 b ∷ plain_from h bs) eh)))
 
-behind_bytes_is : (text : List ℕ) → behind_bytes (plain text) ≡ plain (drop (run_length Word false text) text)
-behind_bytes_is [] = refl
-behind_bytes_is (b ∷ bs) = bytes_at b bs (in_comment false b (first bs)) (in_word is_mark b) refl refl (behind_bytes_is bs)
+after_bytes_is : (text : List ℕ) → after_bytes (plain text) ≡ plain (drop (run_length Word false text) text)
+after_bytes_is [] = refl
+after_bytes_is (b ∷ bs) = bytes_at b bs (in_comment false b (first bs)) (in_word is_mark b) refl refl (after_bytes_is bs)
 
--- where no gap begins, behind a mark and behind a longer word
-behind_front : (b : ℕ) (bs : List ℕ) (m : Bool) → is_mark b ≡ m → in_comment false b (first bs) ≡ false → is_blank b ≡ false → cond m (plain bs) (behind_bytes (plain bs)) ≡ plain (drop (cond m 1 (run_length Word false (b ∷ bs))) (b ∷ bs))
-behind_front b bs true em eh eb = refl
-behind_front b bs false em eh eb =
+-- where no gap begins, after a mark and after a longer word
+after_front : (b : ℕ) (bs : List ℕ) (m : Bool) → is_mark b ≡ m → in_comment false b (first bs) ≡ false → is_blank b ≡ false → cond m (plain bs) (after_bytes (plain bs)) ≡ plain (drop (cond m 1 (run_length Word false (b ∷ bs))) (b ∷ bs))
+after_front b bs true em eh eb = refl
+after_front b bs false em eh eb =
     let goes : run_length Word false (b ∷ bs) ≡ suc (run_length Word false bs) = run_on Word false false (b ∷ bs) bs b refl (sym eh) (ap (λ k. not (k || is_mark b)) eb ∙ ap not em) in
-    behind_bytes_is bs ∙ ap (λ n. plain (drop n (b ∷ bs))) (sym goes)
+    after_bytes_is bs ∙ ap (λ n. plain (drop n (b ∷ bs))) (sym goes)
 
-pub behind_is : (text : List ℕ) (n : ℕ) → run_length Gap false text ≡ 0 → n ≡ word_length text → behind_word (plain text) ≡ plain (drop n text)
-behind_is [] n none is = ap (λ k. plain (drop k (let l : List ℕ = [] in l))) (sym is)
-behind_is (b ∷ bs) n none is =
+pub after_is : (text : List ℕ) (n : ℕ) → run_length Gap false text ≡ 0 → n ≡ word_length text → after_word (plain text) ≡ plain (drop n text)
+after_is [] n none is = ap (λ k. plain (drop k (let l : List ℕ = [] in l))) (sym is)
+after_is (b ∷ bs) n none is =
     let free = no_gap b bs (in_comment false b (first bs)) (is_blank b) refl refl none in
-    ap (λ h. behind_word (cond h 32 b ∷ plain_from h bs)) free.0
-    ∙ ap (λ k. cond k (behind_word (plain bs)) (cond (is_mark b) (plain bs) (behind_bytes (plain bs)))) free.1
-    ∙ behind_front b bs (is_mark b) refl free.0 free.1
+    ap (λ h. after_word (cond h 32 b ∷ plain_from h bs)) free.0
+    ∙ ap (λ k. cond k (after_word (plain bs)) (cond (is_mark b) (plain bs) (after_bytes (plain bs)))) free.1
+    ∙ after_front b bs (is_mark b) refl free.0 free.1
     ∙ ap (λ k. plain (drop k (b ∷ bs))) (sym is)

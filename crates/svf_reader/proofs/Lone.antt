@@ -6,7 +6,7 @@ use Rattle.std.specs.Char.{is_ascii_hexdigit}
 use Rattle.std.proofs.lemmas.Bool.Decides.{nat_tests}
 use Rattle.ij_text.specs.Bytes.{is_blank}
 use Rattle.svf_reader.specs.Texts.{first, opens, plain_from, plain, is_mark, words}
-use Rattle.svf_reader.specs.Commands.{is_close, behind_hex, hex_digits}
+use Rattle.svf_reader.specs.Commands.{is_close, after_hex, hex_digits}
 use Rattle.svf_reader.specs.declared.bytes.Class.TheVariants.{Word}
 use Rattle.svf_reader.specs.Reading.{run_length, word_length, words_of}
 use Rattle.svf_reader.specs.Passed.{ends_gap}
@@ -55,11 +55,11 @@ digits_alone (b ∷ bs) h =
     ∙ append-nil w
 
 -- digits that stand together, and their `)`
-pub behind_alone : (w c : List ℕ) (ws : List (List ℕ)) → list_all is_ascii_hexdigit w ≡ true → is_close c ≡ true → behind_hex false (w ∷ c ∷ ws) ≡ Some ws
-behind_alone w c ws all close =
-    ap (λ k. cond k None (cond (list_all is_ascii_hexdigit w) (behind_hex true (c ∷ ws)) None)) (digits_not_close w all)
-    ∙ ap (λ k. cond k (behind_hex true (c ∷ ws)) None) all
-    ∙ ap (λ k. cond k (let o : Option (List (List ℕ)) = Some ws in o) (cond (list_all is_ascii_hexdigit c) (behind_hex true ws) None)) close
+pub after_alone : (w c : List ℕ) (ws : List (List ℕ)) → list_all is_ascii_hexdigit w ≡ true → is_close c ≡ true → after_hex false (w ∷ c ∷ ws) ≡ Some ws
+after_alone w c ws all close =
+    ap (λ k. cond k None (cond (list_all is_ascii_hexdigit w) (after_hex true (c ∷ ws)) None)) (digits_not_close w all)
+    ∙ ap (λ k. cond k (after_hex true (c ∷ ws)) None) all
+    ∙ ap (λ k. cond k (let o : Option (List (List ℕ)) = Some ws in o) (cond (list_all is_ascii_hexdigit c) (after_hex true ws) None)) close
 
 pub hex_alone : (w c : List ℕ) (ws : List (List ℕ)) → list_all is_ascii_hexdigit w ≡ true → is_close c ≡ true → hex_digits (w ∷ c ∷ ws) ≡ digits_of w
 hex_alone w c ws all close =
@@ -68,15 +68,15 @@ hex_alone w c ws all close =
     ∙ append-nil w
     ∙ sym (digits_alone w all)
 
--- without digits in front there is no text
-pub none_behind : (w : List ℕ) (ws : List (List ℕ)) → list_all is_ascii_hexdigit w ≡ false → behind_hex false (w ∷ ws) ≡ None
-none_behind w ws all = cases (is_close w)
+-- without digits before there is no text
+pub none_after : (w : List ℕ) (ws : List (List ℕ)) → list_all is_ascii_hexdigit w ≡ false → after_hex false (w ∷ ws) ≡ None
+none_after w ws all = cases (is_close w)
   where
-    cases : (close : Bool) → cond close None (cond (list_all is_ascii_hexdigit w) (behind_hex true ws) None) ≡ None
+    cases : (close : Bool) → cond close None (cond (list_all is_ascii_hexdigit w) (after_hex true ws) None) ≡ None
     cases true = refl
-    cases false = ap (λ k. cond k (behind_hex true ws) None) all
+    cases false = ap (λ k. cond k (after_hex true ws) None) all
 
--- ---- digits at the front, and a `)` right behind them
+-- ---- digits at the front, and a `)` right after them
 
 hex_ends : (b : ℕ) → is_ascii_hexdigit b ≡ true → ends_gap b ≡ true
 hex_ends b h = grind (arith, nat_tests)
@@ -90,7 +90,7 @@ close_mark b h = grind (arith, nat_tests)
 close_is : (b : ℕ) → (b == 41) ≡ true → b ≡ 41
 close_is b h = grind (arith, nat_tests)
 
-close_word : (behind : List ℕ) → (first behind == 41) ≡ true → words_of behind ≡ (41 ∷ []) ∷ words_of (drop 1 behind)
+close_word : (after : List ℕ) → (first after == 41) ≡ true → words_of after ≡ (41 ∷ []) ∷ words_of (drop 1 after)
 close_word [] h = absurd (cc)
 close_word (x ∷ xs) h =
     let gap = no_gap_here (x ∷ xs) x refl (close_ends x h) in
@@ -107,13 +107,13 @@ digits_word (b ∷ bs) (suc m) is some all =
     let long : suc m ≡ word_length (b ∷ bs) = is ∙ sym (ap (λ k. cond k 1 (run_length Word false (b ∷ bs))) (apart b digit).mark) in
     (next_word_is (b ∷ bs) (suc m) (omega arith) (sym gap) long).is
 
-pub digits_front : (text digits behind rest : List ℕ) (n : ℕ) → n ≡ run_length Word false text → digits ≡ take n text → behind ≡ drop n text → rest ≡ drop 1 behind → 1 ≤ length digits → list_all is_ascii_hexdigit digits ≡ true → (first behind == 41) ≡ true
+pub digits_front : (text digits after rest : List ℕ) (n : ℕ) → n ≡ run_length Word false text → digits ≡ take n text → after ≡ drop n text → rest ≡ drop 1 after → 1 ≤ length digits → list_all is_ascii_hexdigit digits ≡ true → (first after == 41) ≡ true
     → words_of text ≡ digits ∷ (41 ∷ []) ∷ words_of rest
-digits_front text digits behind rest n is front back last some all close =
+digits_front text digits after rest n is front back last some all close =
     let long : 1 ≤ length (take n text) = omega (arith, some, ap length front) in
     let hex : list_all is_ascii_hexdigit (take n text) ≡ true = ap (list_all is_ascii_hexdigit) (sym front) ∙ all in
     digits_word text n is long hex
     ∙ ap (λ (w : List ℕ). w ∷ words_of (drop n text)) (sym front)
     ∙ ap (λ (r : List ℕ). digits ∷ words_of r) (sym back)
-    ∙ ap (λ (ws : List (List ℕ)). digits ∷ ws) (close_word behind close)
+    ∙ ap (λ (ws : List (List ℕ)). digits ∷ ws) (close_word after close)
     ∙ ap (λ (r : List ℕ). digits ∷ (41 ∷ []) ∷ words_of r) (sym last)

@@ -109,7 +109,7 @@ left_at digits front last false e parts =
     ∙ ap (drop 64) (hex_bits-append front last)
     ∙ drop_at (hex_bits last) (hex_bits front) 64 (omega (arith, hex_length last, parts.few))
 
--- behind 64 bits more
+-- after 64 bits more
 pub left_more : (k : ℕ) (all : List Bool) (digits front last : List ℕ) → InParts digits front last → drop k all ≡ hex_bits digits → drop (k + 64) all ≡ hex_bits front
 left_more k all digits front last parts is =
     sym (drop-drop 64 k all) ∙ ap (drop 64) is ∙ left_at digits front last (nat_lt (length last) 16) refl parts
@@ -144,7 +144,7 @@ wide_at n digits front last false e parts few =
     ∙ ap has_one (drop-append-le n (hex_bits last) (hex_bits front) (omega (arith, hex_length last)))
     ∙ has_one-append (drop n (hex_bits last)) (hex_bits front)
 
--- a 1 behind the last bits stands in the last part's number, or in the front
+-- a 1 after the last bits stands in the last part's number, or in the front
 pub wide_is : (k n : ℕ) (all : List Bool) (digits front last : List ℕ) → InParts digits front last → n ≤ 64 → drop k all ≡ hex_bits digits → has_one (drop (k + n) all) ≡ (not (number_of (hex_bits last) / 2 ^ n == 0) || has_one (hex_bits front))
 wide_is k n all digits front last parts few is =
     ap has_one (sym (drop-drop n k all) ∙ ap (drop n) is)

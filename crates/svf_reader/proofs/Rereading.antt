@@ -14,9 +14,9 @@ use Rattle.svf_reader.specs.declared.parsed.Register.{Register}
 use Rattle.svf_reader.specs.declared.parsed.Register.TheVariants.{Instruction, Data}
 use Rattle.svf_reader.specs.declared.so_far.ReadSoFar.{ReadSoFar}
 use Rattle.ij_text.specs.Bytes.{is_blank}
-use Rattle.ij_text.specs.Parts.{in_front, longer}
-use Rattle.svf_reader.specs.Texts.{plain, texts, is_mark, is_any, goes_on, cut, words, runs, behind_bytes, behind_word, blanks}
-use Rattle.svf_reader.specs.Commands.{Parts, SeenParsed, Scans, ToReset, ToIdle, Runs, is_word, any_is_one_of, no_parts, with_part, both, one_part, then_parts, parts, behind_hex, scan_of, scan, state, cycles, run_test, parsed_by, command_of_words, left_out_names, is_left_out, left_out}
+use Rattle.ij_text.specs.Parts.{before, longer}
+use Rattle.svf_reader.specs.Texts.{plain, texts, is_mark, is_any, goes_on, cut, words, runs, after_bytes, after_word, blanks}
+use Rattle.svf_reader.specs.Commands.{Parts, SeenParsed, Scans, ToReset, ToIdle, Runs, is_word, any_is_one_of, no_parts, with_part, both, one_part, then_parts, parts, after_hex, scan_of, scan, state, cycles, run_test, parsed_by, command_of_words, left_out_names, is_left_out, left_out}
 use Rattle.svf_reader.specs.Values.{fitted, hex_bits, is_wide}
 use Rattle.svf_reader.specs.Meaning.{Cause, SvfSyntax, SvfLimit, HexWide, Step, with_length, with_leaving_clock, scan_clocks, within_clock_limit, part_wide, part_of, any_wide, scan_with, scan_command, scanned, effect_of, if_parsed, unless_left_out, read_command, at_end, and_then, read_from}
 use Rattle.svf_reader.specs.Scripts.{again}
@@ -25,7 +25,7 @@ use Rattle.svf_reader.proofs.Digits.{is_quiet, AreDecimal, decimal_written, numb
 use Rattle.svf_reader.proofs.Again.{AreQuiet, quiet_both, command_cut, AreInWord, word_cut, text_quiet, PartRead, text_read}
 use Rattle.std.proofs.lemmas.Bool.{and_parts}
 
--- ---- a blank in front
+-- ---- a blank before
 
 blank_cut : (alone : ℕ → Bool) (b : ℕ) (t : List ℕ) → is_blank b ≡ true → cut alone (b ∷ t) ≡ cut alone t
 blank_cut alone b t h =
@@ -39,9 +39,9 @@ same_words kept ended t u None e =
 blank_comes : (kept : ReadSoFar) (ended : Bool) (b : ℕ) (t : List ℕ) → is_blank b ≡ true → read_command kept ended (b ∷ t) ≡ read_command kept ended t
 unfolding read_command
 blank_comes kept ended b t h =
-    same_words kept ended (b ∷ t) t (left_out (words (b ∷ t)) (behind_word (b ∷ t))) (blank_cut is_mark b t h)
-    ∙ ap (λ ws. unless_left_out kept ended t (left_out ws (behind_word (b ∷ t)))) (blank_cut is_mark b t h)
-    ∙ ap (λ k. unless_left_out kept ended t (left_out (words t) (cond k (behind_word t) (cond (is_mark b) t (behind_bytes t))))) h
+    same_words kept ended (b ∷ t) t (left_out (words (b ∷ t)) (after_word (b ∷ t))) (blank_cut is_mark b t h)
+    ∙ ap (λ ws. unless_left_out kept ended t (left_out ws (after_word (b ∷ t)))) (blank_cut is_mark b t h)
+    ∙ ap (λ k. unless_left_out kept ended t (left_out (words t) (cond k (after_word t) (cond (is_mark b) t (after_bytes t))))) h
 
 blank_at : (kept : ReadSoFar) (at b : ℕ) (t : List ℕ) (ts : List (List ℕ)) → is_blank b ≡ true → read_from kept at ((b ∷ t) ∷ ts) ≡ read_from kept (suc at) (t ∷ ts)
 blank_at kept at b t [] h =
@@ -58,18 +58,18 @@ blank_at kept at b t (u ∷ us) h =
     ∙ ap (λ n. and_then (read_command kept true t) n (λ k. read_from k (suc (at + suc (length t))) (u ∷ us))) start
     ∙ ap (λ n. and_then (read_command kept true t) (suc at + blanks t) (λ k. read_from k n (u ∷ us))) next
 
--- a blank that ends no command goes in front of a text
+-- a blank that ends no command goes before a text
 pub blank_front : (kept : ReadSoFar) (at b : ℕ) (xs : List ℕ) → is_blank b ≡ true → (b == 59) ≡ false → read_from kept at (texts (b ∷ xs)) ≡ read_from kept (suc at) (texts xs)
 blank_front kept at b xs h other =
     let some = texts_some xs in
-    ap (λ k. read_from kept at (cond k ([] ∷ texts xs) (in_front b (texts xs)))) other
-    ∙ ap (λ l. read_from kept at (in_front b l)) some.2
+    ap (λ k. read_from kept at (cond k ([] ∷ texts xs) (before b (texts xs)))) other
+    ∙ ap (λ l. read_from kept at (before b l)) some.2
     ∙ blank_at kept at b some.0 some.1 h
     ∙ ap (λ l. read_from kept (suc at) l) (sym some.2)
 
 -- ---- a command's text
 
-parsed_read : (kept : ReadSoFar) (body : List ℕ) (s : SeenParsed) → left_out (words body) (behind_word body) ≡ None → command_of_words (words body) ≡ Some s → read_command kept true body ≡ effect_of kept s
+parsed_read : (kept : ReadSoFar) (body : List ℕ) (s : SeenParsed) → left_out (words body) (after_word body) ≡ None → command_of_words (words body) ≡ Some s → read_command kept true body ≡ effect_of kept s
 unfolding read_command
 parsed_read kept body s none is =
     ap (unless_left_out kept true body) none ∙ ap (if_parsed kept) is
@@ -83,7 +83,7 @@ pub record Spelled (text : List ℕ) (s : SeenParsed) : Type 0 where
   pub text_is : text ≡ body ++ (59 ∷ 10 ∷ [])
   pub quiet : AreQuiet body
   pub starts : blanks body ≡ 0
-  pub read_here : left_out (words body) (behind_word body) ≡ None
+  pub read_here : left_out (words body) (after_word body) ≡ None
   pub says_so : command_of_words (words body) ≡ Some s
 
 -- ---- decimal numbers as words
@@ -120,7 +120,7 @@ run_spelled n few =
     let w = decimal n in
     let body : List ℕ = codes "RUNTEST " ++ (w ++ codes " TCK") in
     let ws : words body ≡ codes "RUNTEST" ∷ w ∷ codes "TCK" ∷ [] = ap (λ (l : List (List ℕ)). codes "RUNTEST" ∷ l) (decimal_cut is_mark (λ b m. m) w (codes " TCK") some is.bytes refl) in
-    let rs : runs (behind_word body) ≡ w ∷ codes "TCK" ∷ [] = decimal_cut is_any (λ b m. refl) w (codes " TCK") some is.bytes refl in
+    let rs : runs (after_word body) ≡ w ∷ codes "TCK" ∷ [] = decimal_cut is_any (λ b m. refl) w (codes " TCK") some is.bytes refl in
     let reset : is_word (codes "RESET") w ≡ false = no_name 82 (codes "ESET") w (lit≤ tt) is.bytes in
     let drpause : is_word (codes "DRPAUSE") w ≡ false = no_name 68 (codes "RPAUSE") w (lit≤ tt) is.bytes in
     let irpause : is_word (codes "IRPAUSE") w ≡ false = no_name 73 (codes "RPAUSE") w (lit≤ tt) is.bytes in
@@ -141,20 +141,20 @@ run_spelled n few =
       text_is = simp append_assoc;
       quiet = quiet_both (codes "RUNTEST ") (w ++ codes " TCK") (quiet_by_test (codes "RUNTEST ") refl) (quiet_both w (codes " TCK") (decimal_quiet w is.bytes) (quiet_by_test (codes " TCK") refl));
       starts = refl;
-      read_here = ap (λ l. left_out l (behind_word body)) ws ∙ ap (λ rs. cond (any_is_one_of (codes "RESET" ∷ []) rs || any_is_one_of left_out_names rs) (Some (codes "RUNTEST")) (let o : Option (List ℕ) = None in o)) rs ∙ ap (λ k. cond k (Some (codes "RUNTEST")) (let o : Option (List ℕ) = None in o)) both;
+      read_here = ap (λ l. left_out l (after_word body)) ws ∙ ap (λ rs. cond (any_is_one_of (codes "RESET" ∷ []) rs || any_is_one_of left_out_names rs) (Some (codes "RUNTEST")) (let o : Option (List ℕ) = None in o)) rs ∙ ap (λ k. cond k (Some (codes "RUNTEST")) (let o : Option (List ℕ) = None in o)) both;
       says_so = ap command_of_words ws ∙ ap (λ k. cond k (cycles (codes "TCK" ∷ [])) (cycles (w ∷ codes "TCK" ∷ []))) idle ∙ ap (option_map Runs) (number_again n (omega arith));
     }
 
 -- ---- scans
 
--- a part's name, its digits in parentheses, and the words behind them
+-- a part's name, its digits in parentheses, and the words after them
 part_step : (n : ℕ) (p q : Parts) (name digits : List ℕ) (text rest : List (List ℕ)) → with_part name digits p ≡ Some q → PartRead text digits rest → parts (suc n) p (name ∷ codes "(" ∷ text) ≡ parts n q rest
 unfolding one_part
 part_step n p q name digits text rest e read =
     let next : Parts → List (List ℕ) → Option Parts = λ q rest. parts n q rest in
-    ap (λ ds. then_parts (both (with_part name ds p) (behind_hex false text)) next) read.digits_are
-    ∙ ap (λ o. then_parts (both o (behind_hex false text)) next) e
-    ∙ ap (λ o. then_parts (both (Some q) o) next) read.behind
+    ap (λ ds. then_parts (both (with_part name ds p) (after_hex false text)) next) read.digits_are
+    ∙ ap (λ o. then_parts (both o (after_hex false text)) next) e
+    ∙ ap (λ o. then_parts (both (Some q) o) next) read.after
 
 -- the digits of some bits
 abbrev written : List Bool → List ℕ
@@ -195,7 +195,7 @@ part_quiet : (word : List ℕ) (bits : Option (List Bool)) → AreQuiet word →
 part_quiet word None h = tt
 part_quiet word (Some bits) h = quiet_both word (hex_text bits ++ codes ")") h (quiet_both (hex_text bits) (codes ")") (text_quiet bits) (quiet_by_test (codes ")") refl))
 
--- a scan whose parts are read, behind the word of its register
+-- a scan whose parts are read, after the word of its register
 module _ (name : List ℕ) (register : Register)
     (first : (xs : List ℕ) → words ((name ++ codes " ") ++ xs) ≡ name ∷ words xs)
     (reads : (ws : List (List ℕ)) (rest : List ℕ) → left_out (name ∷ ws) rest ≡ None)
@@ -230,7 +230,7 @@ module _ (name : List ℕ) (register : Register)
             (quiet_both tdi (tdo ++ mask) (part_quiet (codes " TDI (") s.tdi (quiet_by_test (codes " TDI (") refl))
             (quiet_both tdo mask (part_quiet (codes " TDO (") s.tdo (quiet_by_test (codes " TDO (") refl)) (part_quiet (codes " MASK (") s.mask (quiet_by_test (codes " MASK (") refl)))));
         starts = starts (w ++ all);
-        read_here = ap (λ l. left_out l (behind_word body)) ws ∙ reads (w ∷ words all) (behind_word body);
+        read_here = ap (λ l. left_out l (after_word body)) ws ∙ reads (w ∷ words all) (after_word body);
         says_so = ap command_of_words ws ∙ scans (w ∷ words all) ∙ ap (λ k. scan_of register k (parts 4 no_parts (words all))) (number_again n (omega arith)) ∙ ap (scan_of register (Some n)) read ∙ sized n p some;
       }
 

@@ -24,7 +24,7 @@ words_are [] (w ∷ ws) = false
 words_are (name ∷ names) [] = false
 words_are (name ∷ names) (w ∷ ws) = is_word name w && words_are names ws
 
--- the number of decimal digits that stand behind those of n
+-- the number of decimal digits that stand after those of n
 abbrev pub number_from : ℕ → List ℕ → ℕ
 number_from n [] = n
 number_from n (b ∷ bs) = number_from (10 * n + (b - 48)) bs
@@ -51,12 +51,12 @@ is_open w = bytes_eq w (codes "(")
 abbrev pub is_close : List ℕ → Bool
 is_close w = bytes_eq w (codes ")")
 
--- the words behind those of a hexadecimal text and its `)`; `some`: whether a digit of the text stands in front
-abbrev pub behind_hex : Bool → List (List ℕ) → Option (List (List ℕ))
-behind_hex some [] = None
-behind_hex some (w ∷ ws) = cond (is_close w) (cond some (Some ws) None) (cond (list_all is_ascii_hexdigit w) (behind_hex true ws) None)
+-- the words after those of a hexadecimal text and its `)`; `some`: whether a digit of the text stands before
+abbrev pub after_hex : Bool → List (List ℕ) → Option (List (List ℕ))
+after_hex some [] = None
+after_hex some (w ∷ ws) = cond (is_close w) (cond some (Some ws) None) (cond (list_all is_ascii_hexdigit w) (after_hex true ws) None)
 
--- the digits in front of the `)`
+-- the digits before the `)`
 abbrev pub hex_digits : List (List ℕ) → List ℕ
 hex_digits [] = []
 hex_digits (w ∷ ws) = cond (is_close w) [] (w ++ hex_digits ws)
@@ -78,10 +78,10 @@ both None rest = None
 both (Some p) None = None
 both (Some p) (Some rest) = Some (p, rest)
 
--- behind a part's name: `(`, one or more hexadecimal digits, and `)`
+-- after a part's name: `(`, one or more hexadecimal digits, and `)`
 unfoldable pub one_part : Parts → List ℕ → List (List ℕ) → Option (Parts × List (List ℕ))
 one_part p name [] = None
-one_part p name (w ∷ ws) = cond (is_open w) (both (with_part name (hex_digits ws) p) (behind_hex false ws)) None
+one_part p name (w ∷ ws) = cond (is_open w) (both (with_part name (hex_digits ws) p) (after_hex false ws)) None
 
 abbrev pub then_parts : Option (Parts × List (List ℕ)) → (Parts → List (List ℕ) → Option Parts) → Option Parts
 then_parts None next = None
@@ -192,7 +192,7 @@ abbrev pub begins_with_on : List (List ℕ) → Bool
 begins_with_on [] = false
 begins_with_on (w ∷ ws) = is_word (codes "ON") w
 
--- the commands that are left out, by the first word and the text behind it: HDR, HIR, TDR and TIR of a length, PIO,
+-- the commands that are left out, by the first word and the text after it: HDR, HIR, TDR and TIR of a length, PIO,
 -- PIOMAP, TRST ON, paths of states, and what names a pause state or another way to count; states and ways to count are
 -- whole runs of bytes that aren't blank, parentheses and all
 unfoldable pub is_left_out : List ℕ → List ℕ → Bool
@@ -203,7 +203,7 @@ is_left_out w rest =
     (cond (is_word (codes "STATE") w) (nat_le 2 (length (runs rest)) || any_is_one_of left_out_names (runs rest))
     (cond (is_one_of (codes "RUNTEST" ∷ end_states) w) (any_is_one_of (codes "RESET" ∷ []) (runs rest) || any_is_one_of left_out_names (runs rest)) false))))
 
--- the first word of a command that is left out, as it stands, by the words and the text behind the first of them
+-- the first word of a command that is left out, as it stands, by the words and the text after the first of them
 unfoldable pub left_out : List (List ℕ) → List ℕ → Option (List ℕ)
 left_out [] rest = None
 left_out (w ∷ ws) rest = cond (is_left_out w rest) (Some w) None

@@ -54,7 +54,7 @@ pause : svf (codes "STATE IRPAUSE;") ≡ refused (LeftOut (codes "STATE")) 0
 unfolding svf command_of_words parsed_by scan one_part state run_test cycles is_frequency is_trst left_out is_left_out fitted is_wide read_command effect_of scanned
 pause = refl
 
--- two runs stand behind STATE
+-- two runs stand after STATE
 path : svf (codes "STATE(1F) IDLE;") ≡ refused (LeftOut (codes "STATE")) 0
 unfolding svf command_of_words parsed_by scan one_part state run_test cycles is_frequency is_trst left_out is_left_out fitted is_wide read_command effect_of scanned
 path = refl

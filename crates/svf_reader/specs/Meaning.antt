@@ -6,7 +6,7 @@ use Rattle.svf_writer.specs.SeenCommands.{SeenScan, SeenCommand, SIR, SDR, Reset
 use Rattle.svf_reader.specs.declared.parsed.Register.{Register}
 use Rattle.svf_reader.specs.declared.parsed.Register.TheVariants.{Instruction, Data}
 use Rattle.svf_reader.specs.declared.so_far.ReadSoFar.{ReadSoFar}
-use Rattle.svf_reader.specs.Texts.{texts, words, plain, behind_word, blanks}
+use Rattle.svf_reader.specs.Texts.{texts, words, plain, after_word, blanks}
 use Rattle.svf_reader.specs.Commands.{Parts, SeenParsed, Scans, ToReset, ToIdle, Runs, NoEffect, command_of_words, left_out}
 use Rattle.svf_reader.specs.Values.{hex_bits, fitted, is_wide}
 
@@ -41,11 +41,11 @@ scan_clocks Data len = len + 5
 abbrev pub with_leaving_clock : ReadSoFar → ℕ → ℕ
 with_leaving_clock kept n = cond kept.in_reset (suc n) n
 
--- a command, if it makes one, and what is kept behind it
+-- a command, if it makes one, and what is kept after it
 abbrev pub Step : Type 0
 Step = Option SeenCommand × ReadSoFar
 
--- behind so many clocks, if they aren't too many: 1,000,000,000 in all
+-- after so many clocks, if they aren't too many: 1,000,000,000 in all
 abbrev pub within_clock_limit : ReadSoFar → Bool → ℕ → SeenCommand → Result Step Cause
 within_clock_limit kept in_reset n command =
     cond (nat_le (kept.clocks + n) 1000000000) (Ok (Some command, record kept { in_reset = in_reset; clocks = kept.clocks + n })) (Err SvfLimit)
@@ -108,11 +108,11 @@ unless_left_out kept ended text (Some word) = Err (LeftOut word)
 unless_left_out kept ended text None = cond ended (if_parsed kept (command_of_words (words text))) (Err SvfSyntax)
 
 unfoldable pub read_command : ReadSoFar → Bool → List ℕ → Result Step Cause
-read_command kept ended text = unless_left_out kept ended text (left_out (words text) (behind_word text))
+read_command kept ended text = unless_left_out kept ended text (left_out (words text) (after_word text))
 
 -- ---- a text
 
--- the cause, and how many bytes stand in front of the command's first byte
+-- the cause, and how many bytes stand before the command's first byte
 pub record Refusal : Type 0 where
   pub cause : Cause
   pub start : ℕ
@@ -121,18 +121,18 @@ abbrev pub listed : Option SeenCommand → List SeenCommand
 listed None = []
 listed (Some c) = c ∷ []
 
-abbrev pub in_front_of : List SeenCommand → Result (List SeenCommand) Refusal → Result (List SeenCommand) Refusal
-in_front_of cs (Ok ds) = Ok (cs ++ ds)
-in_front_of cs (Err refusal) = Err refusal
+abbrev pub before : List SeenCommand → Result (List SeenCommand) Refusal → Result (List SeenCommand) Refusal
+before cs (Ok ds) = Ok (cs ++ ds)
+before cs (Err refusal) = Err refusal
 
--- behind the last `;` no word may stand
+-- after the last `;` no word may stand
 abbrev pub at_end : List (List ℕ) → Result Step Cause → ℕ → Result (List SeenCommand) Refusal
 at_end [] r start = Ok []
 at_end (w ∷ ws) (Ok step) start = Ok []
 at_end (w ∷ ws) (Err cause) start = Err (record { cause = cause; start = start })
 
 abbrev pub and_then : Result Step Cause → ℕ → (ReadSoFar → Result (List SeenCommand) Refusal) → Result (List SeenCommand) Refusal
-and_then (Ok step) start next = in_front_of (listed step.0) (next step.1)
+and_then (Ok step) start next = before (listed step.0) (next step.1)
 and_then (Err cause) start next = Err (record { cause = cause; start = start })
 
 -- the commands of some texts, from what is kept and a number of bytes on

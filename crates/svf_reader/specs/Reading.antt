@@ -17,11 +17,11 @@ run_length class inside [] = 0
 run_length class inside (b ∷ bs) =
     cond (in_class class (in_comment inside b (first bs)) b) (suc (run_length class (in_comment inside b (first bs)) bs)) 0
 
--- how long the first word is, where no gap stands in front
+-- how long the first word is, where no gap stands before
 abbrev pub word_length : List ℕ → ℕ
 word_length text = cond (is_mark (first text)) 1 (run_length Word false text)
 
--- the words and the runs of a text, behind its comments
+-- the words and the runs of a text, after its comments
 unfoldable pub words_of : List ℕ → List (List ℕ)
 words_of text = words (plain text)
 

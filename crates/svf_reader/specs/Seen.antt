@@ -13,7 +13,7 @@ use Rattle.svf_reader.specs.Commands.{Parts, SeenParsed, ToReset, ToIdle, Runs, 
 use Rattle.svf_reader.specs.Meaning.{Cause, Step}
 use Rattle.svf_reader.specs.Reading.{words_of}
 
--- a part is the text behind its `(`
+-- a part is the text after its `(`
 abbrev pub digits_of : List ℕ → List ℕ
 digits_of text = hex_digits (words_of text)
 
@@ -27,7 +27,7 @@ seen_parsed Idle = ToIdle
 seen_parsed (Run cycles) = Runs cycles
 seen_parsed Nothing = NoEffect
 
--- what is kept behind a command, and the command that is left; unless memory runs out
+-- what is kept after a command, and the command that is left; unless memory runs out
 abbrev pub Leaves : Option Command → Result ReadSoFar SvfCause → Result Step Cause → Type 0
 Leaves out (Ok kept) read = read ≡ Ok (option_map seen_command out, kept)
 Leaves out (Err e) read = Fails e read

@@ -1,7 +1,7 @@
 -- How an SVF text falls into comments, commands and words (Serial Vector Format, revision E).
 use Rattle.std.specs.Prelude.{ℕ, suc, ◌==◌, Bool, true, false, not, ◌&&◌, ◌||◌, cond, List, [], ◌∷◌}
 use Rattle.ij_text.specs.Bytes.{is_blank}
-use Rattle.ij_text.specs.Parts.{in_front, longer}
+use Rattle.ij_text.specs.Parts.{before, longer}
 
 -- ---- comments
 
@@ -14,7 +14,7 @@ first (b ∷ bs) = b
 abbrev pub opens : ℕ → ℕ → Bool
 opens b next = b == 33 || (b == 47 && next == 47)
 
--- whether a byte stands in a comment, told from the byte before it and the one behind it: a comment lasts up to the
+-- whether a byte stands in a comment, told from the byte before it and the one after it: a comment lasts up to the
 -- line feed that ends its line, which isn't in it
 abbrev pub in_comment : Bool → ℕ → ℕ → Bool
 in_comment true b next = not (b == 10)
@@ -30,10 +30,10 @@ plain text = plain_from false text
 
 -- ---- commands
 
--- what stands in front of each `;` (59), and last what stands behind all of them
+-- what stands before each `;` (59), and last what stands after all of them
 abbrev pub texts : List ℕ → List (List ℕ)
 texts [] = [] ∷ []
-texts (b ∷ bs) = cond (b == 59) ([] ∷ texts bs) (in_front b (texts bs))
+texts (b ∷ bs) = cond (b == 59) ([] ∷ texts bs) (before b (texts bs))
 
 -- ---- words
 
@@ -67,15 +67,15 @@ words text = cut is_mark text
 abbrev pub runs : List ℕ → List (List ℕ)
 runs text = cut is_any text
 
--- what stands behind the bytes of a word at the front
-abbrev pub behind_bytes : List ℕ → List ℕ
-behind_bytes [] = []
-behind_bytes (b ∷ bs) = cond (in_word is_mark b) (behind_bytes bs) (b ∷ bs)
+-- what stands after the bytes of a word at the front
+abbrev pub after_bytes : List ℕ → List ℕ
+after_bytes [] = []
+after_bytes (b ∷ bs) = cond (in_word is_mark b) (after_bytes bs) (b ∷ bs)
 
--- the text behind the first word
-abbrev pub behind_word : List ℕ → List ℕ
-behind_word [] = []
-behind_word (b ∷ bs) = cond (is_blank b) (behind_word bs) (cond (is_mark b) bs (behind_bytes bs))
+-- the text after the first word
+abbrev pub after_word : List ℕ → List ℕ
+after_word [] = []
+after_word (b ∷ bs) = cond (is_blank b) (after_word bs) (cond (is_mark b) bs (after_bytes bs))
 
 -- how many blanks stand at the front
 abbrev pub blanks : List ℕ → ℕ

@@ -115,20 +115,20 @@ fn block_size(class: Class) -> usize
     }
 }
 
-/// The text behind bytes that are passed, so many at a time.
+/// The text after bytes that are passed, so many at a time.
 #[inline(always)]
-fn behind_blocks(class: Class, size: usize, text: &[u8]) -> &[u8]
+fn after_blocks(class: Class, size: usize, text: &[u8]) -> &[u8]
     requires some { 1 ≤ size }
     ensures value { run_length class false text.now + length result.now ≡ length text.now + run_length class false result.now }
     ensures within { length result.now ≤ length text.now }
 {
     let mut rest = text;
     while rest.len() >= size {
-        let (block, behind) = rest.split_at(size);
+        let (block, after) = rest.split_at(size);
         if !all_passed(class, block) {
             return rest;
         }
-        rest = behind;
+        rest = after;
     }
     rest
 }
@@ -182,7 +182,7 @@ pub(crate) fn long_run_len(text: &[u8], class: Class) -> usize
     ensures value { result ≡ run_length class false text.now }
     ensures within { result ≤ length text.now }
 {
-    let blocks = behind_blocks(class, block_size(class), text);
+    let blocks = after_blocks(class, block_size(class), text);
     let n = passed_len(class, blocks);
     let (_, rest) = blocks.split_at(n);
     text.len() - rest.len() + rest_len(rest, class)

@@ -1,7 +1,7 @@
 // The commands of the grammar.
 ghost use Rattle.std.specs.Prelude.{MatchBool, MatchOption, ◌≡◌, ◌<◌, ◌==◌, false, codes, option_map, Some, None, IfSome};
 ghost use Rattle.std.specs.List.{list_all};
-ghost use Rattle.svf_reader.specs.Commands.{is_word, with_part, behind_hex, one_part, parts, no_parts, state, cycles, run_test, in_real, is_frequency, is_trst, no_effect_if, parsed_by};
+ghost use Rattle.svf_reader.specs.Commands.{is_word, with_part, after_hex, one_part, parts, no_parts, state, cycles, run_test, in_real, is_frequency, is_trst, no_effect_if, parsed_by};
 ghost use Rattle.svf_reader.specs.Reading.{words_of};
 ghost use Rattle.svf_reader.specs.Seen.{digits_of, seen_parts, seen_parsed};
 
@@ -10,9 +10,9 @@ use crate::parsed::{Parsed, PartTexts};
 use crate::pieces::next_word;
 use crate::words::{all_hex, is_close, is_one_of, is_open, is_word, number, words_are};
 
-/// The text behind one or more hexadecimal digits and the `)`.
-fn behind_hex(text: &[u8]) -> Option<&[u8]>
-    ensures value { option_map (λ rest. words_of rest.now) result ≡ behind_hex false (words_of text.now) }
+/// The text after one or more hexadecimal digits and the `)`.
+fn after_hex(text: &[u8]) -> Option<&[u8]>
+    ensures value { option_map (λ rest. words_of rest.now) result ≡ after_hex false (words_of text.now) }
 {
     let mut text = text;
     let mut some = false;
@@ -54,7 +54,7 @@ fn with_part<'a>(name: &[u8], text: &'a [u8], parts: &mut PartTexts<'a>) -> bool
     }
 }
 
-/// The digits of a hexadecimal text, with what stands among them, and the text behind its `)`.
+/// The digits of a hexadecimal text, with what stands among them, and the text after its `)`.
 #[derive(Clone, Copy)]
 struct HexText<'a> {
     digits: &'a [u8],
@@ -63,7 +63,7 @@ struct HexText<'a> {
 
 /// One or more hexadecimal digits and the `)` at the front of a text. Digits that stand together come alone.
 fn hex_text(text: &[u8]) -> Option<HexText<'_>>
-    ensures rest { option_map (λ x. words_of x.rest.now) result ≡ behind_hex false (words_of text.now) }
+    ensures rest { option_map (λ x. words_of x.rest.now) result ≡ after_hex false (words_of text.now) }
     ensures digits { IfSome result (λ x. digits_of x.digits.now ≡ digits_of text.now) }
 {
     let first = next_word(text)?;
@@ -77,7 +77,7 @@ fn hex_text(text: &[u8]) -> Option<HexText<'_>>
             rest: end.rest,
         });
     }
-    let rest = behind_hex(text)?;
+    let rest = after_hex(text)?;
     Some(HexText { digits: text, rest })
 }
 
@@ -87,29 +87,29 @@ fn is_close_byte(b: u8) -> bool
     b == b')'
 }
 
-/// Digits that stand together at the front of a text, and the `)` right behind them. Gaps are looked for elsewhere.
+/// Digits that stand together at the front of a text, and the `)` right after them. Gaps are looked for elsewhere.
 fn lone_digits(text: &[u8]) -> Option<HexText<'_>>
-    ensures rest { IfSome result (λ x. Some (words_of x.rest.now) ≡ behind_hex false (words_of text.now)) }
+    ensures rest { IfSome result (λ x. Some (words_of x.rest.now) ≡ after_hex false (words_of text.now)) }
     ensures digits { IfSome result (λ x. digits_of x.digits.now ≡ digits_of text.now) }
 {
     let n = long_run_len(text, Class::Word);
-    let (digits, behind) = text.split_at(n);
+    let (digits, after) = text.split_at(n);
     if digits.is_empty() {
         return None;
     }
-    if !is_close_byte(byte_at(behind, 0)) {
+    if !is_close_byte(byte_at(after, 0)) {
         return None;
     }
     if !all_hex(digits) {
         return None;
     }
-    let (_, rest) = behind.split_at(1);
+    let (_, rest) = after.split_at(1);
     Some(HexText { digits, rest })
 }
 
 /// The hexadecimal text of a part, as `hex_text` answers it.
 fn part_text(text: &[u8]) -> Option<HexText<'_>>
-    ensures rest { option_map (λ x. words_of x.rest.now) result ≡ behind_hex false (words_of text.now) }
+    ensures rest { option_map (λ x. words_of x.rest.now) result ≡ after_hex false (words_of text.now) }
     ensures digits { IfSome result (λ x. digits_of x.digits.now ≡ digits_of text.now) }
 {
     match lone_digits(text) {
@@ -118,7 +118,7 @@ fn part_text(text: &[u8]) -> Option<HexText<'_>>
     }
 }
 
-/// Puts one more part to the others, of which this is the text behind the name. The text behind it.
+/// Puts one more part to the others, of which this is the text after the name. The text after it.
 #[tactic(auto, unfolding(crate::specs::Commands::one_part))]
 fn one_part<'a>(parts: &mut PartTexts<'a>, name: &[u8], text: &'a [u8]) -> Option<&'a [u8]>
     ensures { MatchOption result (one_part (seen_parts parts.old) name.now (words_of text.now) ≡ None) (λ rest. one_part (seen_parts parts.old) name.now (words_of text.now) ≡ Some (seen_parts parts.new, words_of rest.now)) }
@@ -157,7 +157,7 @@ pub(crate) fn parts(text: &[u8]) -> Option<PartTexts<'_>>
     Some(parts)
 }
 
-/// What is behind `STATE`.
+/// What is after `STATE`.
 #[tactic(auto, unfolding(crate::specs::Commands::state))]
 fn state(text: &[u8]) -> Option<Parsed>
     ensures { option_map seen_parsed result ≡ state (words_of text.now) }
@@ -171,7 +171,7 @@ fn state(text: &[u8]) -> Option<Parsed>
     }
 }
 
-/// What is behind `RUNTEST` and, if it stands there, `IDLE`.
+/// What is after `RUNTEST` and, if it stands there, `IDLE`.
 #[tactic(auto, unfolding(crate::specs::Commands::cycles))]
 fn cycles(text: &[u8]) -> Option<Parsed>
     ensures { option_map seen_parsed result ≡ cycles (words_of text.now) }
@@ -184,7 +184,7 @@ fn cycles(text: &[u8]) -> Option<Parsed>
     Some(Parsed::Run(cycles))
 }
 
-/// What is behind `RUNTEST`.
+/// What is after `RUNTEST`.
 #[tactic(auto, unfolding(crate::specs::Commands::run_test))]
 fn run_test(text: &[u8]) -> Option<Parsed>
     ensures { option_map seen_parsed result ≡ run_test (words_of text.now) }
@@ -209,7 +209,7 @@ fn all_real(word: &[u8]) -> bool
     word.iter().all(|b| in_real(*b))
 }
 
-/// Whether a frequency stands behind `FREQUENCY`, or nothing.
+/// Whether a frequency stands after `FREQUENCY`, or nothing.
 #[tactic(auto, unfolding(crate::specs::Commands::is_frequency))]
 fn is_frequency(text: &[u8]) -> bool
     ensures { result ≡ is_frequency (words_of text.now) }
@@ -220,7 +220,7 @@ fn is_frequency(text: &[u8]) -> bool
     }
 }
 
-/// Whether one of the modes of TRST that have no effect stands behind `TRST`.
+/// Whether one of the modes of TRST that have no effect stands after `TRST`.
 #[tactic(auto, unfolding(crate::specs::Commands::is_trst))]
 fn is_trst(text: &[u8]) -> bool
     ensures { result ≡ is_trst (words_of text.now) }
@@ -234,7 +234,7 @@ fn no_effect_if(so: bool) -> Option<Parsed>
     if so { Some(Parsed::Nothing) } else { None }
 }
 
-/// What a command other than a scan says, by its first word and the text behind it.
+/// What a command other than a scan says, by its first word and the text after it.
 #[tactic(auto, unfolding(crate::specs::Commands::parsed_by))]
 pub(crate) fn parsed_by(word: &[u8], text: &[u8]) -> Option<Parsed>
     requires sir { is_word (codes "SIR") word.now ≡ false }

@@ -73,7 +73,7 @@ struct Parted<'a> {
     last: &'a [u8],
 }
 
-/// The last 16 digits, or as many as there are, and those in front of them.
+/// The last 16 digits, or as many as there are, and those before them.
 fn split_last(digits: &[u8]) -> Parted<'_>
     ensures all { digits.now ≡ result.front.now ++ result.last.now }
     ensures few { length result.last.now ≤ 16 }

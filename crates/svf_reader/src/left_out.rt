@@ -43,7 +43,7 @@ fn names_left_out(text: &[u8]) -> bool
     any_is_one_of(text, &[b"DRPAUSE", b"IRPAUSE", b"SCK", b"SEC", b"MAXIMUM"])
 }
 
-/// Whether a command is left out, by its first word and the text behind it.
+/// Whether a command is left out, by its first word and the text after it.
 #[tactic(auto, unfolding(crate::specs::Commands::is_left_out, crate::specs::Reading::words_of, crate::specs::Reading::runs_of))]
 fn is_left_out(word: &[u8], text: &[u8]) -> bool
     ensures { result ≡ is_left_out word.now (plain text.now) }

@@ -111,7 +111,7 @@ fn scan_command(register: Register, scan: Scan) -> Command
     }
 }
 
-/// Leaves a command behind so many more clocks.
+/// Leaves a command after so many more clocks.
 #[inline(always)]
 fn within_clock_limit(
     kept: ReadSoFar,
@@ -179,7 +179,7 @@ fn run(kept: ReadSoFar, cycles: u64, out: &mut Option<Command>) -> Result<ReadSo
     within_clock_limit(kept, false, clocks, Command::Run(cycles as u32), out)
 }
 
-/// What a scan comes to, of which this is the text behind the first word.
+/// What a scan comes to, of which this is the text after the first word.
 #[tactic(auto, unfolding(crate::specs::Commands::scan, crate::specs::Meaning::effect_of))]
 fn scan(
     alloc: Global,
@@ -223,7 +223,7 @@ fn effect_of(
     }
 }
 
-/// What a command comes to, by its first word and the text behind it.
+/// What a command comes to, by its first word and the text after it.
 #[tactic(auto, unfolding(crate::specs::Commands::command_of_words, crate::specs::Commands::parsed_by))]
 fn command_of_words(
     alloc: Global,
@@ -245,7 +245,7 @@ fn command_of_words(
     }
 }
 
-/// What a command comes to, of which this is the text, and whether its `;` is there: what is kept behind it, and in
+/// What a command comes to, of which this is the text, and whether its `;` is there: what is kept after it, and in
 /// `out` the command, if it acts on the controller.
 #[tactic(auto, unfolding(crate::specs::Meaning::read_command, crate::specs::Reading::words_of))]
 pub(crate) fn read_command(

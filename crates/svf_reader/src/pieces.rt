@@ -1,7 +1,7 @@
 // Words and runs at the front of a text.
 ghost use Rattle.std.specs.Prelude.{◌≡◌, ◌+◌, ◌<◌, ◌≤◌, false, [], ◌∷◌, length, MatchOption, IfSome};
 ghost use Rattle.svf_reader.specs.Reading.{run_length, word_length, words_of, runs_of};
-ghost use Rattle.svf_reader.specs.Texts.{plain, behind_word};
+ghost use Rattle.svf_reader.specs.Texts.{plain, after_word};
 
 use crate::bytes::{Class, byte_at, gap_len, is_mark, long_run_len, run_len};
 
@@ -14,11 +14,11 @@ pub struct Piece<'a> {
     pub rest: &'a [u8],
 }
 
-/// The text behind the blanks and comments at its front.
-fn behind_gap(text: &[u8]) -> &[u8]
+/// The text after the blanks and comments at its front.
+fn after_gap(text: &[u8]) -> &[u8]
     ensures words { words_of text.now ≡ words_of result.now }
     ensures runs { runs_of text.now ≡ runs_of result.now }
-    ensures behind { behind_word (plain text.now) ≡ behind_word (plain result.now) }
+    ensures after { after_word (plain text.now) ≡ after_word (plain result.now) }
     ensures stops { run_length Class.Gap false result.now ≡ 0 }
     ensures shorter { length result.now ≤ length text.now }
 {
@@ -26,7 +26,7 @@ fn behind_gap(text: &[u8]) -> &[u8]
     rest
 }
 
-/// The length of the first word, where no gap stands in front.
+/// The length of the first word, where no gap stands before.
 #[inline(always)]
 fn word_len(text: &[u8]) -> usize
     ensures value { result ≡ word_length text.now }
@@ -43,11 +43,11 @@ fn word_len(text: &[u8]) -> usize
 #[inline(always)]
 pub(crate) fn next_word<'a>(text: &'a [u8]) -> Option<Piece<'a>>
     ensures value { MatchOption result (words_of text.now ≡ []) (λ p. words_of text.now ≡ p.piece.now ∷ words_of p.rest.now) }
-    ensures behind { IfSome result (λ p. behind_word (plain text.now) ≡ plain p.rest.now) }
+    ensures after { IfSome result (λ p. after_word (plain text.now) ≡ plain p.rest.now) }
     ensures shorter { IfSome result (λ p. length p.rest.now < length text.now) }
     ensures within { IfSome result (λ p. length p.piece.now + length p.rest.now ≤ length text.now) }
 {
-    let text = behind_gap(text);
+    let text = after_gap(text);
     if text.is_empty() {
         return None;
     }
@@ -60,7 +60,7 @@ pub(crate) fn next_run<'a>(text: &'a [u8]) -> Option<Piece<'a>>
     ensures value { MatchOption result (runs_of text.now ≡ []) (λ p. runs_of text.now ≡ p.piece.now ∷ runs_of p.rest.now) }
     ensures shorter { IfSome result (λ p. length p.rest.now < length text.now) }
 {
-    let text = behind_gap(text);
+    let text = after_gap(text);
     if text.is_empty() {
         return None;
     }

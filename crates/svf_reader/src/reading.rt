@@ -28,11 +28,11 @@ pub fn next_text<'a>(text: &'a [u8]) -> Option<Piece<'a>>
     ensures whole { IfSome result (λ p. text.now ≡ p.piece.now ++ 59 ∷ p.rest.now) }
     ensures lengths { IfSome result (λ p. length p.piece.now + 1 + length p.rest.now ≡ length text.now) }
 {
-    let (piece, behind) = text.split_at(long_run_len(text, Class::Command));
-    if behind.is_empty() {
+    let (piece, after) = text.split_at(long_run_len(text, Class::Command));
+    if after.is_empty() {
         return None;
     }
-    let (_, rest) = behind.split_at(1);
+    let (_, rest) = after.split_at(1);
     Some(Piece { piece, rest })
 }
 

@@ -1,4 +1,4 @@
-// The comment in front of the scans of one row of a mux.
+// The comment before the scans of one row of a mux.
 ghost use Rattle.std.specs.Prelude.{◌<◌, ◌∷◌, ◌++◌, [], codes, decimal, length, OnOk, OnErr};
 ghost use Rattle.ij_io.specs.Bytes.{Adds, AddsPart};
 ghost use Rattle.ij_io.specs.Causes.{HasCause};
@@ -26,7 +26,7 @@ fn put_row<K: Sink>(row: u32, k: &mut K) -> Result<(), StoreFault>
     )
 }
 
-/// Writes the comment in front of the scans of one row of a scan multiplexer: `! mux PATH row R` and a line feed. R is
+/// Writes the comment before the scans of one row of a scan multiplexer: `! mux PATH row R` and a line feed. R is
 /// the row's number in the text, counted from 0 (IEEE 1687-2014, ICL: `ScanMux`).
 ///
 /// The refusals are those of the sink, which then took some first bytes of the text. It takes no memory itself.

@@ -24,7 +24,7 @@ use Rattle.table_lines.specs.Said.{SaidLine, Input, Word, Memory, Output, Change
 use Rattle.table_file.specs.declared.fault.TableFault.{TableFault}
 use Rattle.table_file.specs.declared.table.Table.{Table}
 use Rattle.table_file.specs.declared.fault.TableFault.TheVariants.{TableSyntax, TableName, TableWidth, TableLimit, TableTwice}
-use Rattle.table_file.specs.Tables.{SeenTable, seen_table, Block, Tables, stands_in, word_named, is_above, reset_above, starts_above, bounds_outside, no_width, name_fault, width_fault, limit_fault, with_line, out_said, row_said, rank, empty, after_line, line_said, block_line, table_of, has_table, new_block, no_tables, is_end, put_block, next_line, at_end, and_then, read_lines, behind_head, from_head, tables}
+use Rattle.table_file.specs.Tables.{SeenTable, seen_table, Block, Tables, stands_in, word_named, is_above, reset_above, starts_above, bounds_outside, no_width, name_fault, width_fault, limit_fault, with_line, out_said, row_said, rank, empty, after_line, line_said, block_line, table_of, has_table, new_block, no_tables, is_end, put_block, next_line, at_end, and_then, read_lines, after_head, from_head, tables}
 use Rattle.table_file.specs.Answers.{GivesTable, seen_tables}
 use Rattle.table_file.specs.Formed.{TablesAreModels}
 use Rattle.table_file.proofs.Naming.{one_more_name, there}
@@ -465,7 +465,7 @@ lines_formed second end t (l ∷ ls) h =
     then AreFormed (All (λ t. IsModel t.model)) (next_line second t.tables t.block l) (λ u. read_lines second end u ls) (line_after second t.tables t.block l h.tables h.block)
     (λ u k. lines_formed second end u ls k)
 
-head_formed : (end at : Place) (o : Option Bool) (ls : List Line) → IfOk (behind_head end at o ls) (All (λ t. IsModel t.model))
+head_formed : (end at : Place) (o : Option Bool) (ls : List Line) → IfOk (after_head end at o ls) (All (λ t. IsModel t.model))
 head_formed end at None ls = tt
 head_formed end at (Some second) ls = lines_formed second end no_tables ls (record { tables = All-nil (λ t. IsModel t.model); block = tt })
 

@@ -21,13 +21,13 @@ one_more_name [] ys n h out = (not_there n ys out, h)
 one_more_name (x ∷ xs) ys n h out =
     ((λ c. elsewhere (Contains-append_cases xs (n ∷ ys) x c)), one_more_name xs ys n h.1 (or_right_false (bytes_eq n x) (stands_in n (xs ++ ys)) out))
   where
-    behind : Contains (n ∷ ys) x → ⊥
-    behind (zero, lt, e) = not_both (bytes_eq n x) (bytes_same n x e) (or_left_false (bytes_eq n x) (stands_in n (xs ++ ys)) out)
-    behind (suc k, lt, e) = h.0 (Contains-append_right xs ys x (k, omega (arith, lt), e))
+    after : Contains (n ∷ ys) x → ⊥
+    after (zero, lt, e) = not_both (bytes_eq n x) (bytes_same n x e) (or_left_false (bytes_eq n x) (stands_in n (xs ++ ys)) out)
+    after (suc k, lt, e) = h.0 (Contains-append_right xs ys x (k, omega (arith, lt), e))
 
     elsewhere : (Contains xs x ⊎ Contains (n ∷ ys) x) → ⊥
     elsewhere (inl c) = h.0 (Contains-append_left xs ys x c)
-    elsewhere (inr c) = behind c
+    elsewhere (inr c) = after c
 
 -- ---- the number of a name
 

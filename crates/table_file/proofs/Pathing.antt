@@ -6,7 +6,7 @@ use Rattle.std.specs.Str.{bytes_eq}
 use Rattle.std.proofs.lemmas.Bool.Decides.{nat_tests}
 use Rattle.ij_text.specs.Numbering.{number_in}
 use Rattle.ij_text.specs.declared.Place.{Place}
-use Rattle.ij_text.specs.Parts.{in_front, split}
+use Rattle.ij_text.specs.Parts.{before, split}
 use Rattle.instruments.specs.Seen.{SeenModel}
 use Rattle.table_file.specs.declared.fault.TableFault.TheVariants.{TableTwice}
 use Rattle.table_file.specs.Tables.{SeenTable, same_path, has_table, new_block, empty}
@@ -24,19 +24,19 @@ two_dots : (x y : ℕ) → (x == 46) ≡ true → (y == 46) ≡ true → (x == y
 two_dots x y h k = grind (arith, nat_tests)
 
 -- a first piece that isn't empty
-nothing_in_front : (b : ℕ) (ts : List (List ℕ)) → same_path ([] ∷ []) (in_front b ts) ≡ false
-nothing_in_front b [] = refl
-nothing_in_front b (t ∷ ts) = refl
+nothing_before : (b : ℕ) (ts : List (List ℕ)) → same_path ([] ∷ []) (before b ts) ≡ false
+nothing_before b [] = refl
+nothing_before b (t ∷ ts) = refl
 
-front_of_nothing : (b : ℕ) (ts : List (List ℕ)) → same_path (in_front b ts) ([] ∷ []) ≡ false
+front_of_nothing : (b : ℕ) (ts : List (List ℕ)) → same_path (before b ts) ([] ∷ []) ≡ false
 front_of_nothing b [] = refl
 front_of_nothing b (t ∷ ts) = refl
 
-dot_in_front : (b : ℕ) (ss ts : List (List ℕ)) → same_path ([] ∷ ss) (in_front b ts) ≡ false
-dot_in_front b ss [] = refl
-dot_in_front b ss (t ∷ ts) = refl
+dot_before : (b : ℕ) (ss ts : List (List ℕ)) → same_path ([] ∷ ss) (before b ts) ≡ false
+dot_before b ss [] = refl
+dot_before b ss (t ∷ ts) = refl
 
-front_of_dot : (b : ℕ) (ss ts : List (List ℕ)) → same_path (in_front b ss) ([] ∷ ts) ≡ false
+front_of_dot : (b : ℕ) (ss ts : List (List ℕ)) → same_path (before b ss) ([] ∷ ts) ≡ false
 front_of_dot b [] ts = refl
 front_of_dot b (s ∷ ss) ts = refl
 
@@ -49,15 +49,15 @@ some_piece : (text : List ℕ) → IsSome (split 46 text)
 some_piece [] = tt
 some_piece (b ∷ bs) = one (b == 46) (split 46 bs)
   where
-    one : (same : Bool) (ts : List (List ℕ)) → IsSome (cond same ([] ∷ ts) (in_front b ts))
+    one : (same : Bool) (ts : List (List ℕ)) → IsSome (cond same ([] ∷ ts) (before b ts))
     one true ts = tt
     one false [] = tt
     one false (t ∷ ts) = tt
 
-both_in_front : (x y : ℕ) (ss ts : List (List ℕ)) → IsSome ss → IsSome ts → same_path (in_front x ss) (in_front y ts) ≡ ((x == y) && same_path ss ts)
-both_in_front x y [] ts no_ss some = absurd no_ss
-both_in_front x y (s ∷ ss) [] some no_ts = absurd no_ts
-both_in_front x y (s ∷ ss) (t ∷ ts) some more = and_assoc (x == y) (bytes_eq s t) (same_path ss ts)
+both_before : (x y : ℕ) (ss ts : List (List ℕ)) → IsSome ss → IsSome ts → same_path (before x ss) (before y ts) ≡ ((x == y) && same_path ss ts)
+both_before x y [] ts no_ss some = absurd no_ss
+both_before x y (s ∷ ss) [] some no_ts = absurd no_ts
+both_before x y (s ∷ ss) (t ∷ ts) some more = and_assoc (x == y) (bytes_eq s t) (same_path ss ts)
 
 not_nothing : (ts : List (List ℕ)) → IsSome ts → same_path [] ts ≡ false
 not_nothing [] no_ts = absurd no_ts
@@ -67,20 +67,20 @@ nothing_not : (ts : List (List ℕ)) → IsSome ts → same_path ts [] ≡ false
 nothing_not [] no_ts = absurd no_ts
 nothing_not (t ∷ ts) some = refl
 
-empty_first : (y : ℕ) (same : Bool) (ts : List (List ℕ)) → IsSome ts → same_path ([] ∷ []) (cond same ([] ∷ ts) (in_front y ts)) ≡ false
+empty_first : (y : ℕ) (same : Bool) (ts : List (List ℕ)) → IsSome ts → same_path ([] ∷ []) (cond same ([] ∷ ts) (before y ts)) ≡ false
 empty_first y true ts some = not_nothing ts some
-empty_first y false ts some = nothing_in_front y ts
+empty_first y false ts some = nothing_before y ts
 
-empty_second : (x : ℕ) (same : Bool) (ss : List (List ℕ)) → IsSome ss → same_path (cond same ([] ∷ ss) (in_front x ss)) ([] ∷ []) ≡ false
+empty_second : (x : ℕ) (same : Bool) (ss : List (List ℕ)) → IsSome ss → same_path (cond same ([] ∷ ss) (before x ss)) ([] ∷ []) ≡ false
 empty_second x true ss some = nothing_not ss some
 empty_second x false ss some = front_of_nothing x ss
 
 one_byte_more : (x y : ℕ) (xs ys : List ℕ) (ss ts : List (List ℕ)) (p q : Bool) → (x == 46) ≡ p → (y == 46) ≡ q → IsSome ss → IsSome ts → same_path ss ts ≡ bytes_eq xs ys
-    → same_path (cond p ([] ∷ ss) (in_front x ss)) (cond q ([] ∷ ts) (in_front y ts)) ≡ ((x == y) && bytes_eq xs ys)
+    → same_path (cond p ([] ∷ ss) (before x ss)) (cond q ([] ∷ ts) (before y ts)) ≡ ((x == y) && bytes_eq xs ys)
 one_byte_more x y xs ys ss ts true true p-is q-is some_s some_t same = same ∙ ap (λ b. b && bytes_eq xs ys) (sym (two_dots x y p-is q-is))
-one_byte_more x y xs ys ss ts true false p-is q-is some_s some_t same = dot_in_front y ss ts ∙ ap (λ b. b && bytes_eq xs ys) (sym (dot_and_other x y p-is q-is))
+one_byte_more x y xs ys ss ts true false p-is q-is some_s some_t same = dot_before y ss ts ∙ ap (λ b. b && bytes_eq xs ys) (sym (dot_and_other x y p-is q-is))
 one_byte_more x y xs ys ss ts false true p-is q-is some_s some_t same = front_of_dot x ss ts ∙ ap (λ b. b && bytes_eq xs ys) (sym (other_and_dot x y p-is q-is))
-one_byte_more x y xs ys ss ts false false p-is q-is some_s some_t same = both_in_front x y ss ts some_s some_t ∙ ap (λ b. (x == y) && b) same
+one_byte_more x y xs ys ss ts false false p-is q-is some_s some_t same = both_before x y ss ts some_s some_t ∙ ap (λ b. (x == y) && b) same
 
 pub same_split : (a b : List ℕ) → same_path (split 46 a) (split 46 b) ≡ bytes_eq a b
 same_split [] [] = refl

@@ -7,7 +7,7 @@ use Rattle.ij_text.specs.Numbers.{Written}
 use Rattle.ij_text.specs.Words.{is_name}
 use Rattle.ij_text.specs.Options.{or_else}
 use Rattle.table_lines.specs.Words.{number, plain, decimal, slice as slice_text}
-use Rattle.table_lines.specs.Said.{Words, is, if_there, SaidCond, SaidEntry, SaidSlot, ToWord, ToEntry, SaidAmount, Number, Copy, Plus, Minus, FromEntry, SaidSet, SaidRow, SaidLine, Input, Word, Memory, Output, Change, Run, End, Starts, cond_of, with_rest, old_cond, front_cond, entry_in, entry_slot, slot, number_amount, entry_amount, amount, plus_minus, set_of, set_words, in_first, parts, more_sets, sets, row_of, more_conds, behind_cond, conds_sets, row, starts, input_line, word_line, memory_line, output_line, change_line, run_line, end_line, line_by, line}
+use Rattle.table_lines.specs.Said.{Words, is, if_there, SaidCond, SaidEntry, SaidSlot, ToWord, ToEntry, SaidAmount, Number, Copy, Plus, Minus, FromEntry, SaidSet, SaidRow, SaidLine, Input, Word, Memory, Output, Change, Run, End, Starts, cond_of, with_rest, old_cond, front_cond, entry_in, entry_slot, slot, number_amount, entry_amount, amount, plus_minus, set_of, set_words, in_first, parts, more_sets, sets, row_of, more_conds, after_cond, conds_sets, row, starts, input_line, word_line, memory_line, output_line, change_line, run_line, end_line, line_by, line}
 
 -- ---- what holds of an answer, if there is one
 
@@ -138,17 +138,17 @@ one_cond : (change : Bool) (c : SaidCond) (o : Option SaidRow) → (change ≡ f
 one_cond change c None front h = tt
 one_cond change c (Some r) front h = record { does = h.does; sets = h.sets; present = λ e. All-cons (λ c. c.old ≡ false) c r.conds (front e) (h.present e) }
 
-behind_one : (second change : Bool) (f : SaidCond × Words) (ps : List Words) (o : Option SaidRow) → IsFront change f → IfSome o (IsSaidRow change) → IfSome (behind_cond second f ps o) (IsSaidRow change)
-behind_one second change (c, []) ps o front h = one_cond change c o front h
-behind_one second change (c, w ∷ ws) ps o front h =
+after_one : (second change : Bool) (f : SaidCond × Words) (ps : List Words) (o : Option SaidRow) → IsFront change f → IfSome o (IsSaidRow change) → IfSome (after_cond second f ps o) (IsSaidRow change)
+after_one second change (c, []) ps o front h = one_cond change c o front h
+after_one second change (c, w ∷ ws) ps o front h =
     of_cond (IsSaidRow change) (is (codes "do") w) (more_conds c (row_of (sets second (ws ∷ ps)))) None
     (one_cond change c (row_of (sets second (ws ∷ ps))) front (without_conds change (suc (length ps)) (sets second (ws ∷ ps)) (omega arith) (said_sets second (ws ∷ ps)))) tt
 
 with_conds : (second change : Bool) (ps : List Words) → IfSome (conds_sets second change ps) (IsSaidRow change)
 with_conds second change [] = tt
 with_conds second change (p ∷ ps) =
-    then_there (IsFront change) (IsSaidRow change) (front_cond change p) (λ c. behind_cond second c ps (conds_sets second change ps)) (first_cond change p)
-    (λ c front. behind_one second change c ps (conds_sets second change ps) front (with_conds second change ps))
+    then_there (IsFront change) (IsSaidRow change) (front_cond change p) (λ c. after_cond second c ps (conds_sets second change ps)) (first_cond change p)
+    (λ c front. after_one second change c ps (conds_sets second change ps) front (with_conds second change ps))
 
 said_row : (second change : Bool) (ws : Words) → IfSome (row second change ws) (IsSaidRow change)
 said_row second change [] = tt

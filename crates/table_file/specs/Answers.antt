@@ -47,7 +47,7 @@ pub record IsSoFar (s : SoFar) : Type 0 where
   pub listed : map (split 46) s.paths ≡ map (λ t. t.path) (map seen_table s.tables.items) ++ open_path s.block
   pub small : IfSome s.block (λ b. IsSmall (seen_model b.model))
 
--- a block begins behind tables with these paths, the texts of which are known
+-- a block begins after tables with these paths, the texts of which are known
 abbrev pub GivesBlock : List (List ℕ) → Place → List (List ℕ) → Result RustBlock TableFault → Type 0
 GivesBlock paths at words result =
     (ts : List SeenTable) → map (λ t. t.path) ts ≡ map (split 46) paths → GivesTable seen_block result (new_block at ts (instrument words))

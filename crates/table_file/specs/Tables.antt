@@ -276,7 +276,7 @@ new_block at tables None = Err (TableSyntax at)
 new_block at tables (Some path) =
     cond (has_table path tables) (Err (TableTwice at)) (Ok (record { path = path; at = at; rank = 0; model = empty }))
 
--- what stands behind some lines: whole tables, and a block that isn't ended
+-- what stands after some lines: whole tables, and a block that isn't ended
 pub record Tables : Type 0 where
   pub tables : List SeenTable
   pub block : Option Block
@@ -298,7 +298,7 @@ abbrev pub next_line : Bool → List SeenTable → Option Block → Line → Res
 next_line second tables None l = put_block tables (new_block l.at tables (instrument l.words))
 next_line second tables (Some b) l = put_block tables (block_line second b l)
 
--- behind the last line no block may be open
+-- after the last line no block may be open
 abbrev pub at_end : Place → List SeenTable → Option Block → Result (List SeenTable) TableFault
 at_end end tables None = Ok tables
 at_end end tables (Some b) = Err (TableSyntax end)
@@ -307,18 +307,18 @@ abbrev pub and_then : {A B : Type 0} → Result A TableFault → (A → Result B
 and_then (Ok a) next = next a
 and_then (Err fault) next = Err fault
 
--- the rest of a file behind some lines
+-- the rest of a file after some lines
 abbrev pub read_lines : Bool → Place → Tables → List Line → Result (List SeenTable) TableFault
 read_lines second end t [] = at_end end t.tables t.block
 read_lines second end t (l ∷ ls) = and_then (next_line second t.tables t.block l) (λ u. read_lines second end u ls)
 
-abbrev pub behind_head : Place → Place → Option Bool → List Line → Result (List SeenTable) TableFault
-behind_head end at None ls = Err (TableSyntax at)
-behind_head end at (Some second) ls = read_lines second end no_tables ls
+abbrev pub after_head : Place → Place → Option Bool → List Line → Result (List SeenTable) TableFault
+after_head end at None ls = Err (TableSyntax at)
+after_head end at (Some second) ls = read_lines second end no_tables ls
 
 abbrev pub from_head : Place → List Line → Result (List SeenTable) TableFault
 from_head end [] = Err (TableSyntax end)
-from_head end (l ∷ ls) = behind_head end l.at (version l.words) ls
+from_head end (l ∷ ls) = after_head end l.at (version l.words) ls
 
 -- the tables of a text, or the fault of its first line at fault
 unfoldable pub tables : List ℕ → Result (List SeenTable) TableFault

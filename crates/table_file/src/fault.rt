@@ -6,7 +6,7 @@ use ij_bits::OutOfMemory;
 use ij_text::Place;
 use std::alloc::{AllocError, AllocFailed};
 
-/// Why a text isn't a table file. The place is the first byte of a line's first word, or the one behind the last byte
+/// Why a text isn't a table file. The place is the first byte of a line's first word, or the one after the last byte
 /// where a line is missing.
 #[derive(Clone, Copy, PartialEq, Eq, Debug)]
 pub enum TableFault {

@@ -28,7 +28,7 @@ fn nothing(alloc: Global) -> SoFar
     }
 }
 
-/// Behind the last line no block may be open.
+/// After the last line no block may be open.
 fn at_end(end: Place, so_far: SoFar) -> Result<List<Table>, TableFault>
     ensures { GivesTable seen_tables result (at_end end (seen_so_far so_far).tables (seen_so_far so_far).block) }
 {

@@ -1,8 +1,8 @@
--- Lines, and the place behind the last byte.
+-- Lines, and the place after the last byte.
 use Rattle.std.proofs.Common.{◌≡◌, ℕ, suc, ◌+◌, Bool, true, false, cond, List, [], ◌∷◌, length, refl, ap, sym, ◌∙◌, arith}
 use Rattle.std.specs.Prelude.{◌==◌}
 use Rattle.ij_text.specs.declared.Place.{Place}
-use Rattle.ij_text.specs.Parts.{in_front, split}
+use Rattle.ij_text.specs.Parts.{before, split}
 use Rattle.table_lines.specs.Lines.{lines, line_of, unless_empty, lines_from, end_from, end_of}
 use Rattle.table_lines.specs.Reading.{lines_left}
 
@@ -18,7 +18,7 @@ pub no_lines : (n : ℕ) → lines_left n [] ≡ []
 unfolding lines_left
 no_lines n = refl
 
-some_piece : (n : ℕ) (t : List ℕ) (b : ℕ) (same : Bool) (us : List (List ℕ)) → end_from n (t ∷ cond same ([] ∷ us) (in_front b us)) ≡ end_from (suc n) (cond same ([] ∷ us) (in_front b us))
+some_piece : (n : ℕ) (t : List ℕ) (b : ℕ) (same : Bool) (us : List (List ℕ)) → end_from n (t ∷ cond same ([] ∷ us) (before b us)) ≡ end_from (suc n) (cond same ([] ∷ us) (before b us))
 some_piece n t b true us = refl
 some_piece n t b false [] = refl
 some_piece n t b false (u ∷ us) = refl

@@ -2,7 +2,7 @@
 use Rattle.std.proofs.Common.{◌≡◌, ℕ, suc, ◌≤◌, Bool, true, false, not, cond, List, [], ◌∷◌, length, take, drop, get_or, refl, ap, sym, ◌∙◌, arith}
 use Rattle.std.specs.Prelude.{◌==◌, ◌||◌}
 use Rattle.ij_text.specs.Bytes.{is_line_blank}
-use Rattle.ij_text.specs.Parts.{in_front, longer, split}
+use Rattle.ij_text.specs.Parts.{before, longer, split}
 use Rattle.table_lines.specs.declared.bytes.Class.{Class}
 use Rattle.table_lines.specs.declared.bytes.Class.TheVariants.{Blank, Word, Shown, Until}
 use Rattle.table_lines.specs.Lines.{shown, is_mark, in_word, goes_on, words, blanks}
@@ -18,35 +18,35 @@ run_stops class text rest b is stops = ap (run_length class) is ∙ ap (λ k. co
 
 -- ---- pieces
 
-abbrev behind : ℕ → List ℕ → List (List ℕ)
-behind at [] = []
-behind at (c ∷ more) = split at more
+abbrev after : ℕ → List ℕ → List (List ℕ)
+after at [] = []
+after at (c ∷ more) = split at more
 
-split_byte : (at b : ℕ) (bs : List ℕ) (same : Bool) → (b == at) ≡ same → split at bs ≡ take (run_length (Until at) bs) bs ∷ behind at (drop (run_length (Until at) bs) bs)
-    → split at (b ∷ bs) ≡ take (run_length (Until at) (b ∷ bs)) (b ∷ bs) ∷ behind at (drop (run_length (Until at) (b ∷ bs)) (b ∷ bs))
+split_byte : (at b : ℕ) (bs : List ℕ) (same : Bool) → (b == at) ≡ same → split at bs ≡ take (run_length (Until at) bs) bs ∷ after at (drop (run_length (Until at) bs) bs)
+    → split at (b ∷ bs) ≡ take (run_length (Until at) (b ∷ bs)) (b ∷ bs) ∷ after at (drop (run_length (Until at) (b ∷ bs)) (b ∷ bs))
 split_byte at b bs true is more =
-    ap (λ k. cond k ([] ∷ split at bs) (in_front b (split at bs))) is
-    ∙ sym (ap (λ k. take (cond (not k) (suc (run_length (Until at) bs)) 0) (b ∷ bs) ∷ behind at (drop (cond (not k) (suc (run_length (Until at) bs)) 0) (b ∷ bs))) is)
+    ap (λ k. cond k ([] ∷ split at bs) (before b (split at bs))) is
+    ∙ sym (ap (λ k. take (cond (not k) (suc (run_length (Until at) bs)) 0) (b ∷ bs) ∷ after at (drop (cond (not k) (suc (run_length (Until at) bs)) 0) (b ∷ bs))) is)
 split_byte at b bs false is more =
-    ap (λ k. cond k ([] ∷ split at bs) (in_front b (split at bs))) is
-    ∙ ap (in_front b) more
-    ∙ sym (ap (λ k. take (cond (not k) (suc (run_length (Until at) bs)) 0) (b ∷ bs) ∷ behind at (drop (cond (not k) (suc (run_length (Until at) bs)) 0) (b ∷ bs))) is)
+    ap (λ k. cond k ([] ∷ split at bs) (before b (split at bs))) is
+    ∙ ap (before b) more
+    ∙ sym (ap (λ k. take (cond (not k) (suc (run_length (Until at) bs)) 0) (b ∷ bs) ∷ after at (drop (cond (not k) (suc (run_length (Until at) bs)) 0) (b ∷ bs))) is)
 
-split_run : (at : ℕ) (text : List ℕ) → split at text ≡ take (run_length (Until at) text) text ∷ behind at (drop (run_length (Until at) text) text)
+split_run : (at : ℕ) (text : List ℕ) → split at text ≡ take (run_length (Until at) text) text ∷ after at (drop (run_length (Until at) text) text)
 split_run at [] = refl
 split_run at (b ∷ bs) = split_byte at b bs (b == at) refl (split_run at bs)
 
 pub last_piece : (at : ℕ) (text : List ℕ) (n : ℕ) → n ≡ run_length (Until at) text → drop n text ≡ [] → split at text ≡ take n text ∷ []
 last_piece at text n is none =
-    split_run at text ∙ ap (λ k. take k text ∷ behind at (drop k text)) (sym is) ∙ ap (λ r. take n text ∷ behind at r) none
+    split_run at text ∙ ap (λ k. take k text ∷ after at (drop k text)) (sym is) ∙ ap (λ r. take n text ∷ after at r) none
 
-behind_one : (at : ℕ) (rest : List ℕ) → 1 ≤ length rest → behind at rest ≡ split at (drop 1 rest)
-behind_one at [] some = absurd (omega (arith, some))
-behind_one at (c ∷ more) some = refl
+after_one : (at : ℕ) (rest : List ℕ) → 1 ≤ length rest → after at rest ≡ split at (drop 1 rest)
+after_one at [] some = absurd (omega (arith, some))
+after_one at (c ∷ more) some = refl
 
 pub first_piece : (at : ℕ) (text : List ℕ) (n : ℕ) → n ≡ run_length (Until at) text → 1 ≤ length (drop n text) → split at text ≡ take n text ∷ split at (drop 1 (drop n text))
 first_piece at text n is some =
-    split_run at text ∙ ap (λ k. take k text ∷ behind at (drop k text)) (sym is) ∙ ap (λ r. take n text ∷ r) (behind_one at (drop n text) some)
+    split_run at text ∙ ap (λ k. take k text ∷ after at (drop k text)) (sym is) ∙ ap (λ r. take n text ∷ r) (after_one at (drop n text) some)
 
 -- ---- comments and blanks
 
@@ -67,10 +67,10 @@ blank_byte : (b : ℕ) (bs : List ℕ) (k : Bool) (other : List (List ℕ)) → 
 blank_byte b bs true other e is whole = sym whole ∙ e
 blank_byte b bs false other e is whole = refl
 
-pub behind_blanks_is : (text : List ℕ) → words text ≡ words (drop (run_length Blank text) text)
-behind_blanks_is [] = refl
-behind_blanks_is (b ∷ bs) =
-    blank_byte b bs (is_line_blank b) (cond (is_mark b) ((b ∷ []) ∷ words bs) (longer (goes_on bs) b (words bs))) (behind_blanks_is bs) refl refl
+pub after_blanks_is : (text : List ℕ) → words text ≡ words (drop (run_length Blank text) text)
+after_blanks_is [] = refl
+after_blanks_is (b ∷ bs) =
+    blank_byte b bs (is_line_blank b) (cond (is_mark b) ((b ∷ []) ∷ words bs) (longer (goes_on bs) b (words bs))) (after_blanks_is bs) refl refl
 
 blanks_end : (b : ℕ) (bs : List ℕ) (k : Bool) → is_line_blank b ≡ k → run_length Blank (drop (run_length Blank bs) bs) ≡ 0 → run_length Blank (drop (cond k (suc (run_length Blank bs)) 0) (b ∷ bs)) ≡ 0
 blanks_end b bs true is more = more
@@ -90,7 +90,7 @@ of_word false false p q r h = refl
 abbrev Begins : List ℕ → Type 0
 Begins text = words text ≡ take (run_length Word text) text ∷ words (drop (run_length Word text) text)
 
--- a byte in front of another one
+-- a byte before another one
 next_byte : (b c : ℕ) (cs : List ℕ) (k : Bool) → in_word c ≡ k → in_word b ≡ true → words (b ∷ c ∷ cs) ≡ longer (in_word c) b (words (c ∷ cs)) → (in_word c ≡ true → Begins (c ∷ cs)) → Begins (b ∷ c ∷ cs)
 next_byte b c cs true is h first more =
     let n = run_length Word (c ∷ cs) in
@@ -118,7 +118,7 @@ neither true y e f = absurd (cc)
 neither false true e f = absurd (cc)
 neither false false e f = refl
 
--- a word that is no mark, behind all blanks
+-- a word that is no mark, after all blanks
 pub word_front : (text : List ℕ) (n : ℕ) → 1 ≤ length text → run_length Blank text ≡ 0 → is_mark (get_or text 0 0) ≡ false → n ≡ run_length Word text → words text ≡ take n text ∷ words (drop n text)
 word_front [] n some no_blank no_mark long = absurd (omega (arith, some))
 word_front (x ∷ xs) n some no_blank no_mark long =

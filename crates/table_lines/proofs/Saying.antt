@@ -91,8 +91,8 @@ fewer_digits n length most small few =
 pub none_left : {T : Type 0} (p : T → Bool) (xs : List T) (i : ℕ) → length xs ≤ i → list_any p (drop i xs) ≡ list_any p xs → false ≡ list_any p xs
 none_left p xs i past so_far = sym (ap (list_any p) (drop_of_length-le xs past)) ∙ so_far
 
-pub none_behind : {T : Type 0} (p : T → Bool) (xs : List T) (i : ℕ) (all : Bool) → length xs ≤ i → list_any p (drop i xs) ≡ all → false ≡ all
-none_behind p xs i all past so_far = sym (ap (list_any p) (drop_of_length-le xs past)) ∙ so_far
+pub none_after : {T : Type 0} (p : T → Bool) (xs : List T) (i : ℕ) (all : Bool) → length xs ≤ i → list_any p (drop i xs) ≡ all → false ≡ all
+none_after p xs i all past so_far = sym (ap (list_any p) (drop_of_length-le xs past)) ∙ so_far
 
 pub none_past : {T : Type 0} (p : T → Bool) (xs : List T) (i : ℕ) → length xs ≤ i → false ≡ list_any p (drop i xs)
 none_past p xs i past = sym (ap (list_any p) (drop_of_length-le xs past))

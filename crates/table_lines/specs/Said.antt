@@ -73,12 +73,12 @@ abbrev pub with_rest : Words → Option SaidCond → Option (SaidCond × Words)
 with_rest ws None = None
 with_rest ws (Some c) = Some (c, ws)
 
--- three words behind `old`
+-- three words after `old`
 abbrev pub old_cond : List ℕ → List ℕ → Words → Option (SaidCond × Words)
 old_cond name equals [] = None
 old_cond name equals (n ∷ ws) = with_rest ws (cond_of true name equals n)
 
--- the condition at the front, and the words behind it; in front of a `=` the word `old` is a name
+-- the condition at the front, and the words after it; before a `=` the word `old` is a name
 abbrev pub front_cond : Bool → Words → Option (SaidCond × Words)
 front_cond change [] = None
 front_cond change (a ∷ []) = None
@@ -141,7 +141,7 @@ set_words second (a ∷ e ∷ b ∷ sign ∷ n ∷ u ∷ us) = None
 
 -- ---- rows
 
--- a word in front of a list of parts belongs to the first of them
+-- a word before a list of parts belongs to the first of them
 abbrev pub in_first : List ℕ → List Words → List Words
 in_first w [] = (w ∷ []) ∷ []
 in_first w (p ∷ ps) = (w ∷ p) ∷ ps
@@ -169,14 +169,14 @@ abbrev pub more_conds : SaidCond → Option SaidRow → Option SaidRow
 more_conds c None = None
 more_conds c (Some row) = Some (record row { conds = c ∷ row.conds })
 
--- behind a condition stands the next part, or `do` and the first assignment
-abbrev pub behind_cond : Bool → SaidCond × Words → List Words → Option SaidRow → Option SaidRow
-behind_cond second (c, []) ps rest = more_conds c rest
-behind_cond second (c, w ∷ ws) ps rest = cond (is (codes "do") w) (more_conds c (row_of (sets second (ws ∷ ps)))) None
+-- after a condition stands the next part, or `do` and the first assignment
+abbrev pub after_cond : Bool → SaidCond × Words → List Words → Option SaidRow → Option SaidRow
+after_cond second (c, []) ps rest = more_conds c rest
+after_cond second (c, w ∷ ws) ps rest = cond (is (codes "do") w) (more_conds c (row_of (sets second (ws ∷ ps)))) None
 
 abbrev pub conds_sets : Bool → Bool → List Words → Option SaidRow
 conds_sets second change [] = None
-conds_sets second change (p ∷ ps) = if_there (front_cond change p) (λ c. behind_cond second c ps (conds_sets second change ps))
+conds_sets second change (p ∷ ps) = if_there (front_cond change p) (λ c. after_cond second c ps (conds_sets second change ps))
 
 -- `do` and assignments, or `when`, conditions, `do` and assignments
 abbrev pub row : Bool → Bool → Words → Option SaidRow

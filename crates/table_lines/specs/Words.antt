@@ -78,7 +78,7 @@ hex least most text =
 
 -- ---- brackets
 
--- the text between `]` (93) at the end and what stands in front
+-- the text between `]` (93) at the end and what stands before
 abbrev pub closed : List (List ℕ) → Option (List ℕ)
 closed [] = None
 closed (inside ∷ []) = None
@@ -96,7 +96,7 @@ opened (name ∷ []) = None
 opened (name ∷ rest ∷ []) = named name (closed (split 93 rest))
 opened (name ∷ rest ∷ t ∷ ts) = None
 
--- a name and what stands in brackets (91, 93) behind it
+-- a name and what stands in brackets (91, 93) after it
 abbrev pub bracketed : List ℕ → Option (List ℕ × List ℕ)
 bracketed text = opened (split 91 text)
 

@@ -119,7 +119,7 @@ fn run_line<'a>(row: Option<SaidRow<'a>>) -> Option<SaidLine<'a>>
     Some(SaidLine::Run(row))
 }
 
-/// A line of a block, by its first word and the words behind it.
+/// A line of a block, by its first word and the words after it.
 fn line_by<'a>(
     alloc: Global,
     second: bool,

@@ -51,43 +51,40 @@ pub(crate) fn run_len(text: &[u8], class: Class) -> usize
     n
 }
 
-/// A piece of a text, and the text behind the byte that ends it, if one does.
+/// A piece of a text, and the text after the byte that ends it, if one does.
 #[derive(Clone, Copy)]
 pub struct Cut<'a> {
-    /// The bytes in front.
+    /// The bytes before.
     pub front: &'a [u8],
-    /// The bytes behind the one that ends it.
-    pub behind: Option<&'a [u8]>,
+    /// The bytes after the one that ends it.
+    pub after: Option<&'a [u8]>,
 }
 
-/// The text in front of the first byte of a kind.
+/// The text before the first byte of a kind.
 pub fn cut_at<'a>(text: &'a [u8], at: u8) -> Cut<'a>
-    ensures pieces { MatchOption result.behind (split at text.now ≡ result.front.now ∷ []) (λ rest. split at text.now ≡ result.front.now ∷ split at rest.now) }
-    ensures whole { MatchOption result.behind (result.front.now ≡ text.now) (λ rest. length result.front.now + 1 + length rest.now ≡ length text.now) }
+    ensures pieces { MatchOption result.after (split at text.now ≡ result.front.now ∷ []) (λ rest. split at text.now ≡ result.front.now ∷ split at rest.now) }
+    ensures whole { MatchOption result.after (result.front.now ≡ text.now) (λ rest. length result.front.now + 1 + length rest.now ≡ length text.now) }
 {
-    let (front, behind) = text.split_at(run_len(text, Class::Until(at)));
-    if behind.is_empty() {
-        return Cut {
-            front,
-            behind: None,
-        };
+    let (front, after) = text.split_at(run_len(text, Class::Until(at)));
+    if after.is_empty() {
+        return Cut { front, after: None };
     }
-    let (_, rest) = behind.split_at(1);
+    let (_, rest) = after.split_at(1);
     Cut {
         front,
-        behind: Some(rest),
+        after: Some(rest),
     }
 }
 
-/// A word of a text, and the text behind it.
+/// A word of a text, and the text after it.
 #[derive(Clone, Copy)]
 pub(crate) struct Piece<'a> {
     pub word: &'a [u8],
     pub rest: &'a [u8],
 }
 
-/// The text behind the blanks at its front.
-fn behind_blanks(text: &[u8]) -> &[u8]
+/// The text after the blanks at its front.
+fn after_blanks(text: &[u8]) -> &[u8]
     ensures words { words text.now ≡ words result.now }
     ensures stops { run_length Class.Blank result.now ≡ 0 }
     ensures shorter { length result.now ≤ length text.now }
@@ -96,7 +93,7 @@ fn behind_blanks(text: &[u8]) -> &[u8]
     rest
 }
 
-/// The length of the first word, where no blank stands in front.
+/// The length of the first word, where no blank stands before.
 fn word_len(text: &[u8]) -> usize
     requires some { 1 ≤ length text.now }
     requires no_blank { run_length Class.Blank text.now ≡ 0 }
@@ -116,7 +113,7 @@ pub(crate) fn next_word<'a>(text: &'a [u8]) -> Option<Piece<'a>>
     ensures value { MatchOption result (words text.now ≡ []) (λ p. words text.now ≡ p.word.now ∷ words p.rest.now) }
     ensures shorter { IfSome result (λ p. length p.rest.now < length text.now) }
 {
-    let text = behind_blanks(text);
+    let text = after_blanks(text);
     if text.is_empty() {
         return None;
     }

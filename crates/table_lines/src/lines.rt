@@ -15,7 +15,7 @@ pub struct Line<'a> {
     pub at: Place,
     /// The line without its comment.
     pub text: &'a [u8],
-    /// The text behind the line.
+    /// The text after the line.
     pub rest: &'a [u8],
     /// The number of the next line.
     pub number: u32,
@@ -50,24 +50,24 @@ pub fn next_line<'a>(text: &'a [u8], number: u32) -> Option<Line<'a>>
     let mut rest = text;
     let mut number = number;
     while !rest.is_empty() {
-        let (line, behind) = cut_line(rest);
+        let (line, after) = cut_line(rest);
         let text = shown(line);
         if next_word(text).is_some() {
             let at = first_place(number, line);
             return Some(Line {
                 at,
                 text,
-                rest: behind,
+                rest: after,
                 number: number + 1,
             });
         }
-        rest = behind;
+        rest = after;
         number += 1;
     }
     None
 }
 
-/// The first line of a text, and the text behind the line feed that ends it.
+/// The first line of a text, and the text after the line feed that ends it.
 fn cut_line<'a>(text: &'a [u8]) -> (&'a [u8], &'a [u8])
     requires { 1 ≤ length text.now }
     ensures lines { (n : ℕ) → lines_left n text.now ≡ unless_empty (line_of n result.0.now) (lines_left (suc n) result.1.now) }
@@ -75,21 +75,21 @@ fn cut_line<'a>(text: &'a [u8]) -> (&'a [u8], &'a [u8])
     ensures front { length result.0.now ≤ length text.now }
 {
     let cut = cut_at(text, b'\n');
-    match cut.behind {
-        Some(behind) => (cut.front, behind),
+    match cut.after {
+        Some(after) => (cut.front, after),
         None => (text, &[]),
     }
 }
 
-/// The place behind the last byte of a text.
+/// The place after the last byte of a text.
 pub fn end_place(text: &[u8]) -> Place
     requires { length text.now + 2 < 2 ^ 32 }
     ensures { result ≡ end_of text.now }
 {
     let mut rest = text;
     let mut line = 1;
-    while let Some(behind) = cut_at(rest, b'\n').behind {
-        rest = behind;
+    while let Some(after) = cut_at(rest, b'\n').after {
+        rest = after;
         line += 1;
     }
     Place {

@@ -6,14 +6,14 @@ ghost use Rattle.table_lines.specs.Parted.{part_length, part_list};
 
 use crate::word::is;
 
-/// Words up to a comma, and those behind it, where there is one.
+/// Words up to a comma, and those after it, where there is one.
 #[derive(Clone, Copy)]
 pub(crate) struct Part<'w, 'a> {
     pub front: &'w [&'a [u8]],
-    pub behind: Option<&'w [&'a [u8]]>,
+    pub after: Option<&'w [&'a [u8]]>,
 }
 
-/// How many words stand in front of the first comma.
+/// How many words stand before the first comma.
 fn part_len(words: &[&[u8]]) -> usize
     ensures value { result ≡ part_length (texts words.now) }
     ensures within { result ≤ length words.now }
@@ -31,18 +31,15 @@ fn part_len(words: &[&[u8]]) -> usize
 /// The first part of a row.
 pub(crate) fn next_part<'w, 'a>(words: &'w [&'a [u8]]) -> Part<'w, 'a>
     ensures parts { part_list result ≡ parts (texts words.now) }
-    ensures shorter { IfSome result.behind (λ rest. length rest.now < length words.now) }
+    ensures shorter { IfSome result.after (λ rest. length rest.now < length words.now) }
 {
-    let (front, behind) = words.split_at(part_len(words));
-    if behind.is_empty() {
-        return Part {
-            front,
-            behind: None,
-        };
+    let (front, after) = words.split_at(part_len(words));
+    if after.is_empty() {
+        return Part { front, after: None };
     }
-    let (_, rest) = behind.split_at(1);
+    let (_, rest) = after.split_at(1);
     Part {
         front,
-        behind: Some(rest),
+        after: Some(rest),
     }
 }

@@ -7,7 +7,7 @@ ghost use Rattle.std.specs.List.{list_all};
 ghost use Rattle.ij_text.specs.Parts.{split};
 ghost use Rattle.ij_text.specs.Options.{both};
 ghost use Rattle.table_lines.specs.Said.{cond_of, old_cond, starts_of, with_reset, front_cond, entry_of, entry_in, slot, amount, entry_amount, plus_minus, set_words, parts, sets, conds_sets, row, row_of, starts, instrument, instrument_text, version_of, version};
-ghost use Rattle.table_lines.specs.Parted.{part_list, behind_parts, with_conds, do_sets};
+ghost use Rattle.table_lines.specs.Parted.{part_list, after_parts, with_conds, do_sets};
 ghost use Rattle.table_lines.specs.SeenSaid.{seen_front, seen_bracketed, seen_entry, seen_slot, seen_amount, seen_cond, seen_set, seen_row, seen_starts, seen_slice};
 
 use crate::bytes::cut_at;
@@ -101,7 +101,7 @@ pub enum SaidLine<'a> {
     End,
 }
 
-/// A condition and the words behind it.
+/// A condition and the words after it.
 #[derive(Drop)]
 struct FrontCond<'a, 'w> {
     cond: SaidCond<'a>,
@@ -126,20 +126,20 @@ fn cond_of<'a>(
     }
 }
 
-/// A name and what stands in brackets behind it.
+/// A name and what stands in brackets after it.
 #[derive(Clone, Copy)]
 pub(crate) struct InBrackets<'a> {
     pub name: &'a [u8],
     pub inside: &'a [u8],
 }
 
-/// The text in front of the `]` that ends it.
+/// The text before the `]` that ends it.
 fn closed<'a>(text: &'a [u8]) -> Option<&'a [u8]>
     ensures { option_map (λ inside. inside.now) result ≡ closed (split 93 text.now) }
 {
     let cut = cut_at(text, b']');
-    let behind = cut.behind?;
-    if behind.is_empty() {
+    let after = cut.after?;
+    if after.is_empty() {
         Some(cut.front)
     } else {
         None
@@ -161,9 +161,9 @@ fn bracketed<'a>(text: &'a [u8]) -> Option<InBrackets<'a>>
     ensures { option_map seen_bracketed result ≡ bracketed text.now }
 {
     let cut = cut_at(text, b'[');
-    let rest = cut.behind?;
+    let rest = cut.after?;
     let second = cut_at(rest, b'[');
-    match second.behind {
+    match second.after {
         Some(_) => None,
         None => opened(cut.front, rest),
     }
@@ -375,8 +375,8 @@ fn sets<'w, 'a>(
             return Ok(None);
         };
         all.push(set)?;
-        match part.behind {
-            Some(behind) => part = next_part(behind),
+        match part.after {
+            Some(after) => part = next_part(after),
             None => return Ok(Some(all)),
         }
     }
@@ -474,15 +474,15 @@ fn bounded<'a>(alloc: Global, found: InBrackets<'a>) -> Result<Option<Slice<'a>>
     ensures { IfOk result (λ s. option_map seen_slice s ≡ part_of found.entry.name.now (two_decimals (split 58 found.entry.inside.now))) }
 {
     let cut = cut_at(found.inside, b':');
-    let Some(behind) = cut.behind else {
+    let Some(after) = cut.after else {
         return Ok(None);
     };
-    let second = cut_at(behind, b':');
-    match second.behind {
+    let second = cut_at(after, b':');
+    match second.after {
         Some(_) => Ok(None),
         None => {
             let left = decimal(alloc, cut.front)?;
-            let right = decimal(alloc, behind)?;
+            let right = decimal(alloc, after)?;
             Ok(bounds(found.name, left, right))
         }
     }
@@ -523,20 +523,20 @@ fn row_with<'w, 'a>(
     }
 }
 
-/// `do` and assignments behind these conditions.
+/// `do` and assignments after these conditions.
 fn do_sets<'w, 'a>(
     alloc: Global,
     second: bool,
     conds: Vec<SaidCond<'a>>,
     words: &'w [&'a [u8]],
-    behind: Option<&'w [&'a [u8]]>,
+    after: Option<&'w [&'a [u8]]>,
 ) -> Result<Option<SaidRow<'a>>, OutOfMemory>
-    ensures { IfOk result (λ o. option_map seen_row o ≡ do_sets second (map seen_cond conds.entry.items) (texts words.now) (behind_parts behind.entry)) }
+    ensures { IfOk result (λ o. option_map seen_row o ≡ do_sets second (map seen_cond conds.entry.items) (texts words.now) (after_parts after.entry)) }
 {
     match words {
         [w, front @ ..] => {
             if is(w, b"do") {
-                return row_with(alloc, second, conds, Part { front, behind });
+                return row_with(alloc, second, conds, Part { front, after });
             }
             Ok(None)
         }
@@ -544,7 +544,7 @@ fn do_sets<'w, 'a>(
     }
 }
 
-/// Conditions, and behind the last one `do` and assignments.
+/// Conditions, and after the last one `do` and assignments.
 fn conds_sets<'w, 'a>(
     alloc: Global,
     second: bool,
@@ -562,10 +562,10 @@ fn conds_sets<'w, 'a>(
         let FrontCond { cond, rest } = front;
         conds.push(cond)?;
         if !rest.is_empty() {
-            return do_sets(alloc, second, conds, rest, part.behind);
+            return do_sets(alloc, second, conds, rest, part.after);
         }
-        match part.behind {
-            Some(behind) => part = next_part(behind),
+        match part.after {
+            Some(after) => part = next_part(after),
             None => return Ok(None),
         }
     }
@@ -620,8 +620,8 @@ fn pieces<'a>(alloc: Global, text: &'a [u8]) -> Result<Vec<&'a [u8]>, OutOfMemor
     loop {
         let cut = cut_at(text, b'.');
         all.push(cut.front)?;
-        match cut.behind {
-            Some(behind) => text = behind,
+        match cut.after {
+            Some(after) => text = after,
             None => return Ok(all),
         }
     }

@@ -73,11 +73,11 @@ first_of : {A : Type 0} (x : Bool) (p q s : A) → x ≡ true → p ≡ s → co
 first_of true p q s h e = e
 first_of false p q s h e = absurd cc
 
-said_behind : (a b : ℕ) (ds : List ℕ) → ((a == 48) && (b == 98)) ≡ true → ds ≢ [] → list_all is_binary ds ≡ true → number_of_text (a ∷ b ∷ ds) ≡ Some (InBits (bits_said ds))
-said_behind a b ds begins some h = first_of ((a == 48) && (b == 98)) _ _ (Some (InBits (bits_said ds))) begins (search (said_bits, rules))
+said_after : (a b : ℕ) (ds : List ℕ) → ((a == 48) && (b == 98)) ≡ true → ds ≢ [] → list_all is_binary ds ≡ true → number_of_text (a ∷ b ∷ ds) ≡ Some (InBits (bits_said ds))
+said_after a b ds begins some h = first_of ((a == 48) && (b == 98)) _ _ (Some (InBits (bits_said ds))) begins (search (said_bits, rules))
 
 said_binary : (ds : List ℕ) → ds ≢ [] → list_all is_binary ds ≡ true → number_of_text (48 ∷ 98 ∷ ds) ≡ Some (InBits (bits_said ds))
-said_binary ds some h = said_behind 48 98 ds refl some h
+said_binary ds some h = said_after 48 98 ds refl some h
 
 digit_letter : (v c : Bool) → is_letter (digit v c) ≡ true
 digit_letter true true = refl

@@ -13,7 +13,7 @@ use Rattle.instruments.specs.Models.{IsWidth, IsWord, IsMemory, IsOut, IsRow, Is
 use Rattle.table_lines.specs.Said.{SaidLine, Input, Word, Memory, Change, Run, End, line, instrument, version}
 use Rattle.table_file.specs.declared.fault.TableFault.{TableFault}
 use Rattle.table_file.specs.declared.fault.TableFault.TheVariants.{TableSyntax, TableName, TableWidth, TableLimit, TableTwice}
-use Rattle.table_file.specs.Tables.{SeenTable, Block, Tables, stands_in, name_fault, width_fault, limit_fault, with_line, rank, line_said, empty, same_path, has_table, new_block, is_end, put_block, and_then, read_lines, behind_head, from_head, tables}
+use Rattle.table_file.specs.Tables.{SeenTable, Block, Tables, stands_in, name_fault, width_fault, limit_fault, with_line, rank, line_said, empty, same_path, has_table, new_block, is_end, put_block, and_then, read_lines, after_head, from_head, tables}
 use Rattle.bench_file.specs.Written.{input_text, word_text, memory_text, out_text, row_text, path_text, model_text, table_text, tables_text}
 use Rattle.table_writer.specs.Again.{IsName, HasNames, IsTable, without_place, AreReadAgain}
 use Rattle.table_writer.proofs.Lexed.{first_true, Reads, Always, IsLine, one_word, line_last, always_line, line_read}
@@ -38,7 +38,7 @@ in_block ts b = record { tables = ts; block = Some b }
 abbrev between : List SeenTable → Tables
 between ts = record { tables = ts; block = None }
 
--- reading comes to the rest of a text in a block with this model, behind lines of at most this kind
+-- reading comes to the rest of a text in a block with this model, after lines of at most this kind
 pub record ComesTo (high : ℕ) (m : SeenModel) (p : List (List ℕ)) (at end : Place) (ts : List SeenTable) (rest : List ℕ) (result : Result (List SeenTable) TableFault) : Type 0 where
   next : ℕ
   kind : ℕ
@@ -284,7 +284,7 @@ end_step p at kind m ts low end number rest =
 abbrev read_at : SeenTable → Place → SeenTable
 read_at t at = record { path = t.path; at = at; model = t.model }
 
--- reading comes behind a block
+-- reading comes after a block
 record IsBlockRead (t : SeenTable) (ts : List SeenTable) (end : Place) (rest : List ℕ) (result : Result (List SeenTable) TableFault) : Type 0 where
   next : ℕ
   place : Place
@@ -332,10 +332,10 @@ no_table p (t ∷ ts) none = or_from (same_path p t.path) (has_table p ts) (othe
     one_further : Contains (map (λ t. t.path) ts) p → Contains (map (λ t. t.path) (t ∷ ts)) p
     one_further (k, lt, e) = (suc k, omega (arith, lt), e)
 
-not_in_front : {A : Type 0} (xs : List A) (n : A) (ys : List A) → AreDifferent (xs ++ n ∷ ys) → Contains xs n → ⊥
-not_in_front [] n ys h (k, lt, e) = omega (arith, lt)
-not_in_front (x ∷ xs) n ys h (zero, lt, e) = h.0 (Contains-append_right xs (n ∷ ys) x (zero, omega arith, sym e))
-not_in_front (x ∷ xs) n ys h (suc k, lt, e) = not_in_front xs n ys h.1 (k, omega (arith, lt), e)
+not_before : {A : Type 0} (xs : List A) (n : A) (ys : List A) → AreDifferent (xs ++ n ∷ ys) → Contains xs n → ⊥
+not_before [] n ys h (k, lt, e) = omega (arith, lt)
+not_before (x ∷ xs) n ys h (zero, lt, e) = h.0 (Contains-append_right xs (n ∷ ys) x (zero, omega arith, sym e))
+not_before (x ∷ xs) n ys h (suc k, lt, e) = not_before xs n ys h.1 (k, omega (arith, lt), e)
 
 -- ---- files
 
@@ -349,7 +349,7 @@ all_read : (done us : List SeenTable) → All IsTable us → AreDifferent (map (
 all_read done [] all differ end number = record { given = done; is = refl; same = sym (append-nil (map without_place done)) }
 all_read done (t ∷ ts) all differ end number =
     let paths = map (λ (u : SeenTable). u.path) done in
-    let fresh = no_table t.path done (not_in_front paths t.path (map (λ (u : SeenTable). u.path) ts) differ) in
+    let fresh = no_table t.path done (not_before paths t.path (map (λ (u : SeenTable). u.path) ts) differ) in
     let x = block_read t (All-head IsTable t ts all) done fresh end number (flat_map table_text ts) in
     let new = read_at t x.place in
     let moved : map (λ (u : SeenTable). u.path) (done ++ new ∷ []) ++ map (λ (u : SeenTable). u.path) ts ≡ paths ++ t.path ∷ map (λ (u : SeenTable). u.path) ts =
@@ -379,6 +379,6 @@ file_read ts all differ =
     let x = all_read [] ts all differ end 2 in (
       x.given,
       ap (from_head end) (line_read (codes "tables 2\n") (codes "tables") (codes "2" ∷ []) version_line 1 rest)
-          ∙ ap (λ (o : Option Bool). behind_head end (line_place 1 version_line.front) o (lines_from 2 (lines rest))) version_said ∙ x.is,
+          ∙ ap (λ (o : Option Bool). after_head end (line_place 1 version_line.front) o (lines_from 2 (lines rest))) version_said ∙ x.is,
       x.same,
     )

@@ -21,7 +21,7 @@ use Rattle.table_file.specs.Tables.{word_named, input_named, word_or_input, oper
 use Rattle.bench_file.specs.Written.{word_name, input_name, memory_name, operand_text, compared_text, cond_text}
 use Rattle.table_writer.specs.Pieces.{operand_name}
 use Rattle.table_writer.specs.Again.{IsName, HasNames}
-use Rattle.table_writer.proofs.Lexed.{is_letter, Reads, Always, Parts, join, behind, part, one_word}
+use Rattle.table_writer.proofs.Lexed.{is_letter, Reads, Always, Parts, join, after, part, one_word}
 use Rattle.table_writer.proofs.Named.{name_word, name_letters}
 use Rattle.table_writer.proofs.Binary.{IsSaid, compared, compared_again}
 use Rattle.table_writer.proofs.Found.{other_text, of_front, of_back, in_one_part, no_number, number_found}
@@ -140,7 +140,7 @@ cond_reads_of : (m : SeenModel) (o : Operand) (text : List ℕ) → is_name (ope
 cond_reads_of m (Word k) text good t = name_equals (word_name m k) text good t
 cond_reads_of m (Input k) text good t = name_equals (input_name m k) text good t
 cond_reads_of m (Old k) text good t =
-    behind (codes "old ") (input_name m k ++ (codes " = " ++ text)) (codes "old" ∷ []) (input_name m k ∷ codes "=" ∷ text ∷ []) old_word (name_equals (input_name m k) text good t)
+    after (codes "old ") (input_name m k ++ (codes " = " ++ text)) (codes "old" ∷ []) (input_name m k ∷ codes "=" ∷ text ∷ []) old_word (name_equals (input_name m k) text good t)
 
 cond_clean_of : (o : Operand) (name text : List ℕ) → is_name name ≡ true → list_all is_letter text ≡ true → list_all no_comma (cond_words_of o name text) ≡ true
 cond_clean_of o name text good letters = one o (letters_no_comma name (name_letters name good)) (letters_no_comma text letters)

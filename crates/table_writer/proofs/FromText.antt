@@ -7,7 +7,7 @@ use Rattle.std.proofs.lemmas.List.Elements.{All-nil, All-cons, All-push}
 use Rattle.ij_bits.specs.Different.{AreDifferent}
 use Rattle.ij_text.specs.declared.Place.{Place}
 use Rattle.ij_text.specs.Words.{is_name}
-use Rattle.ij_text.specs.Parts.{in_front, split}
+use Rattle.ij_text.specs.Parts.{before, split}
 use Rattle.table_lines.specs.Lines.{Line, lines_of, end_of}
 use Rattle.table_lines.specs.Words.{slice, path as path_read, decimal as decimal_read}
 use Rattle.instruments.specs.Seen.{SeenModel}
@@ -15,7 +15,7 @@ use Rattle.instruments.specs.Models.{IsModel}
 use Rattle.table_lines.specs.Said.{Words, is, SaidLine, Input, Word, Memory, Output, Change, Run, End, SaidRow, starts, if_there, input_line, word_line, memory_line, output_line, change_line, run_line, end_line, row, line, instrument, instrument_text, version}
 use Rattle.table_file.specs.declared.fault.TableFault.{TableFault}
 use Rattle.table_file.specs.declared.fault.TableFault.TheVariants.{TableSyntax, TableName, TableWidth, TableLimit, TableTwice}
-use Rattle.table_file.specs.Tables.{SeenTable, Block, Tables, with_line, out_said, name_fault, width_fault, limit_fault, rank, empty, line_said, block_line, table_of, same_path, has_table, new_block, no_tables, is_end, put_block, next_line, at_end, read_lines, behind_head, from_head, tables}
+use Rattle.table_file.specs.Tables.{SeenTable, Block, Tables, with_line, out_said, name_fault, width_fault, limit_fault, rank, empty, line_said, block_line, table_of, same_path, has_table, new_block, no_tables, is_end, put_block, next_line, at_end, read_lines, after_head, from_head, tables}
 use Rattle.table_file.proofs.FormedLines.{tables_formed, in_both, then}
 use Rattle.table_file.proofs.SaidRows.{of_cond as either, of_there as there}
 use Rattle.table_writer.specs.Again.{IsName, HasNames, AreWrittenBack}
@@ -162,7 +162,7 @@ some_piece : (at : ℕ) (text : List ℕ) → split at text ≢ []
 some_piece at [] = λ e. absurd cc
 some_piece at (b ∷ bs) = one (b == at) (split at bs)
   where
-    one : (same : Bool) (ts : List (List ℕ)) → cond same ([] ∷ ts) (in_front b ts) ≢ []
+    one : (same : Bool) (ts : List (List ℕ)) → cond same ([] ∷ ts) (before b ts) ≢ []
     one true ts = λ e. absurd cc
     one false [] = λ e. absurd cc
     one false (t ∷ ts) = λ e. absurd cc
@@ -196,26 +196,26 @@ record AreNamed (ts : List SeenTable) : Type 0 where
   all : All (λ t. IsNamedBlock t.path t.model) ts
   differ : AreDifferent (map (λ t. t.path) ts)
 
-record IsBlockBehind (ts : List SeenTable) (b : Block) : Type 0 where
+record IsBlockAfter (ts : List SeenTable) (b : Block) : Type 0 where
   own : IsNamedBlock b.path b.model
   fresh : Contains (map (λ t. t.path) ts) b.path → ⊥
 
 record AreGood (t : Tables) : Type 0 where
   tables : AreNamed t.tables
-  block : IfSome t.block (IsBlockBehind t.tables)
+  block : IfSome t.block (IsBlockAfter t.tables)
 
 no_names : HasNames empty
 no_names = record { ins = All-nil (λ d. IsName d.name); words = All-nil (λ d. IsName d.name); memory = tt; outs = All-nil (λ d. IsName d.name) }
 
-begun : (at : Place) (ts : List SeenTable) (o : Option (List (List ℕ))) → IfSome o IsNamedPath → IfOk (new_block at ts o) (IsBlockBehind ts)
+begun : (at : Place) (ts : List SeenTable) (o : Option (List (List ℕ))) → IfSome o IsNamedPath → IfOk (new_block at ts o) (IsBlockAfter ts)
 begun at ts None h = tt
 begun at ts (Some p) h = one (has_table p ts) refl
   where
-    one : (k : Bool) → has_table p ts ≡ k → IfOk (cond k (Err (TableTwice at)) (Ok (record { path = p; at = at; rank = 0; model = empty }))) (IsBlockBehind ts)
+    one : (k : Bool) → has_table p ts ≡ k → IfOk (cond k (Err (TableTwice at)) (Ok (record { path = p; at = at; rank = 0; model = empty }))) (IsBlockAfter ts)
     one true is = tt
     one false is = record { own = record { path = h; names = no_names }; fresh = not_there p ts is }
 
-block_put : (ts : List SeenTable) (r : Result Block TableFault) → AreNamed ts → IfOk r (IsBlockBehind ts) → IfOk (put_block ts r) AreGood
+block_put : (ts : List SeenTable) (r : Result Block TableFault) → AreNamed ts → IfOk r (IsBlockAfter ts) → IfOk (put_block ts r) AreGood
 block_put ts (Err fault) all h = tt
 block_put ts (Ok b) all h =
     in_both AreGood (is_end b.rank) (Ok (record { tables = ts ++ table_of b ∷ []; block = None })) (Ok (record { tables = ts; block = Some b }))
@@ -227,14 +227,14 @@ block_put ts (Ok b) all h =
       block = tt;
     }) (record { tables = all; block = h })
 
-still_behind : (ts : List SeenTable) (b : Block) (r : Result Block TableFault) → IsBlockBehind ts b → IfOk r (BlockOf b) → IfOk r (IsBlockBehind ts)
-still_behind ts b (Err fault) h k = tt
-still_behind ts b (Ok c) h k = record { own = k.1; fresh = λ there. h.fresh (subst (Contains (map (λ (t : SeenTable). t.path) ts)) k.0 there) }
+still_after : (ts : List SeenTable) (b : Block) (r : Result Block TableFault) → IsBlockAfter ts b → IfOk r (BlockOf b) → IfOk r (IsBlockAfter ts)
+still_after ts b (Err fault) h k = tt
+still_after ts b (Ok c) h k = record { own = k.1; fresh = λ there. h.fresh (subst (Contains (map (λ (t : SeenTable). t.path) ts)) k.0 there) }
 
-one_line : (second : Bool) (ts : List SeenTable) (o : Option Block) (l : Line) → AreNamed ts → IfSome o (IsBlockBehind ts) → IfOk (next_line second ts o l) AreGood
+one_line : (second : Bool) (ts : List SeenTable) (o : Option Block) (l : Line) → AreNamed ts → IfSome o (IsBlockAfter ts) → IfOk (next_line second ts o l) AreGood
 one_line second ts None l all h = block_put ts (new_block l.at ts (instrument l.words)) all (begun l.at ts (instrument l.words) (instrument_named l.words))
 one_line second ts (Some b) l all h =
-    block_put ts (block_line second b l) all (still_behind ts b (block_line second b l) h (line_after l.at b (line second l.words) (line_name second l.words) h.own))
+    block_put ts (block_line second b l) all (still_after ts b (block_line second b l) h (line_after l.at b (line second l.words) (line_name second l.words) h.own))
 
 ended : (end : Place) (ts : List SeenTable) (b : Option Block) → AreNamed ts → IfOk (at_end end ts b) AreNamed
 ended end ts None all = all
@@ -245,7 +245,7 @@ lines_good second end t [] h = ended end t.tables t.block h.tables
 lines_good second end t (l ∷ ls) h =
     then AreGood AreNamed (next_line second t.tables t.block l) (λ u. read_lines second end u ls) (one_line second t.tables t.block l h.tables h.block) (λ u k. lines_good second end u ls k)
 
-head_good : (end at : Place) (o : Option Bool) (ls : List Line) → IfOk (behind_head end at o ls) AreNamed
+head_good : (end at : Place) (o : Option Bool) (ls : List Line) → IfOk (after_head end at o ls) AreNamed
 head_good end at None ls = tt
 head_good end at (Some second) ls =
     lines_good second end no_tables ls (record { tables = record { all = All-nil (λ t. IsNamedBlock t.path t.model); differ = tt }; block = tt })

@@ -4,7 +4,7 @@ use Rattle.std.specs.Prelude.{◌==◌, ◌&&◌, decimal}
 use Rattle.std.specs.List.{list_all}
 use Rattle.std.specs.Char.{is_ascii_digit}
 use Rattle.ij_text.specs.Words.{begins_name, in_name, is_name}
-use Rattle.ij_text.specs.Parts.{in_front, split}
+use Rattle.ij_text.specs.Parts.{before, split}
 use Rattle.ij_text.specs.Options.{both}
 use Rattle.table_lines.specs.Words.{path, closed, named, opened, bracketed, two_names, entry, two_decimals, part_of, bounded, slice, decimal as decimal_read}
 use Rattle.bench_file.specs.Written.{path_text}
@@ -23,19 +23,19 @@ pub no_cut : (at : ℕ) (a : List ℕ) → list_all (is_other at) a ≡ true →
 no_cut at [] h = refl
 no_cut at (b ∷ bs) h = one (b == at) (first_true (is_other at b) (list_all (is_other at) bs) h) (no_cut at bs (and_second (is_other at b) (list_all (is_other at) bs) h))
   where
-    one : (same : Bool) → not same ≡ true → split at bs ≡ bs ∷ [] → cond same ([] ∷ split at bs) (in_front b (split at bs)) ≡ (b ∷ bs) ∷ []
+    one : (same : Bool) → not same ≡ true → split at bs ≡ bs ∷ [] → cond same ([] ∷ split at bs) (before b (split at bs)) ≡ (b ∷ bs) ∷ []
     one true k more = absurd cc
-    one false k more = ap (in_front b) more
+    one false k more = ap (before b) more
 
 pub first_cut : (at : ℕ) (a rest : List ℕ) → (at == at) ≡ true → list_all (is_other at) a ≡ true → split at (a ++ at ∷ rest) ≡ a ∷ split at rest
-first_cut at [] rest own h = ap (λ k. cond k ([] ∷ split at rest) (in_front at (split at rest))) own
+first_cut at [] rest own h = ap (λ k. cond k ([] ∷ split at rest) (before at (split at rest))) own
 first_cut at (b ∷ bs) rest own h =
     one (b == at) (first_true (is_other at b) (list_all (is_other at) bs) h) (first_cut at bs rest own (and_second (is_other at b) (list_all (is_other at) bs) h))
   where
     one : (same : Bool) → not same ≡ true → split at (bs ++ at ∷ rest) ≡ bs ∷ split at rest
-        → cond same ([] ∷ split at (bs ++ at ∷ rest)) (in_front b (split at (bs ++ at ∷ rest))) ≡ (b ∷ bs) ∷ split at rest
+        → cond same ([] ∷ split at (bs ++ at ∷ rest)) (before b (split at (bs ++ at ∷ rest))) ≡ (b ∷ bs) ∷ split at rest
     one true k more = absurd cc
-    one false k more = ap (in_front b) more
+    one false k more = ap (before b) more
 
 others : (p : ℕ → Bool) (at : ℕ) → p at ≡ false → (a : List ℕ) → list_all p a ≡ true → list_all (is_other at) a ≡ true
 others p at off a h = all_weaker p (is_other at) (λ b k. ap not (not_byte p at off b k)) a h
@@ -82,7 +82,7 @@ path_word (n ∷ ns) h = one_word (path_text (n ∷ ns)) (path_some n ns (first_
 
 -- ---- brackets
 
--- a name and what stands in brackets behind it
+-- a name and what stands in brackets after it
 abbrev pub in_brackets : List ℕ → List ℕ → List ℕ
 in_brackets name inside = name ++ (codes "[" ++ (inside ++ codes "]"))
 

@@ -3,7 +3,7 @@ use Rattle.std.proofs.Common.{◌≡◌, ◌≢◌, ℕ, suc, Bool, true, false,
 use Rattle.std.specs.Prelude.{◌==◌, ◌&&◌, ◌||◌}
 use Rattle.std.specs.List.{list_all}
 use Rattle.ij_text.specs.Bytes.{is_line_blank}
-use Rattle.ij_text.specs.Parts.{in_front, longer, split}
+use Rattle.ij_text.specs.Parts.{before, longer, split}
 use Rattle.table_lines.specs.Lines.{Line, lines, shown, is_mark, in_word, goes_on, words, line_place, unless_empty, lines_from}
 use Rattle.std.proofs.lemmas.Bool.{and_from}
 use Rattle.ij_bits.proofs.Tests.{and_second}
@@ -37,7 +37,7 @@ is_letter b = in_word b && is_shown b
 
 -- ---- texts and their words
 
--- the words of a text, in front of what begins with a blank or a mark
+-- the words of a text, before what begins with a blank or a mark
 pub record Reads (text : List ℕ) (ws : List (List ℕ)) : Type 0 where
   pub plain : list_all is_shown text ≡ true
   pub reads : (rest : List ℕ) → goes_on rest ≡ false → words (text ++ rest) ≡ ws ++ words rest
@@ -47,7 +47,7 @@ pub record Follows (text : List ℕ) (ws : List (List ℕ)) : Type 0 where
   pub own : Reads text ws
   pub apart : (rest : List ℕ) → goes_on rest ≡ false → goes_on (text ++ rest) ≡ false
 
--- the words of a text, whatever stands behind it
+-- the words of a text, whatever stands after it
 pub record Always (text : List ℕ) (ws : List (List ℕ)) : Type 0 where
   pub plain : list_all is_shown text ≡ true
   pub reads : (rest : List ℕ) → words (text ++ rest) ≡ ws ++ words rest
@@ -67,8 +67,8 @@ follow a b us bs x y = record {
   apart = λ rest h. ap goes_on (append_assoc a b rest) ∙ x.apart (b ++ rest) (y.apart rest h);
 }
 
-pub behind : (a b : List ℕ) (us bs : List (List ℕ)) → Always a us → Reads b bs → Reads (a ++ b) (us ++ bs)
-behind a b us bs x y = record {
+pub after : (a b : List ℕ) (us bs : List (List ℕ)) → Always a us → Reads b bs → Reads (a ++ b) (us ++ bs)
+after a b us bs x y = record {
   plain = all_both is_shown a b x.plain y.plain;
   reads = λ rest h. ap words (append_assoc a b rest) ∙ x.reads (b ++ rest) ∙ ap (λ l. us ++ l) (y.reads rest h) ∙ sym (append_assoc us bs (words rest));
 }
@@ -80,7 +80,7 @@ pub record Parts (text : List ℕ) (ws : List (List ℕ)) : Type 0 where
 
 pub part : (a b : List ℕ) (us bs : List (List ℕ)) → Parts a us → Reads b bs → Follows (a ++ b) (us ++ bs)
 part a b us bs x y = record {
-  own = behind a b us bs x.all y;
+  own = after a b us bs x.all y;
   apart = λ rest h. ap goes_on (append_assoc a b rest) ∙ x.apart (b ++ rest);
 }
 
@@ -122,11 +122,11 @@ first_line [] rest h = refl
 first_line (b ∷ bs) rest h = one (b == 10) (b == 35) (first_true (is_shown b) (list_all is_shown bs) h) (first_line bs rest (and_second (is_shown b) (list_all is_shown bs) h))
   where
     one : (x y : Bool) → not (x || y) ≡ true → split 10 (bs ++ 10 ∷ rest) ≡ bs ∷ split 10 rest
-        → cond x ([] ∷ split 10 (bs ++ 10 ∷ rest)) (in_front b (split 10 (bs ++ 10 ∷ rest))) ≡ (b ∷ bs) ∷ split 10 rest
+        → cond x ([] ∷ split 10 (bs ++ 10 ∷ rest)) (before b (split 10 (bs ++ 10 ∷ rest))) ≡ (b ∷ bs) ∷ split 10 rest
     one true y k more = absurd cc
-    one false y k more = ap (in_front b) more
+    one false y k more = ap (before b) more
 
--- a text with a line feed behind it
+-- a text with a line feed after it
 pub record IsEnd (text : List ℕ) (ws : List (List ℕ)) : Type 0 where
   pub front : List ℕ
   pub is : text ≡ front ++ codes "\n"
@@ -158,7 +158,7 @@ pub always_line : (a b : List ℕ) (us bs : List (List ℕ)) → Always a us →
 always_line a b us bs x y = record {
   front = a ++ y.front;
   is = ap (λ l. a ++ l) y.is ∙ sym (append_assoc a y.front (codes "\n"));
-  own = behind a y.front us bs x y.own;
+  own = after a y.front us bs x y.own;
 }
 
 -- a text that a line feed ends

@@ -28,7 +28,7 @@ operand_pieces m (Word k) = refl
 operand_pieces m (Input k) = refl
 operand_pieces m (Old k) = refl
 
--- with something behind it
+-- with something after it
 pub operand_and : (m : SeenModel) (o : Operand) (more : List ℕ) → old_mark o ++ (operand_name m o ++ more) ≡ operand_text m o ++ more
 operand_and m o more = sym (append_assoc (old_mark o) (operand_name m o) more) ∙ ap (λ l. l ++ more) (operand_pieces m o)
 
@@ -53,7 +53,7 @@ parted_map between f x [] = append-nil (f x)
 parted_map between f x (y ∷ ys) =
     ap (λ l. f x ++ l) (append_assoc between (f y) (flat_map (λ y. between ++ f y) ys) ∙ ap (λ l. between ++ l) (parted_map between f y ys))
 
--- a first one and those behind it
+-- a first one and those after it
 pub first_is : {A : Type 0} (f : A → List ℕ) (between : List ℕ) (xs : List A) (first : A) → 1 ≤ length xs → first ≡ get_or xs 0 first
     → f first ++ flat_map (λ y. between ++ f y) (take (length xs - 1) (drop 1 xs)) ≡ parted between (map f xs)
 first_is f between [] first some is = absurd (omega (arith, some))

@@ -11,7 +11,7 @@ use Rattle.instruments.specs.declared.model.Slot.TheVariants.{Word as TheWord, E
 use Rattle.instruments.specs.declared.model.Set.{Set}
 use Rattle.instruments.specs.Seen.{SeenWord, SeenMemory, SeenPort, SeenRow, SeenModel}
 use Rattle.instruments.specs.Models.{IsCond, IsSet, IsSlot, IsRow, target as target_of, memory_names, names}
-use Rattle.table_lines.specs.Said.{Words, is, parts, in_first, SaidCond, SaidSet, SaidRow, sets, more_sets, row_of, more_conds, behind_cond, conds_sets, if_there, row}
+use Rattle.table_lines.specs.Said.{Words, is, parts, in_first, SaidCond, SaidSet, SaidRow, sets, more_sets, row_of, more_conds, after_cond, conds_sets, if_there, row}
 use Rattle.table_file.specs.Tables.{word_named, has_twice, cond_operand, cond_width, cond_said, set_said, row_said, no_slot, no_amount, target, amount_width, slot_width, row_names, row_widths}
 use Rattle.bench_file.specs.Written.{parted, cond_text, set_text, when_text, row_text, memory_name}
 use Rattle.table_writer.proofs.Lexed.{first_true, Reads, Parts, Follows, IsLine, nothing, join, part, line_last, part_end, then_end, line_end}
@@ -83,14 +83,14 @@ conds_all m change c [] x xs conds all =
     let first : IsCondRead m change c = All-head (IsCondRead m change) c [] conds in
     let ps = map (set_words_of m) xs in
     ap (conds_sets true change) (parts_front (cond_words m c) (do_words m (x ∷ xs)) (codes "do" ∷ set_words_of m x) ps first.clean (ap (in_first (codes "do")) (set_parts m x xs all)))
-    ∙ ap (λ o. if_there o (λ f. behind_cond true f ps (conds_sets true change ps))) (first.front (codes "do" ∷ set_words_of m x))
+    ∙ ap (λ o. if_there o (λ f. after_cond true f ps (conds_sets true change ps))) (first.front (codes "do" ∷ set_words_of m x))
     ∙ ap (λ s. more_conds (cond_back m c) (row_of s)) (sets_all m (x ∷ xs) all)
 conds_all m change c (d ∷ ds) x xs conds all =
     let first : IsCondRead m change c = All-head (IsCondRead m change) c (d ∷ ds) conds in
     let rest = comma_parted (map (cond_words m) (d ∷ ds)) ++ do_words m (x ∷ xs) in
     ap (λ ws. conds_sets true change (parts ws)) (append_assoc (cond_words m c) (codes "," ∷ comma_parted (map (cond_words m) (d ∷ ds))) (do_words m (x ∷ xs)))
     ∙ ap (conds_sets true change) (parts_front (cond_words m c) (codes "," ∷ rest) [] (parts rest) first.clean refl)
-    ∙ ap (λ o. if_there o (λ f. behind_cond true f (parts rest) (conds_sets true change (parts rest)))) (first.front [])
+    ∙ ap (λ o. if_there o (λ f. after_cond true f (parts rest) (conds_sets true change (parts rest)))) (first.front [])
     ∙ ap (more_conds (cond_back m c)) (conds_all m change d ds x xs (All-tail (IsCondRead m change) c (d ∷ ds) conds) all)
 
 abbrev pub when_words : SeenModel → List Cond → Words

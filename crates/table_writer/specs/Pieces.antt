@@ -7,7 +7,7 @@ use Rattle.instruments.specs.declared.model.Set.{Set}
 use Rattle.instruments.specs.Seen.{SeenWord, SeenMemory, SeenOut, SeenModel}
 use Rattle.bench_file.specs.Written.{word_name, input_name, operand_text, cond_text, set_text, path_text}
 
--- what stands in front of an operand's name
+-- what stands before an operand's name
 abbrev pub old_mark : Operand → List ℕ
 old_mark (Word k) = []
 old_mark (Input k) = []
@@ -22,7 +22,7 @@ operand_name m (Old k) = input_name m k
 abbrev pub sum_text : SeenModel → Operand → List ℕ → ℕ → List ℕ
 sum_text m from sign n = operand_text m from ++ (sign ++ decimal n)
 
--- behind a first one
+-- after a first one
 abbrev pub next_cond : SeenModel → Cond → List ℕ
 next_cond m c = codes ", " ++ cond_text m c
 

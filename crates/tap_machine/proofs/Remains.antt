@@ -13,7 +13,7 @@ pub no_pins : (ps : List Pins) → None ≡ first_of ps → ps ≡ []
 no_pins [] e = refl
 no_pins (p ∷ ps) e = absurd (cc)
 
--- pins with one in front aren't empty
+-- pins with one before aren't empty
 some_pin : (p : Pins) (ps : List Pins) → p ∷ ps ≡ [] → ⊥
 some_pin p ps e = absurd (cc)
 

@@ -175,7 +175,7 @@ impl Stretch {
         Ok(())
     }
 
-    /// The cheapest scan for each level: one that is there already, or a new one behind them.
+    /// The cheapest scan for each level: one that is there already, or a new one after them.
     fn opening_scans(&self, all: &Segments, opening: &Opening) -> Result<Vec<usize>, Stop> {
         let more = opening.levels.len();
         let total = self.scans.len().checked_add(more).ok_or(Stop::NoPlan)?;

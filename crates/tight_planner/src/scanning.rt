@@ -10,7 +10,7 @@ use ij_io::{Sink, SureSink, Word, put_words};
 use net_graph::{Net, ReadBit};
 use svf_writer::{put_list, put_mark, put_round};
 
-/// Writes the comment in front of a round.
+/// Writes the comment before a round.
 fn put_front(round: &Round, text: &mut SureSink) -> Result<(), Stop> {
     if round.round < 2 {
         put_mark(round.apply, text)?;

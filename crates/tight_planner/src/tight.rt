@@ -26,7 +26,7 @@ struct Planner<'a> {
     net: &'a Net,
     how: How,
     all: Segments,
-    /// The data bits behind the rounds so far.
+    /// The data bits after the rounds so far.
     meant: Vec<Bits>,
     /// The work since the last reset.
     stretch: Stretch,

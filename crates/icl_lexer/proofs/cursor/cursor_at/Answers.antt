@@ -26,8 +26,8 @@ loop-found-preserved c =
     let step = piece_step rest c.loop-found.at c.in-Some.found.kind Gap len c.in-Some.ensures.some c.in_default-kind.is in
     let long = length_cut rest len in
     record {
-      places = (c.place_behind-at.ensures.column, omega (arith, long, c.place_behind-at.ensures.sum, c.loop-found.invariant.places.1));
-      same = ap (tokens_in (cut_off rest len)) c.place_behind-at.ensures.value ∙ step ∙ c.loop-found.invariant.same;
+      places = (c.place_after-at.ensures.column, omega (arith, long, c.place_after-at.ensures.sum, c.loop-found.invariant.places.1));
+      same = ap (tokens_in (cut_off rest len)) c.place_after-at.ensures.value ∙ step ∙ c.loop-found.invariant.same;
     }
 
 pub invariant_of-result-2 : goal.invariant_of-result-2

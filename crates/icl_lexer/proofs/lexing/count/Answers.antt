@@ -1,5 +1,5 @@
 use Rattle.std.proofs.Common.{ℕ, ◌+◌, ◌≤◌, List, [], ◌++◌, refl, take, drop, length, sym, ap, subst, ◌∙◌, arith, length-drop, length-append}
-use Rattle.ij_text.specs.Places.{first_place, place_behind}
+use Rattle.ij_text.specs.Places.{first_place, place_after}
 use Rattle.icl_lexer.specs.Cutting.{IsPiece, NoPiece, fault_of, token_of}
 use Rattle.icl_lexer.proofs.Cuts.{cut_more, nothing_cut, place_of_cut, rest_is}
 use Rattle.icl_lexer.proofs.Unique.{piece_some}
@@ -41,7 +41,7 @@ loop-start-preserved c =
       few = omega (arith, some, one, count, c.loop-start.invariant.few);
       cut = (
         tokens ++ token_of kind at start (start + len),
-        place_behind at (take len (drop start src)),
+        place_after at (take len (drop start src)),
         cut_more src tokens start at kind len c.loop-start.invariant.cut.2 piece,
         let all = length-append tokens (token_of kind at start (start + len)) in
             let added = counted kind at start (start + len) in

@@ -8,16 +8,16 @@ returns-in_err-put-clause-part g c =
     (part_as (cut_first c.args.mark g.T.Put.tokens g.T.Put.view c.args.parts.now c.first-item.result c.in-len1-up.len_at_least c.first-item.is)
     (laid_front _ _ c.in_err-put.ensures.part))
 
-pub returns-in_err-put_each_behind-clause-part : goal.returns-in_err-put_each_behind-clause-part
-returns-in_err-put_each_behind-clause-part g c =
-    at_refusal c.from_residual-in_err-put_each_behind.result
+pub returns-in_err-put_each_after-clause-part : goal.returns-in_err-put_each_after-clause-part
+returns-in_err-put_each_after-clause-part g c =
+    at_refusal c.from_residual-in_err-put_each_after.result
     (part_as (cut_first c.args.mark g.T.Put.tokens g.T.Put.view c.args.parts.now c.first-item.result c.in-len1-up.len_at_least c.first-item.is)
-    (laid_then_part _ _ c.in_ok-put.ensures.whole c.in_err-put_each_behind.ensures.part))
+    (laid_then_part _ _ c.in_ok-put.ensures.whole c.in_err-put_each_after.ensures.part))
 
-pub returns-in_ok-put_each_behind-clause-whole : goal.returns-in_ok-put_each_behind-clause-whole
-returns-in_ok-put_each_behind-clause-whole g c =
+pub returns-in_ok-put_each_after-clause-whole : goal.returns-in_ok-put_each_after-clause-whole
+returns-in_ok-put_each_after-clause-whole g c =
     whole_as (cut_first c.args.mark g.T.Put.tokens g.T.Put.view c.args.parts.now c.first-item.result c.in-len1-up.len_at_least c.first-item.is)
-    (laid_both _ _ c.in_ok-put.ensures.whole c.in_ok-put_each_behind.ensures.whole)
+    (laid_both _ _ c.in_ok-put.ensures.whole c.in_ok-put_each_after.ensures.whole)
 
 pub returns-in_default-clause-whole : goal.returns-in_default-clause-whole
 returns-in_default-clause-whole g c =

@@ -1,6 +1,6 @@
 use Rattle.std.proofs.Common.{◌≡◌, map, drop}
 use Rattle.icl_declarations.specs.Faults.{each}
-use Rattle.icl_signals.specs.Refusals.{behind}
+use Rattle.icl_signals.specs.Refusals.{after}
 use Rattle.icl_signals.specs.Wirings.{cells_of}
 use Rattle.icl_signals.specs.Connecting.{register_of}
 use Rattle.icl_signals.specs.Told.{seen_entry}
@@ -8,4 +8,4 @@ use Rattle.icl_signals.specs.PlainNets.{seen_reg}
 use Rattle.icl_signals.proofs.registers.registers.Given as goal
 
 abbrev pub invariant-loop-e : goal.invariant-loop-e
-invariant-loop-e l = behind (map seen_reg l.all.items) (each (register_of (cells_of l.wiring) l.wiring.entry) (map seen_entry (drop l.e-index l.parts))) ≡ each (register_of (cells_of l.wiring) l.wiring.entry) (map seen_entry l.parts)
+invariant-loop-e l = after (map seen_reg l.all.items) (each (register_of (cells_of l.wiring) l.wiring.entry) (map seen_entry (drop l.e-index l.parts))) ≡ each (register_of (cells_of l.wiring) l.wiring.entry) (map seen_entry l.parts)

@@ -1,9 +1,9 @@
 use Rattle.std.proofs.Common.{◌≡◌, drop}
 use Rattle.icl_declarations.specs.Faults.{each}
-use Rattle.icl_signals.specs.Refusals.{behind}
+use Rattle.icl_signals.specs.Refusals.{after}
 use Rattle.icl_signals.specs.Wirings.{cells_of}
 use Rattle.icl_signals.specs.Connecting.{data_from}
 use Rattle.icl_signals.proofs.registers.signals.Given as goal
 
 abbrev pub invariant-loop-r : goal.invariant-loop-r
-invariant-loop-r l = behind l.all.items (each (data_from (cells_of l.wiring) l.wiring.entry l.at) (drop l.r-index l.refs)) ≡ each (data_from (cells_of l.wiring) l.wiring.entry l.at) l.refs
+invariant-loop-r l = after l.all.items (each (data_from (cells_of l.wiring) l.wiring.entry l.at) (drop l.r-index l.refs)) ≡ each (data_from (cells_of l.wiring) l.wiring.entry l.at) l.refs

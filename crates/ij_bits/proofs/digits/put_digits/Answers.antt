@@ -19,7 +19,7 @@ loop-i-preserved c =
                 let away : end - 1 - j ≢ end - 1 - i = omega (arith, apart.1) in
                 get_or-set_other c.loop-i.to (end - 1 - i) (end - 1 - j) c.hex_digit_of.result 0 away ∙ c.loop-i.invariant.at j before
           ];
-      behind = λ k past.
+      following = λ k past.
           let away : k ≢ end - 1 - i = omega arith in
-          get_or-set_other c.loop-i.to (end - 1 - i) k c.hex_digit_of.result 0 away ∙ c.loop-i.invariant.behind k past;
+          get_or-set_other c.loop-i.to (end - 1 - i) k c.hex_digit_of.result 0 away ∙ c.loop-i.invariant.following k past;
     }

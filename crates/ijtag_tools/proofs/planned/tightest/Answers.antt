@@ -7,11 +7,11 @@ use Rattle.ijtag_tools.specs.declared.planned.Planned.{Planned}
 use Rattle.ijtag_tools.proofs.Choosing.{other, own}
 use Rattle.ijtag_tools.proofs.planned.tightest.Goals as goal
 
-pub returns-then-cost-before-2 : goal.returns-then-cost-before-2
-returns-then-cost-before-2 c =
+pub returns-then-is_within : goal.returns-then-is_within
+returns-then-is_within c =
     let it : SeenAccepted = seen_accepted c.args.it.now in
     let sound : IsSound it c.in-Some.planned = subst (λ (found : Option Planned). IfSome found (IsSound it)) c.in-Some.is c.in_ok-planned.ensures in
-    other it c.in_ok-compiled.compiled c.in-Some.planned c.in_ok-least.least c.in_ok-least.ensures c.in_ok-compiled.ensures sound c.if-cost-before.true c.if-cost-before-2.true
+    other it c.in_ok-compiled.compiled c.in-Some.planned c.in_ok-least.least c.in_ok-least.ensures c.in_ok-compiled.ensures sound (c.is_within.ensures c.if-is_within.true).0 (c.is_within.ensures c.if-is_within.true).1
 
 pub returns : goal.returns
 returns c =

@@ -3,11 +3,11 @@ use Rattle.ij_text.specs.declared.Place.{Place}
 use Rattle.pdl_parser.specs.Cutting.{Word}
 use Rattle.pdl_parser.specs.Values.{AProc}
 use Rattle.pdl_parser.specs.Seen.{words, Fails}
-use Rattle.pdl_parser.specs.SeenProcs.{read_behind_name}
+use Rattle.pdl_parser.specs.SeenProcs.{read_after_name}
 use Rattle.pdl_parser.specs.Reading.{gives, read_proc_name, read_proc}
 use Rattle.pdl_parser.proofs.procs.read_proc.Goals as goal
 
-from_name : (at : Place) (known : List (List ℕ)) (owner name : List ℕ) (ws rest : List Word) → read_proc_name known owner ws ≡ Ok (name, rest) → read_proc at known owner ws ≡ read_behind_name at owner name rest
+from_name : (at : Place) (known : List (List ℕ)) (owner name : List ℕ) (ws rest : List Word) → read_proc_name known owner ws ≡ Ok (name, rest) → read_proc at known owner ws ≡ read_after_name at owner name rest
 unfolding read_proc
 from_name at known owner name ws rest e = rw e refl
 

@@ -1,4 +1,4 @@
--- What is written so far, whatever the plans of the steps are: what the file holds, with the piece behind it.
+-- What is written so far, whatever the plans of the steps are: what the file holds, with the piece after it.
 use Rattle.std.proofs.Common.{◌≤◌, ◌<◌, ◌+◌, ◌^◌, ◌≢◌, ◌≡◌, ℕ, List, length}
 use Rattle.std.specs.Prelude.{All}
 use Rattle.ij_io.specs.Causes.{SameCounts}

@@ -1,4 +1,4 @@
--- the bits so far stand in front of those of the first scan that is left
+-- the bits so far stand before those of the first scan that is left
 use Rattle.std.proofs.Common.{◌≡◌, length}
 use Rattle.bench_report.specs.Report.{chip_of}
 use Rattle.svf_notes.specs.Scans.{scans_of}

@@ -3,7 +3,7 @@ use Rattle.std.specs.Option.{option_map}
 use Rattle.svf_writer.specs.SeenCommands.{SeenCommand, seen_command}
 use Rattle.svf_writer.specs.Fits.{AreFit, AreFitAfter}
 use Rattle.svf_reader.specs.Texts.{plain, texts, blanks}
-use Rattle.svf_reader.specs.Meaning.{Step, listed, in_front_of, read_from, read_command}
+use Rattle.svf_reader.specs.Meaning.{Step, listed, before, read_from, read_command}
 use Rattle.svf_reader.specs.Reading.{words_of}
 use Rattle.svf_reader.proofs.Cuts.{plain_length}
 use Rattle.svf_reader.proofs.Fitting.{comes_follows}
@@ -16,7 +16,7 @@ loop-next-init c =
     let none = c.requires.none in
     record {
       within = omega arith;
-      so_far = ap (λ cs. in_front_of cs (read_from _ (length src - length src) (texts (plain src)))) none ∙ from_first src (length src - length src) (omega arith);
+      so_far = ap (λ cs. before cs (read_from _ (length src - length src) (texts (plain src)))) none ∙ from_first src (length src - length src) (omega arith);
       fit = λ more h. subst (λ (cs : List SeenCommand). AreFit (cs ++ more)) (sym none) h;
     }
 
@@ -47,8 +47,8 @@ loop-next-preserved c =
     let added : c.add.new.commands ≡ c.loop-next.commands ++ listed step.0 = c.in_ok-add.ensures.ok in
     record {
       within = omega (arith, c.in-Some.ensures.lengths, c.loop-next.invariant.within);
-      so_far = ap (λ (cs : List SeenCommand). in_front_of cs (read_from c.in-Ok.kept (length src - length c.in-Some.next.rest.now) (texts (plain c.in-Some.next.rest.now)))) added
-          ∙ ap (λ (n : ℕ). in_front_of (c.loop-next.commands ++ listed step.0) (read_from c.in-Ok.kept n (texts (plain c.in-Some.next.rest.now)))) (sym next)
+      so_far = ap (λ (cs : List SeenCommand). before cs (read_from c.in-Ok.kept (length src - length c.in-Some.next.rest.now) (texts (plain c.in-Some.next.rest.now)))) added
+          ∙ ap (λ (n : ℕ). before (c.loop-next.commands ++ listed step.0) (read_from c.in-Ok.kept n (texts (plain c.in-Some.next.rest.now)))) (sym next)
           ∙ all;
       fit = λ more h.
           subst (λ (cs : List SeenCommand). AreFit (cs ++ more)) (sym added)

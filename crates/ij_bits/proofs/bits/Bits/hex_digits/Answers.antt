@@ -19,5 +19,5 @@ loop-i-preserved c k below reach =
           let place : from + 4 * j ≡ 4 * (c.args.d + (n - 1 - k)) = omega arith in
           at_place c.put_digits.new.to _ k _ (c.put_digits.ensures.at j (omega arith) (omega arith)) (omega arith)
           ∙ ap hex_code (ap (λ v. v / 2 ^ (4 * j) % 16) c.number-value.ensures.value ∙ part_digit bits from c.min.result j size (omega arith) ∙ ap (λ p. number_of (take 4 (drop p bits))) place)
-      | inr outer ↦ c.put_digits.ensures.behind k outer ∙ c.loop-i.invariant k below (omega arith)
+      | inr outer ↦ c.put_digits.ensures.following k outer ∙ c.loop-i.invariant k below (omega arith)
     ]

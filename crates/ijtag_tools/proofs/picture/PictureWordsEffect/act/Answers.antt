@@ -7,13 +7,13 @@ use Rattle.ijtag_work.specs.Accepted.{SeenAccepted}
 use Rattle.ijtag_work.specs.Order.{filed}
 use Rattle.ijtag_work.specs.Using.{seen_accepted}
 use Rattle.ijtag_work.proofs.Ends.{file_done, file_part}
-use Rattle.ijtag_tools.specs.Order.{drawing_of}
+use Rattle.ijtag_tools.specs.Order.{first_drawing}
 use Rattle.ijtag_tools.proofs.picture.PictureWordsEffect.act.Goals as goal
 
 pub returns-clause-part : goal.returns-clause-part
 returns-clause-part g c =
     let name : List ℕ = c.args.self.now.picture.now in
-    let bytes : List ℕ = drawing_of c.args.self.now.format (seen_accepted c.args.it.now) in
+    let bytes : List ℕ = first_drawing (seen_accepted c.args.it.now) in
     let old = g.S.Shelf.files c.args.shelf.now in
     let new = g.S.Shelf.files c.write_file.new.shelf in
     let same : c.bytes.result.now ≡ bytes = c.bytes.ensures ∙ c.in_ok-text.ensures in
@@ -22,7 +22,7 @@ returns-clause-part g c =
 pub returns-in-Ok-clause-done : goal.returns-in-Ok-clause-done
 returns-in-Ok-clause-done g c =
     let name : List ℕ = c.args.self.now.picture.now in
-    let bytes : List ℕ = drawing_of c.args.self.now.format (seen_accepted c.args.it.now) in
+    let bytes : List ℕ = first_drawing (seen_accepted c.args.it.now) in
     let old = g.S.Shelf.files c.args.shelf.now in
     let new = g.S.Shelf.files c.write_file.new.shelf in
     let same : c.bytes.result.now ≡ bytes = c.bytes.ensures ∙ c.in_ok-text.ensures in

@@ -1,4 +1,4 @@
--- Each step that is gone through leaves the cursor in its procedure, in front of the scan.
+-- Each step that is gone through leaves the cursor in its procedure, before the scan.
 use Rattle.std.proofs.Common.{◌≤◌, length}
 use Rattle.run_report.specs.Reaching.{CanGoOn, StandsOn}
 use Rattle.run_report.proofs.cursor.Cursor.reach.Given as goal

@@ -1,6 +1,6 @@
 use Rattle.std.proofs.Common.{◌≡◌}
 use Rattle.svf_audit.specs.Left.{work_left, AreHeld, IsWithin}
-use Rattle.svf_audit.specs.Work.{behind_cycles}
+use Rattle.svf_audit.specs.Work.{after_cycles}
 use Rattle.svf_audit.proofs.left.Left.do_cycles.Given as goal
 
 abbrev pub invariant-loop-more : goal.invariant-loop-more
@@ -8,7 +8,7 @@ invariant-loop-more l =
     record {
       within : IsWithin l.self;
       held : AreHeld l.holds (work_left l.self);
-      same : behind_cycles l.holds l.more (work_left l.self) ≡ behind_cycles l.holds l.n (work_left l.fn.self);
+      same : after_cycles l.holds l.more (work_left l.self) ≡ after_cycles l.holds l.n (work_left l.fn.self);
       steps : l.self.steps ≡ l.fn.self.steps;
     }
 

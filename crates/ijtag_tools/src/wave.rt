@@ -1,0 +1,158 @@
+// The command `wave`.
+ghost use Rattle.std.specs.Prelude.{◌≡◌, ◌≤◌, [], false, true, length, Some, IfOk, OnOk, OnErr};
+ghost use Rattle.std.specs.Option.{option_map};
+ghost use Rattle.ij_io.specs.Causes.{HasCauseAt, SameCounts};
+ghost use Rattle.ij_io.specs.Files.{OthersStay, file_at};
+ghost use Rattle.ij_io.specs.Pieces.{HoldsPart};
+ghost use Rattle.ijtag_stages.specs.Follows.{Follows};
+ghost use Rattle.ijtag_work.specs.Order.{any_differs, differs_at};
+ghost use Rattle.ijtag_work.specs.Seen.{differing};
+ghost use Rattle.ijtag_work.specs.Using.{IsUsable, seen_accepted, there};
+ghost use Rattle.ijtag_tools.specs.Order.{wave, waves_of, window_in, window_of, within};
+ghost use Rattle.ijtag_tools.specs.Words.{seen_wave};
+
+use crate::cost::cost_of;
+use crate::words::WaveWords;
+use bench_report::put_made;
+use ij_bits::OutOfMemory;
+use ij_io::{Shelf, Sink, StoreFault, SureSink};
+use ijtag_core::Effect;
+use ijtag_stages::{Stage, StageFault, refused_number};
+use ijtag_work::{Accepted, Stop, Texts, Verdict};
+use net_wave::{WaveKind, Window, put_wave_file};
+use std::alloc::Global;
+
+/// The most clocks that are written: as many as a procedure may run.
+const MOST_CLOCKS: u64 = 4_000_000;
+
+/// Refuses clocks that are too many to be written.
+fn check_count(alloc: Global, window: Window) -> Result<Window, StageFault>
+    ensures { Follows (within window) (λ w. w) result }
+{
+    if window.count > MOST_CLOCKS {
+        return Err(refused_number(alloc, Stage::Wave, b"TooLong", window.count));
+    }
+    Ok(window)
+}
+
+/// The clocks that are written of a play of so many; refused where the first isn't one of them, and where they are too many.
+fn check_window(alloc: Global, asked: Option<Window>, clocks: u64) -> Result<Window, StageFault>
+    ensures { Follows (window_in asked clocks) (λ w. w) result }
+{
+    let Some(asked) = asked else {
+        let whole = Window {
+            from: 0,
+            count: clocks,
+        };
+        return check_count(alloc, whole);
+    };
+    if asked.from >= clocks {
+        return Err(refused_number(alloc, Stage::Wave, b"BadWindow", asked.from));
+    }
+    let count = asked.count.min(clocks - asked.from);
+    let window = Window {
+        from: asked.from,
+        count,
+    };
+    check_count(alloc, window)
+}
+
+/// The clocks that are written of the play.
+#[tactic(auto, unfolding(crate::specs::Order::window_of))]
+fn find_window(alloc: Global, it: &Accepted, asked: Option<Window>) -> Result<Window, StageFault>
+    requires usable { IsUsable it.now }
+    requires commands { there it.now.commands ≡ true }
+    ensures { Follows (window_of asked (seen_accepted it.now)) (λ w. w) result }
+{
+    let clocks = cost_of(it.commands()).clocks;
+    check_window(alloc, asked, clocks)
+}
+
+/// Whether a compare of the whole play differs.
+fn compare_all(alloc: Global, it: &Accepted) -> Result<Verdict, OutOfMemory>
+    requires usable { IsUsable it.now }
+    requires models { there it.now.models ≡ true }
+    requires commands { there it.now.commands ≡ true }
+    ensures { IfOk result (λ verdict. differing verdict ≡ any_differs (differs_at (seen_accepted it.now) (seen_accepted it.now).commands)) }
+{
+    let net = &it.network.net;
+    let models = it.models().models();
+    let mut line = SureSink::new(alloc);
+    match put_made(alloc, net, &it.device, models, it.commands(), 0, &mut line) {
+        Ok(0) => Ok(Verdict::Agrees),
+        Ok(_) => Ok(Verdict::Differs),
+        Err(_) => Err(OutOfMemory),
+    }
+}
+
+/// Writes the file of the waves, from its front.
+#[tactic(auto, unfolding(crate::specs::Order::waves_of))]
+fn write_waves<S: Shelf>(
+    alloc: Global,
+    it: &Accepted,
+    kind: WaveKind,
+    top: &str,
+    window: Window,
+    name: &str,
+    shelf: &mut S,
+) -> Result<(), StoreFault>
+    requires usable { IsUsable it.now }
+    requires models { there it.now.models ≡ true }
+    requires commands { there it.now.commands ≡ true }
+    ensures whole { OnOk result (file_at (S.files shelf.new) name.now ≡ option_map (λ _. Some (waves_of kind top.now window (seen_accepted it.now))) (S.files shelf.old)) }
+    ensures part { OnErr result (HoldsPart (S.files shelf.old) (S.files shelf.new) name.now (waves_of kind top.now window (seen_accepted it.now))) }
+    ensures others { OthersStay (S.files shelf.old) (S.files shelf.new) name.now }
+    ensures cause { HasCauseAt name.now (S.store_faults shelf.old) (S.store_faults shelf.new) result StoreFault.Failed }
+    ensures loads { SameCounts (S.load_faults shelf.old) (S.load_faults shelf.new) }
+{
+    let net = &it.network.net;
+    let models = it.models().models();
+    let commands = it.commands();
+    let top = top.as_bytes();
+    put_wave_file(
+        alloc, kind, net, &it.device, models, top, commands, window, name, shelf,
+    )
+}
+
+/// Writes the waves of the play, prints nothing, and ends as a play does where a compare differs.
+impl<'w> Effect for WaveWords<'w> {
+    ghost table_row = { λ words. wave (seen_wave words) };
+
+    ghost needs = { λ _. record { tables = true; svf = true; pdl = false } };
+
+    ghost promise = { λ _ _ _ _ _. Unit {0} };
+
+    fn texts<'t>(&'t self, loaded: &'t [Vec<u8>]) -> Texts<'t> {
+        let [svf, icl, device, tables] = loaded else {
+            unreachable!()
+        };
+        Texts {
+            icl,
+            device,
+            tables: Some(tables),
+            svf: Some(svf),
+            top: self.top,
+            pdl: None,
+            procedure: "",
+        }
+    }
+
+    fn prints(&self) -> bool {
+        false
+    }
+
+    fn act<'a, S: Shelf, O: Sink>(
+        &'a self,
+        alloc: Global,
+        it: &Accepted,
+        shelf: &mut S,
+        _out: &mut O,
+    ) -> Result<Verdict, Stop<'a>> {
+        let window = find_window(alloc, it, self.window)?;
+        let verdict = compare_all(alloc, it)?;
+        match write_waves(alloc, it, self.kind, self.top, window, self.waves, shelf) {
+            Ok(()) => Ok(verdict),
+            Err(fault) => Err(Stop::of_file(fault, self.waves)),
+        }
+    }
+}

@@ -1,0 +1,64 @@
+-- Changes of one variable after the other.
+use Rattle.std.proofs.Common.{◌≡◌, ℕ, zero, suc, ◌+◌, ◌<◌, Bool, List, [], ◌∷◌, ◌++◌, length, map, get_or, set, take, drop, refl, ap, sym, ◌∙◌, arith, add-one, append_assoc}
+use Rattle.std.specs.List.{flat_map}
+use Rattle.std.proofs.lemmas.List.{get_or-map, length-map}
+use Rattle.ij_bits.specs.Room.{Listed}
+use Rattle.net_wave.specs.Left.{told_of}
+use Rattle.net_wave.specs.Moments.{Change, change_at, change_if, change_text}
+use Rattle.net_wave.specs.Vars.{up_to}
+
+-- one list more is told
+pub told_next : (xs : List (Listed ℕ)) (x : Listed ℕ) (now old : List (List ℕ)) (i : ℕ) → i < length now → length old ≡ length now → told_of xs ≡ take i now ++ drop i old → x.items ≡ get_or now i [] → told_of (set xs i x) ≡ take (suc i) now ++ drop (suc i) old
+told_next xs x [] old i h same so_far is = absurd (omega arith)
+told_next xs x (n ∷ ns) [] i h same so_far is = absurd (omega (arith, same))
+told_next [] x (n ∷ ns) (o ∷ os) zero h same so_far is = absurd (cc)
+told_next (y ∷ ys) x (n ∷ ns) (o ∷ os) zero h same so_far is =
+    let rest : told_of ys ≡ os = cc in
+    ap (λ (l : List ℕ). l ∷ told_of ys) is ∙ ap (λ (l : List (List ℕ)). n ∷ l) rest
+told_next [] x (n ∷ ns) (o ∷ os) (suc i) h same so_far is = absurd (cc)
+told_next (y ∷ ys) x (n ∷ ns) (o ∷ os) (suc i) h same so_far is =
+    let first : y.items ≡ n = cc in
+    let rest : told_of ys ≡ take i ns ++ drop i os = cc in
+    ap (λ (l : List ℕ). l ∷ told_of (set ys i x)) first
+    ∙ ap (λ (l : List (List ℕ)). n ∷ l) (told_next ys x ns os i (omega (arith, h)) (omega (arith, same)) rest is)
+
+-- what was told at a place that was not come to yet is what was told at the start
+still_old : (now old : List (List ℕ)) (i : ℕ) → i < length now → length old ≡ length now → get_or (take i now ++ drop i old) i [] ≡ get_or old i []
+still_old [] old i h same = absurd (omega arith)
+still_old (n ∷ ns) [] i h same = absurd (omega (arith, same))
+still_old (n ∷ ns) (o ∷ os) zero h same = refl
+still_old (n ∷ ns) (o ∷ os) (suc i) h same = still_old ns os i (omega (arith, h)) (omega (arith, same))
+
+there : (xs : List (Listed ℕ)) (now old : List (List ℕ)) (i : ℕ) → i < length now → length old ≡ length now → told_of xs ≡ take i now ++ drop i old → i < length xs
+there xs [] old i h same is = absurd (omega arith)
+there xs (n ∷ ns) [] i h same is = absurd (omega (arith, same))
+there [] (n ∷ ns) (o ∷ os) zero h same is = absurd (cc)
+there (y ∷ ys) (n ∷ ns) (o ∷ os) zero h same is = omega arith
+there [] (n ∷ ns) (o ∷ os) (suc i) h same is = absurd (cc)
+there (y ∷ ys) (n ∷ ns) (o ∷ os) (suc i) h same is =
+    let rest : told_of ys ≡ take i ns ++ drop i os = cc in
+    let more = there ys ns os i (omega (arith, h)) (omega (arith, same)) rest in omega (arith, more)
+
+pub told_before : (xs : List (Listed ℕ)) (x : Listed ℕ) (now old : List (List ℕ)) (i : ℕ) → i < length now → length old ≡ length now → told_of xs ≡ take i now ++ drop i old → x ≡ get_or xs i x → x.items ≡ get_or old i []
+told_before xs x now old i h same so_far is =
+    ap (λ (d : Listed ℕ). d.items) is
+    ∙ sym (get_or-map (λ (d : Listed ℕ). d.items) xs i x [] (there xs now old i h same so_far))
+    ∙ ap (λ (l : List (List ℕ)). get_or l i []) so_far
+    ∙ still_old now old i h same
+
+flat_both : (xs ys : List Change) → flat_map change_text (xs ++ ys) ≡ flat_map change_text xs ++ flat_map change_text ys
+flat_both [] ys = refl
+flat_both (x ∷ xs) ys = ap (λ (l : List ℕ). change_text x ++ l) (flat_both xs ys) ∙ sym (append_assoc (change_text x) (flat_map change_text xs) (flat_map change_text ys))
+
+pub text_next : (first : Bool) (before now : List (List ℕ)) (i : ℕ) (old piece new b n : List ℕ) → piece ≡ old ++ flat_map change_text (up_to (change_at first before now) i) → b ≡ get_or before i [] → n ≡ get_or now i []
+    → new ≡ piece ++ flat_map change_text (change_if first (i + 1) b n) → new ≡ old ++ flat_map change_text (up_to (change_at first before now) (i + 1))
+text_next first before now i old piece new b n so_far is at more =
+    let f = change_at first before now in
+    more
+    ∙ ap (λ (k : ℕ). piece ++ flat_map change_text (change_if first k b n)) (add-one i)
+    ∙ ap (λ (x : List ℕ). piece ++ flat_map change_text (change_if first (suc i) x n)) is
+    ∙ ap (λ (x : List ℕ). piece ++ flat_map change_text (change_if first (suc i) (get_or before i []) x)) at
+    ∙ ap (λ (x : List ℕ). x ++ flat_map change_text (f i)) so_far
+    ∙ append_assoc old (flat_map change_text (up_to f i)) (flat_map change_text (f i))
+    ∙ ap (λ (x : List ℕ). old ++ x) (sym (flat_both (up_to f i) (f i)))
+    ∙ ap (λ (k : ℕ). old ++ flat_map change_text (up_to f k)) (sym (add-one i))

@@ -1,0 +1,12 @@
+pub mod Listing
+pub mod DigitSteps
+pub mod CodeSteps
+pub mod Modelled
+pub mod Joined
+pub mod Staging
+pub mod There
+pub mod PieceTexts
+pub mod Replay
+pub mod Apart
+pub mod Leaving
+pub mod Changing

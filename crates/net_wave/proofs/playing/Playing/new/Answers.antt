@@ -1,0 +1,27 @@
+use Rattle.std.proofs.Common.{◌≡◌, ap, sym, ◌∙◌, subst, length}
+use Rattle.net_bench.specs.Board.{SeenBench}
+use Rattle.net_graph.specs.Held.{AreHolds}
+use Rattle.net_graph.specs.Signals.{Holds}
+use Rattle.net_graph.proofs.Widths.{zeros_held}
+use Rattle.net_wave.specs.Left.{skipped_text, text_from, told_of}
+use Rattle.net_wave.specs.Moments.{untold}
+use Rattle.net_wave.proofs.Leaving.{start_text, told_count}
+use Rattle.net_wave.proofs.playing.Playing.new.Goals as goal
+
+pub returns-clause-playing : goal.returns-clause-playing
+returns-clause-playing c =
+    record {
+      well_formed = c.requires.well_formed;
+      models = c.requires.models;
+      net = ap (λ (b : SeenBench). b.net) c.in_ok-bench.ensures;
+      same_models = ap (λ (b : SeenBench). b.models) c.in_ok-bench.ensures;
+      shape = subst (λ (x : Holds). AreHolds c.args.net.now x) (sym c.in_ok-stages.ensures) (zeros_held c.args.net.now);
+      stages = c.in_ok-stages.ensures ∙ sym (ap (λ (b : SeenBench). b.state.stages) c.in_ok-bench.ensures);
+      vars = c.requires.there;
+      told = told_count c.in_ok-told.told.items (length c.args.vars.items) (c.in_ok-told.ensures ∙ ap untold c.len.ensures);
+    }
+
+pub returns-clause-text : goal.returns-clause-text
+unfolding skipped_text text_from
+returns-clause-text c =
+    start_text c.args.net.now c.args.device.now c.args.models.now.items c.args.vars.items c.args.window c.in_ok-bench.bench c.new-player.result.pins _ (told_of c.in_ok-told.told.items) c.in_ok-bench.ensures c.new-player.ensures.pins (c.in_ok-told.ensures ∙ ap untold c.len.ensures)

@@ -1,0 +1,10 @@
+use Rattle.std.proofs.Common.{◌≡◌, ◌-◌}
+use Rattle.net_wave.specs.Left.{IsPlaying, skipped_text}
+use Rattle.net_wave.proofs.playing.Playing.skip.Given as goal
+
+abbrev pub invariant-loop-k : goal.invariant-loop-k
+invariant-loop-k l =
+    record {
+      playing : IsPlaying l.self;
+      text : skipped_text (l.clocks - l._k) l.self ≡ skipped_text l.clocks l.fn.self;
+    }

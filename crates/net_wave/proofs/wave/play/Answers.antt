@@ -1,0 +1,5 @@
+use Rattle.std.proofs.Common.{◌≡◌, ◌∙◌}
+use Rattle.net_wave.proofs.wave.play.Goals as goal
+
+pub returns-clause-text : goal.returns-clause-text
+returns-clause-text c = c.skip.ensures.text ∙ c.in_ok-playing.ensures.text

@@ -1,0 +1,35 @@
+-- What holds of all waves: their changes, replayed, are the values of the clocks, and no two variables have one code (IEEE 1364-2005,
+-- 18.2: value changes, identifier codes).
+use Rattle.std.specs.Prelude.{◌≡◌, ◌<◌, ◌≤◌, ℕ, ◌+◌, ◌*◌, ◌^◌, ◌==◌, cond, true, List, [], ◌∷◌, get_or, length, take}
+use Rattle.std.specs.List.{flat_map}
+use Rattle.instruments.specs.declared.Counts.{Counts}
+use Rattle.instruments.specs.Seen.{SeenModel}
+use Rattle.net_bench.specs.Bench.{Chip, State}
+use Rattle.net_bench.specs.Playing.{after_pins}
+use Rattle.tap_machine.specs.declared.Pins.{Pins}
+use Rattle.tap_machine.specs.Play.{no_shift}
+use Rattle.net_wave.specs.declared.var.Var.{Var}
+use Rattle.net_wave.specs.Codes.{code}
+use Rattle.net_wave.specs.Moments.{Change, Moment, moments_from, untold}
+use Rattle.net_wave.specs.Values.{values}
+use Rattle.std.specs.Prelude.{false}
+
+-- the digits that a variable was told last, and those that it had before where it was told none
+abbrev pub last_told : ℕ → List ℕ → List Change → List ℕ
+last_told n digits [] = digits
+last_told n digits (c ∷ cs) = last_told n (cond (c.number == n) c.digits digits) cs
+
+-- a variable after some moments
+abbrev pub replayed : ℕ → List Moment → List ℕ
+replayed n moments = last_told n [] (flat_map (λ m. m.changes) moments)
+
+-- After the moment at which clock j of some pins begins, each variable has the value of this clock: that of its pins and of the state before
+-- it. After the last clock it is that of the end, where nothing is shifted.
+abbrev pub MomentsReplay : Type 0
+MomentsReplay =
+    (chip : Chip Counts) (models : List SeenModel) (vars : List Var) (ps : List Pins) (s : State Counts) (from i j : ℕ) → i < length vars → j ≤ length ps
+    → replayed (i + 1) (take (2 * j + 1) (moments_from chip models vars true from (untold (length vars)) ps s)) ≡ get_or (values chip models vars (get_or ps j (no_shift false)) (after_pins chip (take j ps) s)) i []
+
+-- Numbers of 32 bits have codes of their own.
+abbrev pub CodesDiffer : Type 0
+CodesDiffer = (n m : ℕ) → n < 2 ^ 32 → m < 2 ^ 32 → code n ≡ code m → n ≡ m

@@ -1,0 +1,21 @@
+//! The waves of a play: what happens at the pins, in the TAP controller and on the chip, clock by clock (IEEE 1364-2005, 18.2:
+//! VCD files).
+#![tactic(auto)]
+
+mod codes;
+mod digits;
+mod header;
+mod items;
+mod laws;
+mod moments;
+mod names;
+mod playing;
+mod scene;
+mod shapes;
+mod texts;
+mod var;
+mod wave;
+
+pub use laws::{codes_differ, moments_replay};
+pub use var::{WaveKind, Window};
+pub use wave::put_wave_file;

@@ -1,0 +1,240 @@
+// A play that is under way, and the moments that are still to come.
+ghost use Rattle.std.specs.Prelude.{◌≡◌, ◌≤◌, ◌<◌, ◌++◌, ◌∷◌, [], cond, false, map, take, true, All, IfOk, IfSome, IsNone, IsSome, OnOk};
+ghost use Rattle.bench_report.specs.Report.{chip, chip_of};
+ghost use Rattle.instruments.specs.Runners.{AreModels};
+ghost use Rattle.instruments.specs.Seen.{seen_model};
+ghost use Rattle.net_bench.specs.Bench.{clock};
+ghost use Rattle.net_graph.specs.Chain.{chain as bits_on, put_chain};
+ghost use Rattle.net_graph.specs.Held.{AreHolds};
+ghost use Rattle.net_graph.specs.Nets.{IsNet};
+ghost use Rattle.net_graph.specs.Path.{route_of};
+ghost use Rattle.net_wave.specs.Left as left;
+ghost use Rattle.net_wave.specs.Left.{IsPlaying};
+ghost use Rattle.net_wave.specs.Moments.{moments_text, untold};
+ghost use Rattle.net_wave.specs.Vars.{IsVar};
+ghost use Rattle.net_wave.specs.Wave.{moments_of};
+ghost use Rattle.tap_machine.specs.declared.Stable.TheVariants.{Reset as InReset};
+ghost use Rattle.tap_machine.specs.Play.{pins, scans_in};
+
+use crate::moments::{add_falling, add_rising};
+use crate::scene::Scene;
+use crate::var::{Var, Window};
+use ij_bits::{List, OutOfMemory};
+use ij_io::SureSink;
+use instruments::Model;
+use net_bench::Bench;
+use net_graph::{Device, Holds, Net};
+use std::alloc::Global;
+use svf_writer::Commands;
+use tap_machine::{Pins, Player, Stable, TapState};
+
+/// A clock that shifts nothing, with TMS and TDI 0.
+const REST: Pins = Pins {
+    tms: false,
+    tdi: false,
+    expect: None,
+    scan: 0,
+    bit: 0,
+};
+
+/// A play on the bench of a network: its shift stages, its variables with the digits that were told last, whether none was
+/// told yet, the number of the next clock, and how many clocks are still to be written.
+#[derive(Drop)]
+pub(crate) struct Playing<'a> {
+    pub net: &'a Net,
+    pub models: &'a List<Model>,
+    pub bench: Bench<'a>,
+    pub player: Player<'a>,
+    pub stages: Holds,
+    pub vars: List<Var>,
+    pub told: Vec<List<u8>>,
+    pub first: bool,
+    pub clock: u64,
+    pub left: u64,
+}
+
+/// An empty list for each variable.
+fn nothing_told(alloc: Global, count: usize) -> Result<Vec<List<u8>>, OutOfMemory>
+    ensures { IfOk result (λ told. left.told_of told.items ≡ untold count) }
+{
+    let mut told = Vec::new(alloc);
+    for _k in 0..count {
+        told.push(List::new(alloc))?;
+    }
+    Ok(told)
+}
+
+/// Whether a clock that begins in a state changes shift stages of the network.
+fn shifts_in(tap: TapState) -> bool
+    ensures { result ≡ left.shifts_in tap }
+{
+    match tap {
+        TapState::CaptureDr => true,
+        TapState::ShiftDr => true,
+        _ => false,
+    }
+}
+
+/// Gives the shift stages beside a bench what those of its active path hold, if they changed.
+fn copy_if(changed: bool, bench: &Bench, stages: &mut Holds)
+    requires { AreHolds bench.now.net stages.old }
+    ensures { stages.new ≡ cond changed (put_chain (route_of bench.now.net bench.now.state.holds) (bits_on (route_of bench.now.net bench.now.state.holds) bench.now.state.stages) stages.old) stages.old }
+{
+    if changed {
+        bench.copy_path_stages(stages);
+    }
+}
+
+/// One clock of a bench and of the shift stages beside it.
+fn step(bench: &mut Bench, stages: &mut Holds, pins: Pins)
+    requires well_formed { IsNet bench.old.net }
+    requires shape { AreHolds bench.old.net stages.old }
+    requires stages { stages.old ≡ bench.old.state.stages }
+    ensures bench { bench.new ≡ record bench.old { state = clock (chip_of bench.old) pins.tms pins.tdi bench.old.state } }
+    ensures shape { AreHolds bench.old.net stages.new }
+    ensures stages { stages.new ≡ bench.new.state.stages }
+{
+    let shifts = shifts_in(bench.tap());
+    let _found = bench.clock(pins.tms, pins.tdi);
+    copy_if(shifts, bench, stages);
+}
+
+impl<'a> Playing<'a> {
+    /// A play from power-up of which nothing was written.
+    pub(crate) fn new(
+        alloc: Global,
+        net: &'a Net,
+        device: &'a Device,
+        models: &'a List<Model>,
+        commands: &'a Commands,
+        vars: List<Var>,
+        window: Window,
+    ) -> Result<Playing<'a>, OutOfMemory>
+        requires well_formed { IsNet net.now }
+        requires models { AreModels net.now models.now.items }
+        requires scans { scans_in commands.now ≤ 1000000000 }
+        requires there { All (IsVar net.now (map seen_model models.now.items)) vars.items }
+        ensures playing { IfOk result (λ playing. IsPlaying playing) }
+        ensures text { IfOk result (λ playing. left.skipped_text window.from playing ≡ moments_text (moments_of (chip net.now device.now (map seen_model models.now.items)) (map seen_model models.now.items) vars.items (pins InReset 0 commands.now) window)) }
+    {
+        let bench = Bench::new(alloc, net, device, models)?;
+        let player = Player::new(Stable::Reset, 0, commands);
+        let stages = Holds::zeros(alloc, net)?;
+        let told = nothing_told(alloc, vars.len())?;
+        Ok(Playing {
+            net,
+            models,
+            bench,
+            player,
+            stages,
+            vars,
+            told,
+            first: true,
+            clock: window.from,
+            left: window.count,
+        })
+    }
+
+    /// Plays so many clocks, unless the play ends before, and writes nothing.
+    pub(crate) fn skip(&mut self, clocks: u64)
+        requires { IsPlaying self.old }
+        ensures playing { IsPlaying self.new }
+        ensures text { left.left_text self.new ≡ left.skipped_text clocks self.old }
+    {
+        for _k in 0..clocks {
+            let Some(pins) = self.player.next() else {
+                return;
+            };
+            step(&mut self.bench, &mut self.stages, pins);
+        }
+    }
+
+    /// The pins of the next clock, `None` where no more is to be written.
+    fn next_pins(&mut self) -> Option<Pins>
+        ensures same { self.new ≡ record self.old { player = self.new.player; left = self.new.left } }
+        ensures none { IsNone result → take self.old.left self.old.player.pins ≡ [] }
+        ensures some { IfSome result (λ p. take self.old.left self.old.player.pins ≡ p ∷ take self.new.left self.new.player.pins) }
+        ensures fewer { IsSome result → self.new.left < self.old.left }
+    {
+        if self.left == 0 {
+            return None;
+        }
+        self.left -= 1;
+        self.player.next()
+    }
+
+    /// Adds the moment at which a clock begins.
+    fn add_falling(
+        &mut self,
+        alloc: Global,
+        pins: Pins,
+        piece: &mut SureSink,
+    ) -> Result<(), OutOfMemory>
+        requires { IsPlaying self.old }
+        ensures same { self.new ≡ record self.old { told = self.new.told } }
+        ensures told { OnOk result (left.told_of self.new.told.items ≡ left.values_at self.old pins) }
+        ensures text { OnOk result (piece.new ≡ piece.old ++ left.falling_text self.old pins) }
+    {
+        let scene = Scene {
+            net: self.net,
+            models: self.models,
+            bench: &self.bench,
+            stages: &self.stages,
+            pins,
+        };
+        add_falling(
+            alloc,
+            &scene,
+            self.vars.as_slice(),
+            self.first,
+            self.clock,
+            &mut self.told,
+            piece,
+        )
+    }
+
+    /// Adds the moments of a clock, and goes on to the next.
+    fn add_clock(
+        &mut self,
+        alloc: Global,
+        pins: Pins,
+        piece: &mut SureSink,
+    ) -> Result<(), OutOfMemory>
+        requires { IsPlaying self.old }
+        ensures playing { OnOk result (IsPlaying self.new) }
+        ensures text { OnOk result (piece.new ≡ piece.old ++ left.clock_text self.old pins) }
+        ensures left { OnOk result (left.left_text self.new ≡ left.after_text self.old pins) }
+        ensures count { OnOk result (self.new.left ≡ self.old.left) }
+    {
+        self.add_falling(alloc, pins, piece)?;
+        add_rising(self.clock, piece)?;
+        step(&mut self.bench, &mut self.stages, pins);
+        self.first = false;
+        self.clock = self.clock.saturating_add(1);
+        Ok(())
+    }
+
+    /// Adds the moments of the next clock, or that of the end; answers whether there are more.
+    pub(crate) fn add_next(
+        &mut self,
+        alloc: Global,
+        piece: &mut SureSink,
+    ) -> Result<bool, OutOfMemory>
+        requires { IsPlaying self.old }
+        ensures playing { IfOk result (λ more. more ≡ true → IsPlaying self.new) }
+        ensures text { IfOk result (λ more. more ≡ true → left.IsFurther piece.old piece.new (left.left_text self.old) (left.left_text self.new)) }
+        ensures fewer { IfOk result (λ more. more ≡ true → self.new.left < self.old.left) }
+        ensures end { IfOk result (λ more. more ≡ false → piece.new ≡ piece.old ++ left.left_text self.old) }
+    {
+        match self.next_pins() {
+            None => {
+                self.add_falling(alloc, REST, piece)?;
+                Ok(false)
+            }
+            Some(pins) => {
+                self.add_clock(alloc, pins, piece)?;
+                Ok(true)
+            }
+        }
+    }
+}

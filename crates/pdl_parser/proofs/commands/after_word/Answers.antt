@@ -1,0 +1,15 @@
+use Rattle.std.proofs.Common.{List, cond, drop, sym, ap, subst, ◌∙◌}
+use Rattle.pdl_parser.specs.Cutting.{Word}
+use Rattle.pdl_parser.specs.Grammar.{word_at}
+use Rattle.pdl_parser.specs.Seen.{words}
+use Rattle.pdl_parser.specs.SeenCommands.{Passes}
+use Rattle.pdl_parser.specs.Reading.{read_maybe_word}
+use Rattle.pdl_parser.proofs.Loops.{passes}
+use Rattle.pdl_parser.proofs.commands.after_word.Goals as goal
+
+pub returns-clause-gives : goal.returns-clause-gives
+returns-clause-gives c =
+    let ws = words c.args.lexemes.now in
+    subst (λ (rest : List Word). Passes (read_maybe_word c.args.text.now) ws rest)
+    (sym (c.after.ensures.rest ∙ ap (λ b. cond b (drop 1 ws) ws) c.begins_word.ensures))
+    (passes (word_at c.args.text.now) ws)

@@ -1,5 +1,0 @@
-use Rattle.pdl_targets.proofs.Walks.{front_of_path}
-use Rattle.pdl_targets.proofs.things.in_front.Goals as goal
-
-pub returns-in-len1-up : goal.returns-in-len1-up
-returns-in-len1-up c = front_of_path c.args.path.now
