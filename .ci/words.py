@@ -1,5 +1,6 @@
 #!/usr/bin/env python3
-"""Makes the man pages and the completion for bash of the tables of docs/MANUAL.md and docs/TOOLS.md: words.py, at the top of a checkout.
+"""Makes the man pages and the completion for bash of the tables of docs/MANUAL.md and docs/TOOLS.md, and GTKWave's names of the TAP states
+of that of docs/formats/WAVES.md: words.py, at the top of a checkout.
 
     words.py            says whether the files of share/ are what the tables give, whether README.md's table of commands has the same words,
                         and whether the completion completes
@@ -11,10 +12,12 @@ import sys
 
 
 class Page:
-    """The tables of a page."""
+    """The tables of a page, and of one of a program its commands and words."""
 
-    def __init__(self, name):
-        self.name, self.text = name, pathlib.Path(name).read_text()
+    def __init__(self, name, of_program=True):
+        self.name, self.text, self.commands, self.words = name, pathlib.Path(name).read_text(), [], {}
+        if not of_program:
+            return
         rows = self.table('Command', 'Words', 'What it does')
         self.commands = [(name.strip('`'), words.strip('`').split(), plain(what)) for name, words, what in rows]
         self.words = {name.strip('`'): plain(what) for name, what in self.table('Word', 'What it is')}
@@ -115,6 +118,12 @@ _ijtag_word() {{
 {completion_of('ijtag-tools', tools)}'''
 
 
+def tap_names():
+    """The hexadecimal digit of each TAP state and its name, as GTKWave reads a translate filter file."""
+    cells = [row[at:at + 2] for row in Page('docs/formats/WAVES.md', False).table('`tap`', 'State', '`tap`', 'State') for at in (0, 2)]
+    return ''.join(f'{int(code.strip("`"), 2):X} {state}\n' for code, state in cells)
+
+
 def completed(text):
     """What the completion offers for the last word of a line."""
     function = '_' + text.split()[0].replace('-', '_')
@@ -124,7 +133,7 @@ def completed(text):
 
 made = {'share/ijtag.1': man_page('ijtag', manual, 'verified IEEE 1687 (IJTAG) retargeter: procedures to SVF'),
         'share/ijtag-tools.1': man_page('ijtag-tools', tools, 'what is in an IEEE 1687 network, and SVF in few clocks'),
-        'share/ijtag.bash': completion()}
+        'share/ijtag.bash': completion(), 'share/gtkwave.tap': tap_names()}
 if '--write' in sys.argv:
     for name, text in made.items():
         pathlib.Path(name).parent.mkdir(exist_ok=True)
