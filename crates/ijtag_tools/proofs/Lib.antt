@@ -1,3 +1,4 @@
+mod Clocking
 mod Choosing
 mod Leaving
 mod Settling

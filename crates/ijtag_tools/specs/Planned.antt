@@ -1,7 +1,7 @@
 -- Texts that were looked at, as contracts see them.
-use Rattle.std.specs.Prelude.{◌≡◌, ◌≤◌, ℕ, List, Ok, length}
+use Rattle.std.specs.Prelude.{◌≡◌, ◌≤◌, ℕ, Bool, true, false, List, Ok, length}
 use Rattle.svf_reader.specs.Meaning.{svf}
-use Rattle.svf_writer.specs.SeenCommands.{SeenCommand}
+use Rattle.svf_writer.specs.SeenCommands.{SeenCommand, Reset}
 use Rattle.ijtag_work.specs.Accepted.{SeenAccepted}
 use Rattle.ijtag_work.specs.Audited.{DoAsMeant}
 use Rattle.ijtag_work.specs.Order.{written_text}
@@ -12,6 +12,11 @@ use Rattle.ijtag_tools.specs.declared.planned.Tightened.{Tightened}
 
 abbrev pub seen_cost : RustCost → Cost
 seen_cost c = record { scans = c.scans; clocks = c.clocks }
+
+-- whether a command leaves the controller in Test-Logic-Reset
+abbrev pub ends_in_reset : SeenCommand → Bool
+ends_in_reset Reset = true
+ends_in_reset _ = false
 
 -- a text whose commands do what the procedure means, and what they take
 pub record IsSound (it : SeenAccepted) (p : Planned) : Type 0 where

@@ -1,8 +1,6 @@
-use Rattle.std.proofs.Common.{◌≡◌, ◌+◌, length}
+use Rattle.std.proofs.Common.{◌≡◌, ◌+◌, true, drop}
+use Rattle.svf_writer.specs.Clocks.{clocks_from}
 use Rattle.ijtag_tools.proofs.cost.count_clocks.Given as goal
 
-abbrev pub invariant-loop-pins : goal.invariant-loop-pins
-invariant-loop-pins l = l.clocks + length l.player.pins ≡ length l.fn.player.pins
-
-abbrev pub decreases-loop-pins : goal.decreases-loop-pins
-decreases-loop-pins l = length l.player.pins
+abbrev pub invariant-loop-i : goal.invariant-loop-i
+invariant-loop-i l = l.clocks + clocks_from l.in_reset (drop l.i l.commands) ≡ clocks_from true l.commands
