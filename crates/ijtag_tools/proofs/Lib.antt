@@ -1,4 +1,3 @@
-mod Clocking
 mod Choosing
 mod Leaving
 mod Settling

@@ -1,5 +1,5 @@
 // What commands take on the tester.
-ghost use Rattle.std.specs.Prelude.{◌≡◌, ◌≤◌, ◌^◌, ◌∷◌, [], length, IsTrue};
+ghost use Rattle.std.specs.Prelude.{◌≡◌, ◌≤◌, ◌∷◌, [], length, IsTrue};
 ghost use Rattle.svf_writer.specs.Clocks.{clocks_from};
 ghost use Rattle.svf_writer.specs.SeenCommands.{seen_command};
 ghost use Rattle.tap_machine.specs.declared.Stable.TheVariants.{Reset as InReset};
@@ -30,8 +30,7 @@ impl Cost {
 
 /// The clocks of a command, one more where Test-Logic-Reset is left (Serial Vector Format, revision E; IEEE 1149.1-2013).
 fn clocks_of(command: &Command, in_reset: bool) -> u64
-    ensures clocks { result ≡ clocks_from in_reset (seen_command command.now ∷ []) }
-    ensures few { result ≤ 2 ^ 33 }
+    ensures { result ≡ clocks_from in_reset (seen_command command.now ∷ []) }
 {
     let clocks = match command {
         Command::Sir(scan) => u64::from(scan.len) + 6,
