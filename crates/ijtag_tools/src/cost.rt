@@ -1,5 +1,5 @@
 // What commands take on the tester.
-ghost use Rattle.std.specs.Prelude.{◌≡◌, ◌≤◌, ◌∷◌, [], length, IsTrue};
+ghost use Rattle.std.specs.Prelude.{◌≡◌, ◌↔◌, ◌≤◌, ◌∷◌, [], length, IsTrue};
 ghost use Rattle.svf_writer.specs.Clocks.{clocks_from};
 ghost use Rattle.svf_writer.specs.SeenCommands.{seen_command};
 ghost use Rattle.tap_machine.specs.declared.Stable.TheVariants.{Reset as InReset};
@@ -22,7 +22,7 @@ pub struct Cost {
 impl Cost {
     /// Whether it takes no more than another one, neither scans nor clocks.
     pub fn is_within(self, other: Cost) -> bool
-        ensures { IsTrue result → (self.scans ≤ other.scans) × (self.clocks ≤ other.clocks) }
+        ensures { IsTrue result ↔ (self.scans ≤ other.scans) × (self.clocks ≤ other.clocks) }
     {
         self.scans <= other.scans && self.clocks <= other.clocks
     }
