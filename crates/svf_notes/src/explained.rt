@@ -55,14 +55,10 @@ fn add_next_note(
     ensures left { OnOk result (left_notes playing.new ≡ drop 1 (left_notes playing.old)) }
     ensures playing { IsPlaying playing.new }
 {
-    match playing.next_note(alloc)? {
-        None => Ok(()),
-        Some(note) => {
-            add(note.bytes(), piece)?;
-            add(closing(rest), piece)?;
-            Ok(())
-        }
+    if playing.add_next_note(alloc, piece)? {
+        add(closing(rest), piece)?;
     }
+    Ok(())
 }
 
 /// Adds what stands after the `;` of a command, before the rest of the text.
