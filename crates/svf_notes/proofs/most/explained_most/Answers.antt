@@ -1,0 +1,11 @@
+use Rattle.std.proofs.Common.{◌≡◌, ◌+◌, ℕ, List, length, map, ap, sym, subst, arith}
+use Rattle.instruments.specs.Seen.{seen_model}
+use Rattle.svf_notes.specs.Most.{AreNamedWithin, most_of}
+use Rattle.svf_notes.proofs.Longest.{explained_short}
+use Rattle.svf_notes.proofs.most.explained_most.Goals as goal
+
+pub returns : goal.returns
+returns c =
+    let a = c.args in
+    let short = explained_short a.net.now a.device.now (map seen_model a.models.now.items) a.commands.now a.src.now c.in_ok-name.name c.requires.well_formed c.len.ensures.fits c.requires.scans c.in_ok-name.ensures in
+    omega (arith, short, c.notes_most-notes.ensures, c.saturating_add.ensures)
