@@ -22,7 +22,7 @@ use Rattle.svf_writer.specs.SeenCommands.{SIR, SDR, Reset, Idle, Run, SeenComman
 use Rattle.tap_machine.specs.declared.Pins.{Pins}
 use Rattle.tap_machine.specs.declared.Stable.{Stable}
 use Rattle.tap_machine.specs.declared.Stable.TheVariants.{Reset as InReset, Idle as InIdle}
-use Rattle.tap_machine.specs.Play.{LastScan, Played, after_scan, no_scan, no_shift, pins_with, played, scans_in, sdr_pins, shifts, sir_pins, to_idle}
+use Rattle.tap_machine.specs.Play.{LastScan, Played, after_scan, is_empty, no_scan, no_shift, pins_with, played, scans_in, sdr_pins, shifts, sir_pins, to_idle}
 use Rattle.svf_notes.specs.Explained.{closing, explained, explained_text, note_at, notes_left, with_notes}
 use Rattle.svf_notes.specs.Most.{AreNamedWithin, most_of, most_of_scan}
 use Rattle.svf_notes.specs.Notes.{note_of, note_text, played_scans}
@@ -41,17 +41,35 @@ closing_short : (rest : List ℕ) → length (closing rest) ≤ 1
 closing_short rest = cases (first rest == 10)
   where
     cases : (k : Bool) → length (cond k [] (10 ∷ [])) ≤ 1
-    cases true = omega arith
-    cases false = omega arith
+    cases true =
+        let none : length {A = ℕ} (cond true [] (10 ∷ [])) ≡ 0 = refl in
+        omega (arith, none)
+    cases false =
+        let one : length {A = ℕ} (cond false [] (10 ∷ [])) ≡ 1 = refl in
+        omega (arith, one)
 
 note_total : (scans : Bool) (notes : List (List ℕ)) (rest : List ℕ) → length (note_at scans notes rest) + total (notes_left scans notes) ≤ total notes
-note_total false notes rest = omega arith
-note_total true [] rest = omega arith
-note_total true (n ∷ ns) rest = omega (arith, length-append n (closing rest), closing_short rest)
+note_total false notes rest =
+    let none : length (note_at false notes rest) ≡ 0 = refl in
+    let same : total (notes_left false notes) ≡ total notes = refl in
+    omega (arith, none, same)
+note_total true [] rest =
+    let none : length (note_at true [] rest) ≡ 0 = refl in
+    let left : total (notes_left true []) ≡ 0 = refl in
+    omega (arith, none, left)
+note_total true (n ∷ ns) rest =
+    let one : length (note_at true (n ∷ ns) rest) ≡ length n + length (closing rest) = length-append n (closing rest) in
+    let left : total (notes_left true (n ∷ ns)) ≡ total ns = refl in
+    let all : total (n ∷ ns) ≡ suc (length n) + total ns = refl in
+    omega (arith, one, left, all, closing_short rest)
 
 noted_short : (ts notes : List (List ℕ)) (src : List ℕ) → length (with_notes ts notes src) ≤ length src + total notes
-noted_short [] notes src = omega arith
-noted_short (t ∷ []) notes src = omega arith
+noted_short [] notes src =
+    let same : length (with_notes [] notes src) ≡ length src = refl in
+    omega (arith, same)
+noted_short (t ∷ []) notes src =
+    let same : length (with_notes (t ∷ []) notes src) ≡ length src = refl in
+    omega (arith, same)
 noted_short (t ∷ (u ∷ us)) notes src =
     let n = suc (length t) in
     let scans = is_scan (words t) in
@@ -59,14 +77,15 @@ noted_short (t ∷ (u ∷ us)) notes src =
     let here = note_at scans notes rest in
     let later = with_notes (u ∷ us) (notes_left scans notes) rest in
     let cut : length (take n src) + length rest ≡ length src = sym (length-append (take n src) rest) ∙ ap length (take-append-drop n src) in
-    omega (arith, cut, length-append (take n src) (here ++ later), length-append here later, note_total scans notes rest, noted_short (u ∷ us) (notes_left scans notes) rest)
+    let whole : length (with_notes (t ∷ (u ∷ us)) notes src) ≡ length (take n src) + length (here ++ later) = length-append (take n src) (here ++ later) in
+    omega (arith, cut, whole, length-append here later, note_total scans notes rest, noted_short (u ∷ us) (notes_left scans notes) rest)
 
 -- ---- one scan
 
 module _ (c : Chip Counts) (wide : capture_widths c.net ≡ widths c.net) where
   bits_length : (ts : List Bool) (es : List (Option Bool)) (s : State Counts) → length (shifted_bits c ts es s) ≡ length ts
   bits_length [] es s = refl
-  bits_length (t ∷ ts) es s = ap suc (bits_length ts (drop 1 es) _)
+  bits_length (t ∷ ts) es s = ap suc (bits_length ts (drop 1 es) (clock c (is_empty ts) t s))
 
   -- what some pins shift: one scan, and the state after it
   record IsOneScan (ps rest : List Pins) (s : State Counts) (number bits : ℕ) : Type 0 where
@@ -145,22 +164,35 @@ module _ (c : Chip Counts) (wide : capture_widths c.net ≡ widths c.net) where
 
     scans_short : (cs : List SeenCommand) (i d : Option ℕ) (ir dr : LastScan) (from : Stable) (n : ℕ) (s : State Counts) → Keeps i ir → Keeps d dr → AreFitAfter i d cs → n + scans_in cs < 10000000000 → IsShaped c s
         → Short cs (scans_of c (pins_with ir dr from n cs) s)
-    scans_short [] i d ir dr from n s ki kd fit few h = omega arith
+    scans_short [] i d ir dr from n s ki kd fit few h =
+        let none : total (map note (scans_of c (pins_with ir dr from n []) s)) ≡ 0 = refl in
+        omega (arith, none)
     scans_short (SIR x ∷ cs) i d ir dr from n s ki kd fit few h =
         let long = as_many i ir x ki fit.0 in
-        scan_more from (true ∷ true ∷ false ∷ false ∷ []) n x.len (played ir x) (pins_with (after_scan ir x) dr InIdle (suc n) cs) cs s (omega (arith, long, fit.0.some)) long (omega (arith, few)) h
-        (λ t ht. scans_short cs (Some x.len) d (after_scan ir x) dr InIdle (suc n) t (keeps_now i ir x ki fit.0) kd fit.1 (omega (arith, few)) ht)
+        let count : n + suc (scans_in cs) < 10000000000 = few in
+        scan_more from (true ∷ true ∷ false ∷ false ∷ []) n x.len (played ir x) (pins_with (after_scan ir x) dr InIdle (suc n) cs) cs s (omega (arith, long, fit.0.some)) long (omega (arith, count)) h
+        (λ t ht. scans_short cs (Some x.len) d (after_scan ir x) dr InIdle (suc n) t (keeps_now i ir x ki fit.0) kd fit.1 (omega (arith, count)) ht)
     scans_short (SDR x ∷ cs) i d ir dr from n s ki kd fit few h =
         let long = as_many d dr x kd fit.0 in
-        scan_more from (true ∷ false ∷ false ∷ []) n x.len (played dr x) (pins_with ir (after_scan dr x) InIdle (suc n) cs) cs s (omega (arith, long, fit.0.some)) long (omega (arith, few)) h
-        (λ t ht. scans_short cs i (Some x.len) ir (after_scan dr x) InIdle (suc n) t ki (keeps_now d dr x kd fit.0) fit.1 (omega (arith, few)) ht)
+        let count : n + suc (scans_in cs) < 10000000000 = few in
+        scan_more from (true ∷ false ∷ false ∷ []) n x.len (played dr x) (pins_with ir (after_scan dr x) InIdle (suc n) cs) cs s (omega (arith, long, fit.0.some)) long (omega (arith, count)) h
+        (λ t ht. scans_short cs i (Some x.len) ir (after_scan dr x) InIdle (suc n) t ki (keeps_now d dr x kd fit.0) fit.1 (omega (arith, count)) ht)
     scans_short (Reset ∷ cs) i d ir dr from n s ki kd fit few h =
-        quiet_more (replicate 5 (no_shift true)) (pins_with ir dr InReset n cs) cs s (quiet_many 5 true) h (λ t ht. scans_short cs i d ir dr InReset n t ki kd fit few ht)
+        let this : Short cs (scans_of c (pins_with ir dr from n (Reset ∷ cs)) s) =
+        quiet_more (replicate 5 (no_shift true)) (pins_with ir dr InReset n cs) cs s (quiet_many 5 true) h (λ t ht. scans_short cs i d ir dr InReset n t ki kd fit few ht) in
+        let none : most (Reset ∷ cs) ≡ 0 + most cs = refl in
+        omega (arith, this, none)
     scans_short (Idle ∷ cs) i d ir dr from n s ki kd fit few h =
-        quiet_more (to_idle from) (pins_with ir dr InIdle n cs) cs s (quiet_idle from) h (λ t ht. scans_short cs i d ir dr InIdle n t ki kd fit few ht)
+        let this : Short cs (scans_of c (pins_with ir dr from n (Idle ∷ cs)) s) =
+        quiet_more (to_idle from) (pins_with ir dr InIdle n cs) cs s (quiet_idle from) h (λ t ht. scans_short cs i d ir dr InIdle n t ki kd fit few ht) in
+        let none : most (Idle ∷ cs) ≡ 0 + most cs = refl in
+        omega (arith, this, none)
     scans_short (Run m ∷ cs) i d ir dr from n s ki kd fit few h =
+        let this : Short cs (scans_of c (pins_with ir dr from n (Run m ∷ cs)) s) =
         quiet_more (to_idle from) (replicate m (no_shift false) ++ pins_with ir dr InIdle n cs) cs s (quiet_idle from) h
-        (λ t ht. quiet_more (replicate m (no_shift false)) (pins_with ir dr InIdle n cs) cs t (quiet_many m false) ht (λ u hu. scans_short cs i d ir dr InIdle n u ki kd fit few hu))
+        (λ t ht. quiet_more (replicate m (no_shift false)) (pins_with ir dr InIdle n cs) cs t (quiet_many m false) ht (λ u hu. scans_short cs i d ir dr InIdle n u ki kd fit few hu)) in
+        let none : most (Run m ∷ cs) ≡ 0 + most cs = refl in
+        omega (arith, this, none)
 
 -- ---- the whole text
 
@@ -171,7 +203,10 @@ explained_short net device models commands src name is fit few short =
     let c = chip net device models in
     let wide : capture_widths net ≡ widths net = captures_wide net net.regs.items is.regs in
     let notes = map (λ x. note_text (note_of net device x)) (scans_of c (pins_with no_scan no_scan InReset 0 commands) (power_up c)) in
-    omega (arith, noted_short (texts (plain src)) notes src, scans_short c wide is device name short commands None None no_scan no_scan InReset 0 (power_up c) no_length no_length fit (omega (arith, few)) (power_up_shaped c))
+    let long : length (explained_text net device models commands src) ≤ length src + total notes = noted_short (texts (plain src)) notes src in
+    let few_notes : total notes ≤ most_of device (length net.regs.items) name commands =
+    scans_short c wide is device name short commands None None no_scan no_scan InReset 0 (power_up c) no_length no_length fit (omega (arith, few)) (power_up_shaped c) in
+    omega (arith, long, few_notes)
 
 -- ---- what is counted
 
