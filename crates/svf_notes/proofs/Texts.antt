@@ -1,5 +1,5 @@
 -- A text with notes, command by command.
-use Rattle.std.proofs.Common.{◌≡◌, ℕ, suc, ◌+◌, ◌-◌, ◌^◌, Bool, true, false, Option, Some, List, [], ◌∷◌, ◌++◌, length, take, drop, refl, ap, sym, ◌∙◌, subst, arith, append_assoc, append-nil}
+use Rattle.std.proofs.Common.{◌≡◌, ℕ, suc, ◌+◌, ◌-◌, ◌^◌, Bool, false, Option, Some, List, [], ◌∷◌, ◌++◌, length, take, drop, refl, ap, sym, ◌∙◌, subst, arith, append_assoc}
 use Rattle.std.specs.Prelude.{min}
 use Rattle.ij_io.specs.Bytes.{AddsPart}
 use Rattle.ij_io.specs.Files.{Files}
@@ -11,8 +11,7 @@ use Rattle.svf_reader.specs.Commands.{is_scan}
 use Rattle.svf_reader.specs.Texts.{plain, texts, words}
 use Rattle.svf_reader.proofs.Cuts.{plain_length}
 use Rattle.svf_reader.proofs.Whole.{texts_some}
-use Rattle.svf_notes.specs.Explained.{closing, explained, note_at, notes_left, with_notes}
-use Rattle.svf_notes.specs.Left.{AddsNote}
+use Rattle.svf_notes.specs.Explained.{explained, note_at, notes_left, with_notes}
 
 front_taken : (front rest : List ℕ) (b : ℕ) → take (suc (length front)) (front ++ b ∷ rest) ≡ front ++ b ∷ []
 front_taken [] rest b = refl
@@ -50,19 +49,6 @@ next_is notes text command rest cut whole = cases (texts_some (plain rest)).0 (t
 pub last_is : (notes : List (List ℕ)) (text : List ℕ) → texts (plain text) ≡ plain text ∷ [] → explained notes text ≡ text
 unfolding explained
 last_is notes text cut = ap (λ (l : List (List ℕ)). with_notes l notes text) cut
-
--- ---- one note
-
-pub none_added : (left : List (List ℕ)) (old new rest : List ℕ) → AddsNote false left old new → new ≡ old ++ note_at true left rest
-none_added left old new rest none =
-    none.1 ∙ sym (append-nil old) ∙ ap (λ (notes : List (List ℕ)). old ++ note_at true notes rest) (sym none.0)
-
-pub one_added : (left : List (List ℕ)) (old added new rest : List ℕ) → AddsNote true left old added → new ≡ added ++ closing rest → new ≡ old ++ note_at true left rest
-one_added left old added new rest (note, later, is, more) closed =
-    closed
-    ∙ ap (λ (l : List ℕ). l ++ closing rest) more
-    ∙ append_assoc old note (closing rest)
-    ∙ ap (λ (notes : List (List ℕ)). old ++ note_at true notes rest) (sym is)
 
 -- ---- the length
 

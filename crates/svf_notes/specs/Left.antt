@@ -1,5 +1,5 @@
 -- What is left of a play that is under way: its scans, and their notes.
-use Rattle.std.specs.Prelude.{◌≡◌, ℕ, Bool, true, false, List, [], ◌∷◌, ◌++◌, map}
+use Rattle.std.specs.Prelude.{◌≡◌, ℕ, List, map}
 use Rattle.instruments.specs.declared.Counts.{Counts}
 use Rattle.net_graph.specs.Nets.{IsNet}
 use Rattle.bench_report.specs.Report.{chip_of}
@@ -18,8 +18,3 @@ left_scans p = scans_of (chip_of p.bench) p.player.pins p.bench.state
 
 unfoldable pub left_notes : Playing → List (List ℕ)
 left_notes p = map (λ x. note_text (note_of p.net.now p.device.now x)) (left_scans p)
-
--- the first of the notes that are left is added to a text, if there is one
-abbrev pub AddsNote : Bool → List (List ℕ) → List ℕ → List ℕ → Type 0
-AddsNote false left old new = (left ≡ []) × (new ≡ old)
-AddsNote true left old new = (note : List ℕ) × (later : List (List ℕ)) × (left ≡ note ∷ later) × (new ≡ old ++ note)

@@ -55,10 +55,14 @@ fn add_next_note(
     ensures left { OnOk result (left_notes playing.new ≡ drop 1 (left_notes playing.old)) }
     ensures playing { IsPlaying playing.new }
 {
-    if !playing.add_next_note(alloc, piece)? {
-        return Ok(());
+    match playing.next_note(alloc)? {
+        None => Ok(()),
+        Some(note) => {
+            add(note.bytes(), piece)?;
+            add(closing(rest), piece)?;
+            Ok(())
+        }
     }
-    add(closing(rest), piece)
 }
 
 /// Adds what stands after the `;` of a command, before the rest of the text.

@@ -1,9 +1,9 @@
 // A play that is under way, and the notes that are still to come.
-ghost use Rattle.std.specs.Prelude.{◌≡◌, ◌≤◌, ◌++◌, ◌∷◌, [], drop, length, map, IfOk, MatchOption, OnOk};
+ghost use Rattle.std.specs.Prelude.{◌≡◌, ◌≤◌, ◌∷◌, [], drop, length, map, IfOk, MatchOption};
 ghost use Rattle.instruments.specs.Runners.{AreModels};
 ghost use Rattle.instruments.specs.Seen.{seen_model};
 ghost use Rattle.net_graph.specs.Nets.{IsNet};
-ghost use Rattle.svf_notes.specs.Left.{left_notes, left_scans, AddsNote, IsPlaying};
+ghost use Rattle.svf_notes.specs.Left.{left_notes, left_scans, IsPlaying};
 ghost use Rattle.svf_notes.specs.Notes.{notes, note_text, note_of, played_scans};
 ghost use Rattle.tap_machine.specs.Play.{scans_in};
 
@@ -67,11 +67,12 @@ impl<'a> Playing<'a> {
         next_scan(&mut self.player, &mut self.bench, &mut self.bits)
     }
 
-    /// Adds the note of the scan that was shifted last, by its number.
-    fn add_note(&self, alloc: Global, number: u32, text: &mut SureSink) -> Result<(), OutOfMemory>
+    /// The note of the scan that was shifted last, by its number.
+    fn note(&self, alloc: Global, number: u32) -> Result<SureSink, OutOfMemory>
         requires { IsPlaying self.now }
-        ensures { OnOk result (text.new ≡ text.old ++ note_text (note_of self.now.net.now self.now.device.now (record { number = number; bits = self.now.bits.items; state = self.now.bench.state }))) }
+        ensures { IfOk result (λ note. note ≡ note_text (note_of self.now.net.now self.now.device.now (record { number = number; bits = self.now.bits.items; state = self.now.bench.state }))) }
     {
+        let mut note = SureSink::new(alloc);
         let bits = self.bits.as_slice();
         match put_note(
             alloc,
@@ -80,30 +81,23 @@ impl<'a> Playing<'a> {
             &self.bench,
             number,
             bits,
-            text,
+            &mut note,
         ) {
-            Ok(()) => Ok(()),
+            Ok(()) => Ok(note),
             Err(_) => Err(OutOfMemory),
         }
     }
 
-    /// Plays on to the next scan and adds its note; answers whether there is one, and where the play ends first adds nothing.
-    pub(crate) fn add_next_note(
-        &mut self,
-        alloc: Global,
-        text: &mut SureSink,
-    ) -> Result<bool, OutOfMemory>
+    /// Plays on to the next scan; answers its note, and `None` where the play ends first.
+    pub(crate) fn next_note(&mut self, alloc: Global) -> Result<Option<SureSink>, OutOfMemory>
         requires { IsPlaying self.old }
         ensures playing { IsPlaying self.new }
-        ensures note { IfOk result (λ there. AddsNote there (left_notes self.old) text.old text.new) }
+        ensures note { IfOk result (λ note. MatchOption note (left_notes self.old ≡ []) (λ text. left_notes self.old ≡ text ∷ left_notes self.new)) }
         ensures rest { IfOk result (λ _. left_notes self.new ≡ drop 1 (left_notes self.old)) }
     {
         match self.next()? {
-            None => Ok(false),
-            Some(number) => {
-                self.add_note(alloc, number, text)?;
-                Ok(true)
-            }
+            None => Ok(None),
+            Some(number) => Ok(Some(self.note(alloc, number)?)),
         }
     }
 }
