@@ -40,7 +40,7 @@ total (n ∷ ns) = suc (length n) + total ns
 closing_short : (rest : List ℕ) → length (closing rest) ≤ 1
 closing_short rest = cases (first rest == 10)
   where
-    cases : (k : Bool) → length (cond k [] (10 ∷ [])) ≤ 1
+    cases : (k : Bool) → length {A = ℕ} (cond k [] (10 ∷ [])) ≤ 1
     cases true =
         let none : length {A = ℕ} (cond true [] (10 ∷ [])) ≡ 0 = refl in
         omega (arith, none)

@@ -43,7 +43,7 @@ fn named_len(alloc: Global, net: &Net, reg: u32) -> Result<u64, OutOfMemory>
 /// The greatest length of a register's path and range.
 fn longest_name(alloc: Global, net: &Net) -> Result<u64, OutOfMemory>
     requires well_formed { IsNet net.now }
-    ensures { IfOk result (λ most. most.AreNamedWithin net.now (length net.now.regs.items) most) }
+    ensures { IfOk result (λ longest. most.AreNamedWithin net.now (length net.now.regs.items) longest) }
 {
     let count = register_count(net);
     let mut longest = 0u64;

@@ -8,5 +8,6 @@ returns c =
     let rows = min c.args.bits c.args.regs in
     let each : c.saturating_add.result ≡ min (51 + c.args.name) (2 ^ 64 - 1) = omega (arith, c.saturating_add.ensures) in
     let all = ap (λ (k : ℕ). min (rows * k) (2 ^ 64 - 1)) each in
-    let first = ap (λ (k : ℕ). min (k * c.saturating_add.result) (2 ^ 64 - 1)) c.min.ensures in
+    let few : c.min.result ≡ rows = omega (arith, c.min.ensures) in
+    let first = ap (λ (k : ℕ). min (k * c.saturating_add.result) (2 ^ 64 - 1)) few in
     omega (arith, scaled rows (51 + c.args.name), all, first, c.saturating_mul.ensures)

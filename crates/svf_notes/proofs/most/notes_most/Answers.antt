@@ -13,4 +13,4 @@ loop-i-preserved c =
     let rest = drop (suc i) cs in
     let next = drop-cons cs i command inside ∙ ap (λ (x : SeenCommand). x ∷ rest) (sym c.get.ensures) in
     let sum = ap (most_of c.args.device.now c.args.regs c.args.name) next in
-    omega (arith, c.loop-i.invariant, sum, c.saturating_add.ensures, c.command_most.ensures)
+    omega (arith, c.loop-i.invariant, sum, c.saturating_add-sum.ensures, c.command_most.ensures)
