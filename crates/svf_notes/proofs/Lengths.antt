@@ -136,7 +136,8 @@ module _ (net : Net) (is : IsNet net) (name : ℕ) (short : AreNamedWithin net (
       let some : length path ≤ path_length net holds = few_rows path route in
       let few : length path ≤ min (length bits) (length net.regs.items) = omega (arith, same, some, route_fits (length net.regs.items) path route) in
       let names : length path * (51 + name) ≤ most_names (length bits) = mul-le-mul_right (51 + name) few in
-      omega (arith, rows_short path 0 bits route (path_short net holds is held), names)
+      let within : length (chain path holds) ≤ 4096 = path_short net holds is held in
+      omega (arith, rows_short path 0 bits route (omega (arith, within)), names)
 
   module _ (device : Device) (x : Scan Counts) (same : x.state.holds ≡ holds) where
     abbrev n : ℕ

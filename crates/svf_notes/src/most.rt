@@ -117,7 +117,7 @@ pub fn explained_most(
     // Its contract says that the commands can be played.
     let _count = commands.len();
     let name = longest_name(alloc, net)?;
-    let regs = u64::from(register_count(net));
-    let notes = notes_most(device, regs, name, commands);
+    let count = register_count(net);
+    let notes = notes_most(device, u64::from(count), name, commands);
     Ok(notes.saturating_add(src.len() as u64))
 }
