@@ -1,5 +1,5 @@
 -- How long a note becomes.
-use Rattle.std.proofs.Common.{◌≡◌, ℕ, zero, suc, ◌+◌, ◌*◌, ◌-◌, ◌/◌, ◌<◌, ◌≤◌, ◌^◌, Bool, true, false, cond, Option, List, [], ◌∷◌, ◌++◌, length, take, drop, map, get_or, refl, ap, sym, ◌∙◌, subst, arith, length-append, append-nil}
+use Rattle.std.proofs.Common.{◌≡◌, ℕ, zero, suc, ◌+◌, ◌*◌, ◌-◌, ◌/◌, ◌<◌, ◌≤◌, Bool, true, false, cond, List, [], ◌∷◌, ◌++◌, length, take, drop, get_or, refl, ap, sym, ◌∙◌, subst, arith, length-append, append-nil}
 use Rattle.std.specs.Prelude.{◌==◌, codes, decimal, min}
 use Rattle.std.specs.List.{list_any}
 use Rattle.std.proofs.Math.Nat.{suc-mul, mul-le-mul_right}
@@ -8,7 +8,6 @@ use Rattle.std.proofs.lemmas.Fmt.{length-decimal-le}
 use Rattle.std.proofs.lemmas.List.{take-append-drop}
 use Rattle.ij_bits.specs.BitLists.{bits_eq}
 use Rattle.instruments.specs.declared.Counts.{Counts}
-use Rattle.net_bench.specs.Bench.{State}
 use Rattle.net_bench.specs.Instruction.{Selected, Network, Identity, Bypass, selected}
 use Rattle.net_graph.specs.declared.device.Device.{Device}
 use Rattle.net_graph.specs.declared.net.Net.{Net}
@@ -25,8 +24,8 @@ use Rattle.report.specs.Paths.{register_path}
 use Rattle.svf_notes.specs.declared.scan.Shifted.{Shifted}
 use Rattle.svf_notes.specs.declared.scan.Shown.{Shown}
 use Rattle.svf_notes.specs.declared.scan.Shown.TheVariants.{Written, Expected, Found}
-use Rattle.svf_notes.specs.Most.{AreNamedWithin, most_of_scan, named}
-use Rattle.svf_notes.specs.Notes.{Target, Instruction, Data, digit_of, digits, differs, first_line, hex_digits, instruction_text, is_compared, note_of, note_text, number_text, opcode_text, other_length, path_length, path_text, positions_text, range_text, row, rows, rows_if, selected_name, target, target_rows, target_text, tdi_bits, values_text}
+use Rattle.svf_notes.specs.Most.{AreNamedWithin, most_of_scan}
+use Rattle.svf_notes.specs.Notes.{Target, Instruction, Data, digit_of, digits, differs, first_line, hex_digits, is_compared, note_of, note_text, number_text, opcode_text, other_length, path_length, path_text, positions_text, range_text, row, rows, rows_if, selected_name, target, target_rows, target_text, tdi_bits, values_text}
 use Rattle.svf_notes.specs.Scans.{Scan}
 use Rattle.svf_notes.proofs.Rows.{note_both, path_short, some_bits}
 

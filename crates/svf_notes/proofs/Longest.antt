@@ -17,12 +17,12 @@ use Rattle.net_graph.specs.Nets.{IsNet}
 use Rattle.net_graph.proofs.Shapes.{capture_widths, widths}
 use Rattle.svf_reader.specs.Commands.{is_scan}
 use Rattle.svf_reader.specs.Texts.{first, plain, texts, words}
-use Rattle.svf_writer.specs.Fits.{AreFit, AreFitAfter, FitsAfter}
-use Rattle.svf_writer.specs.SeenCommands.{SIR, SDR, Reset, Idle, Run, SeenCommand, SeenScan}
+use Rattle.svf_writer.specs.Fits.{AreFit, AreFitAfter}
+use Rattle.svf_writer.specs.SeenCommands.{SIR, SDR, Reset, Idle, Run, SeenCommand}
 use Rattle.tap_machine.specs.declared.Pins.{Pins}
 use Rattle.tap_machine.specs.declared.Stable.{Stable}
 use Rattle.tap_machine.specs.declared.Stable.TheVariants.{Reset as InReset, Idle as InIdle}
-use Rattle.tap_machine.specs.Play.{LastScan, Played, after_scan, is_empty, no_scan, no_shift, pins_with, played, scans_in, sdr_pins, shifts, sir_pins, to_idle}
+use Rattle.tap_machine.specs.Play.{LastScan, Played, after_scan, is_empty, no_scan, no_shift, pins_with, played, scans_in, shifts, to_idle}
 use Rattle.svf_notes.specs.Explained.{closing, explained, explained_text, note_at, notes_left, with_notes}
 use Rattle.svf_notes.specs.Most.{AreNamedWithin, most_of, most_of_scan}
 use Rattle.svf_notes.specs.Notes.{note_of, note_text, played_scans}

@@ -1,6 +1,6 @@
-use Rattle.std.proofs.Common.{◌≡◌, ◌+◌, ℕ, List, length, map, ap, sym, subst, arith}
+use Rattle.std.proofs.Common.{◌≡◌, ℕ, length, map, ap, arith}
 use Rattle.instruments.specs.Seen.{seen_model}
-use Rattle.svf_notes.specs.Most.{AreNamedWithin, most_of}
+use Rattle.svf_notes.specs.Most.{most_of}
 use Rattle.svf_notes.proofs.Longest.{explained_short}
 use Rattle.svf_notes.proofs.most.explained_most.Goals as goal
 

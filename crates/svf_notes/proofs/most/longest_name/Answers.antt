@@ -1,4 +1,4 @@
-use Rattle.std.proofs.Common.{◌≡◌, ◌<◌, ◌≤◌, ◌+◌, ⊎_elim, ℕ, length, subst, arith}
+use Rattle.std.proofs.Common.{◌≤◌, ⊎_elim, ℕ, length, subst, arith}
 use Rattle.std.proofs.lemmas.Bool.Decides.{eqb_tells}
 use Rattle.svf_notes.specs.Most.{named}
 use Rattle.svf_notes.proofs.most.longest_name.Goals as goal

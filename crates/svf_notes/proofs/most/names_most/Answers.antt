@@ -1,4 +1,4 @@
-use Rattle.std.proofs.Common.{◌≡◌, ◌+◌, ◌*◌, ◌-◌, ◌^◌, ◌∙◌, ℕ, ap, arith}
+use Rattle.std.proofs.Common.{◌≡◌, ◌+◌, ◌*◌, ◌-◌, ◌^◌, ℕ, ap, arith}
 use Rattle.std.specs.Prelude.{min}
 use Rattle.svf_notes.proofs.Longest.{scaled}
 use Rattle.svf_notes.proofs.most.names_most.Goals as goal
