@@ -17,9 +17,12 @@ use ijtag_core::{Effect, SVF_LIMIT};
 use ijtag_stages::{Stage, StageFault, refused};
 use ijtag_work::{Accepted, Stop, Texts, Verdict};
 use std::alloc::Global;
-use svf_notes::{explained_commands_stay, explained_len, put_explained_file};
+use svf_notes::{
+    explained_commands_stay, explained_len, explained_most, put_explained_file,
+};
 
-/// Refuses a text with notes that is too long to be read again.
+/// Refuses a text with notes that is too long to be read again. It is played only where the lengths of its scans don't tell that
+/// it is short.
 #[tactic(auto, unfolding(crate::specs::Order::is_readable, crate::specs::Order::explained_of))]
 fn check_length(alloc: Global, it: &Accepted) -> Result<(), StageFault>
     requires usable { IsUsable it.now }
@@ -29,6 +32,17 @@ fn check_length(alloc: Global, it: &Accepted) -> Result<(), StageFault>
     ensures { Follows (is_readable (seen_accepted it.now)) (λ _. tt) result }
 {
     let net = &it.network.net;
+    let most = explained_most(
+        alloc,
+        net,
+        &it.device,
+        it.models().models(),
+        it.commands(),
+        it.svf_text(),
+    )?;
+    if most <= u64::from(SVF_LIMIT) {
+        return Ok(());
+    }
     let len = explained_len(
         alloc,
         net,

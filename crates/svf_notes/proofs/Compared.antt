@@ -24,11 +24,11 @@ pub quiet_map : (tms : List Bool) → AreQuiet (map no_shift tms)
 quiet_map [] = tt
 quiet_map (t ∷ ts) = (refl, refl, quiet_map ts)
 
-quiet_many : (n : ℕ) (tms : Bool) → AreQuiet (replicate n (no_shift tms))
+pub quiet_many : (n : ℕ) (tms : Bool) → AreQuiet (replicate n (no_shift tms))
 quiet_many zero tms = tt
 quiet_many (suc n) tms = (refl, refl, quiet_many n tms)
 
-quiet_idle : (from : Stable) → AreQuiet (to_idle from)
+pub quiet_idle : (from : Stable) → AreQuiet (to_idle from)
 quiet_idle InReset = (refl, refl, tt)
 quiet_idle InIdle = tt
 

@@ -1,7 +1,10 @@
 pub mod Compared
 pub mod Cutting
 pub mod Filing
+pub mod HaveBits
 pub mod Kept
+pub mod Lengths
+pub mod Longest
 pub mod OnLine
 pub mod Same
 pub mod Rows

@@ -46,7 +46,7 @@ turn_end holds path i r h is =
     ∙ ap (λ (l : List Bool). length (chain (take i path) holds ++ l)) one
     ∙ length-append (chain (take i path) holds) (bits_at holds r)
 
-note_both : (xs ys : List (List ℕ)) → note_text (xs ++ ys) ≡ note_text xs ++ note_text ys
+pub note_both : (xs ys : List (List ℕ)) → note_text (xs ++ ys) ≡ note_text xs ++ note_text ys
 note_both [] ys = refl
 note_both (x ∷ xs) ys =
     ap (λ (l : List ℕ). codes "\n!:" ++ (x ++ l)) (note_both xs ys)

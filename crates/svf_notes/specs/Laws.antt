@@ -1,9 +1,10 @@
 -- What the scans of a play are: what their commands say, and what the play compares (Serial Vector Format, revision E: SIR, SDR;
 -- IEEE 1149.1-2013, clause 6: update stages change in Update-IR and Update-DR alone).
-use Rattle.std.specs.Prelude.{◌≡◌, ◌<◌, ℕ, zero, suc, Bool, List, [], ◌∷◌, ◌++◌, length, map}
+use Rattle.std.specs.Prelude.{◌≡◌, ◌<◌, ℕ, zero, suc, Bool, List, [], ◌∷◌, ◌++◌, length, map, Ok}
 use Rattle.std.specs.List.{flat_map}
 use Rattle.instruments.specs.declared.Counts.{Counts}
 use Rattle.svf_writer.specs.SeenCommands.{SIR, SDR, Reset, Idle, Run, SeenCommand}
+use Rattle.svf_reader.specs.Meaning.{svf}
 use Rattle.tap_machine.specs.declared.TapState.{TapState}
 use Rattle.tap_machine.specs.declared.TapState.TheVariants.{RunTestIdle, Exit1Dr, Exit1Ir}
 use Rattle.tap_machine.specs.declared.Stable.{Stable}
@@ -63,4 +64,14 @@ counted n (suc k) = suc n ∷ counted (suc n) k
 abbrev pub ScansAreNumbered : Type 0
 ScansAreNumbered =
     (chip : Chip Counts) (from : Stable) (commands : List SeenCommand) (s : State Counts) → HaveBits no_scan no_scan commands
+    → map (λ x. x.number) (scans_of chip (pins from 0 commands) s) ≡ counted 0 (scans_in commands)
+
+-- In the commands that are read of any text each scan has bits.
+abbrev pub ReadScansHaveBits : Type 0
+ReadScansHaveBits = (src : List ℕ) (commands : List SeenCommand) → svf src ≡ Ok commands → HaveBits no_scan no_scan commands
+
+-- So a play of any text that is read has one scan for each SIR and SDR in it, in their order: the k-th has the number k.
+abbrev pub ReadScansAreNumbered : Type 0
+ReadScansAreNumbered =
+    (chip : Chip Counts) (from : Stable) (src : List ℕ) (commands : List SeenCommand) (s : State Counts) → svf src ≡ Ok commands
     → map (λ x. x.number) (scans_of chip (pins from 0 commands) s) ≡ counted 0 (scans_in commands)

@@ -1,6 +1,7 @@
 pub mod Scans
 pub mod Notes
 pub mod Explained
+pub mod Most
 pub mod Targets
 pub mod Left
 pub mod Places

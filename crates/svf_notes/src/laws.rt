@@ -1,6 +1,8 @@
 // What holds of all texts with notes.
 ghost use Rattle.svf_notes.specs.Explained.{ExplainedIsSame, SameCommands};
-ghost use Rattle.svf_notes.specs.Laws.{ScansAreNumbered, ScansCompare, ScansKeepTheirPath};
+ghost use Rattle.svf_notes.specs.Laws.{ReadScansAreNumbered, ReadScansHaveBits, ScansAreNumbered, ScansCompare, ScansKeepTheirPath};
+
+use svf_reader::read_commands_fit;
 
 /// Notes change no command: whatever they are, as long as none of their lines has a line feed, an SVF text has the same
 /// commands with them as without them (Serial Vector Format, revision E: comments).
@@ -30,3 +32,20 @@ pub fn scans_keep_their_path()
 pub fn scans_are_numbered()
     ensures { ScansAreNumbered }
 {}
+
+/// In the commands that are read of any text each scan has at least one bit: its own, or those of the last scan of its kind
+/// (Serial Vector Format, revision E: SIR, SDR, TDI).
+pub fn read_scans_have_bits()
+    ensures { ReadScansHaveBits }
+{
+    read_commands_fit();
+}
+
+/// A play of any text that is read has one scan for each SIR and SDR in it, in their order, and numbers them from 1 (Serial
+/// Vector Format, revision E: SIR, SDR).
+pub fn read_scans_are_numbered()
+    ensures { ReadScansAreNumbered }
+{
+    read_scans_have_bits();
+    scans_are_numbered();
+}
