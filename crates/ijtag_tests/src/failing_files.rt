@@ -21,7 +21,7 @@ fn is_fault(ended: &Ended, status: Status, fault: &[u8], name: &str) -> bool {
 
 /// Whether all is there.
 fn is_whole(command: &Command<'_>, ended: &Ended) -> bool {
-    let held = ended.shelf.file(command.writes).unwrap_or(b"");
+    let held = ended.shelf.file(command.writes).unwrap_or(b"".as_slice());
     ended.is(Status::Good, command.report, b"") && held == command.text
 }
 
@@ -34,7 +34,7 @@ fn is_met(command: &Command<'_>, passed: usize, ended: &Ended) -> bool {
         let name = command.loads[passed];
         written.is_none() && is_fault(ended, Status::ReadFault, b"read fault ", name)
     } else if passed < loads.saturating_add(3) && !command.writes.is_empty() {
-        command.text.starts_with(written.unwrap_or(b""))
+        command.text.starts_with(written.unwrap_or(b"".as_slice()))
             && is_fault(ended, Status::WriteFault, b"write fault ", command.writes)
     } else {
         is_whole(command, ended)
@@ -57,7 +57,11 @@ fn passes(alloc: Global, command: &Command<'_>, passed: usize) -> bool {
 fn each_call_of_the_files_fails_once(rt: HostRuntime) {
     for command in &COMMANDS {
         for passed in 0..8usize {
-            assert!(rt; passes(rt.alloc(), command, passed), "{:?} after {passed}", command.words);
+            assert!(rt;
+                passes(rt.alloc(), command, passed),
+                "{:?} after {passed}",
+                command.words
+            );
         }
     }
 }

@@ -99,6 +99,12 @@ fn an_output_that_fails_leaves_the_files(rt: HostRuntime) {
         err: &[],
     };
     let ended = run(rt.alloc(), &MAKE, &FILES, &failing);
-    assert!(rt; ended.is(Status::WriteFault, ended.out.bytes(), b"write fault output\n"));
+    assert!(rt;
+        ended.is(
+            Status::WriteFault,
+            ended.out.bytes(),
+            b"write fault output\n"
+        )
+    );
     assert!(rt; are_left(&whole, &ended, 20));
 }

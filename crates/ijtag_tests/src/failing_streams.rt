@@ -11,8 +11,11 @@ fn outcome_of(command: &Command<'_>, ended: &Ended) -> Outcome {
         Outcome::Wrong
     } else if ended.is(Status::Good, command.report, ended.err.bytes()) {
         Outcome::Whole
-    } else if ended.is(Status::WriteFault, ended.out.bytes(), b"write fault output\n")
-        && command.report.starts_with(ended.out.bytes())
+    } else if ended.is(
+        Status::WriteFault,
+        ended.out.bytes(),
+        b"write fault output\n",
+    ) && command.report.starts_with(ended.out.bytes())
     {
         Outcome::Part
     } else {
@@ -50,7 +53,11 @@ fn a_report_that_is_not_taken(rt: HostRuntime) {
     for command in &COMMANDS {
         let last = last_met(rt.alloc(), command);
         let least = if command.report.is_empty() { 0 } else { 2 };
-        assert!(rt; matches!(last, Ok(n) if n >= least && n < 59), "{:?}: {last:?}", command.words);
+        assert!(rt;
+            matches!(last, Ok(n) if n >= least && n < 59),
+            "{:?}: {last:?}",
+            command.words
+        );
     }
 }
 
@@ -93,6 +100,9 @@ fn last_refused(alloc: Global, words: &[&str]) -> Result<u32, u32> {
 fn a_fault_of_the_error_stream_changes_no_status(rt: HostRuntime) {
     for words in [COMPILE.as_slice(), &PLAY] {
         let last = last_refused(rt.alloc(), words);
-        assert!(rt; matches!(last, Ok(n) if n >= 2 && n < 19), "{words:?}: {last:?}");
+        assert!(rt;
+            matches!(last, Ok(n) if n >= 2 && n < 19),
+            "{words:?}: {last:?}"
+        );
     }
 }

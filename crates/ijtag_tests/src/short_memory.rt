@@ -198,10 +198,8 @@ fn is_written(command: &Command<'_>, ended: &Ended) -> bool {
 /// Whether a run without memory says and leaves what it may: its one line; of the report and of the file that is written, which wasn't
 /// there before, a first part; and all other files.
 fn is_short(command: &Command<'_>, report: &[u8], ended: &Ended) -> bool {
-    let held = ended.files.file(command.writes).unwrap_or(b"");
-    ended.is_out_of_memory(report)
-        && others_stay(command, ended)
-        && command.text.starts_with(held)
+    let held = ended.files.file(command.writes).unwrap_or(b"".as_slice());
+    ended.is_out_of_memory(report) && others_stay(command, ended) && command.text.starts_with(held)
 }
 
 /// Whether a run met no call without memory, and all is there.
@@ -274,7 +272,11 @@ fn each_call_of_the_output_finds_no_memory_once(rt: HostRuntime) {
     for command in &COMMANDS {
         let end = end_of_out(rt.alloc(), command);
         let least = if command.report.is_empty() { 1 } else { 3 };
-        assert!(rt; matches!(end, Ok(call) if call >= least), "{:?}: {end:?}", command.words);
+        assert!(rt;
+            matches!(end, Ok(call) if call >= least),
+            "{:?}: {end:?}",
+            command.words
+        );
     }
 }
 
