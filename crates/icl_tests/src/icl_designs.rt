@@ -2,14 +2,13 @@
 
 use crate::texts::{Shown, read};
 use icl_lexer::{Design, Expr, Sign, What};
-use ij_io::Word;
 use std::alloc::Global;
 
 /// The number of items of each module.
 fn show_items(shown: &mut Shown, design: &Design) {
     for module in design.modules.as_slice() {
         shown.gap();
-        shown.put(&[Word::Number(module.items.len() as u64)]);
+        shown.count(b"", module.items.len());
     }
 }
 
@@ -78,10 +77,10 @@ fn name_of_sign(sign: Sign) -> &'static [u8] {
 fn show_expr(shown: &mut Shown, expr: &Expr) {
     match expr {
         Expr::Decimal(n) => shown.number(b"", *n),
-        Expr::Sized(text) => shown.number(b"s", text.as_slice().len() as u32),
-        Expr::Quoted(text) => shown.number(b"q", text.as_slice().len() as u32),
+        Expr::Sized(text) => shown.count(b"s", text.as_slice().len()),
+        Expr::Quoted(text) => shown.count(b"q", text.as_slice().len()),
         Expr::Param(at, name) => {
-            shown.number(b"p", name.as_slice().len() as u32);
+            shown.count(b"p", name.as_slice().len());
             shown.number(b"@", at.col);
         }
         Expr::Op(at, sign, a, b) => {

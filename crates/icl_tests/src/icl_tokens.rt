@@ -29,7 +29,8 @@ fn show_tokens(shown: &mut Shown, tokens: Cursor<'_>) {
     let mut tokens = tokens;
     for _ in 0..tokens.len() {
         let Some((token, after)) = tokens.next() else {
-            return shown.text(b" a token is missing");
+            shown.text(b" a token is missing");
+            return;
         };
         show_token(shown, &token);
         tokens = after;

@@ -56,8 +56,8 @@ fn show_end(shown: &mut Shown, test: &MuxTest<'_>) {
         shown.number(b" unseen ", branch.mux);
         shown.number(b".", branch.row);
     }
-    shown.number(b" ", test.scan_count() as u32);
-    shown.number(b" scans of ", test.row_count() as u32);
+    shown.count(b" ", test.scan_count());
+    shown.count(b" scans of ", test.row_count());
     shown.text(b" rows");
 }
 

@@ -46,6 +46,11 @@ impl Shown {
         self.put(&[Word::Text(bytes), Word::Number(u64::from(number))]);
     }
 
+    /// Adds bytes, and after them how many there are of something.
+    pub(crate) fn count(&mut self, bytes: &[u8], count: usize) {
+        self.put(&[Word::Text(bytes), Word::Number(count as u64)]);
+    }
+
     /// Adds a blank, but not at the beginning.
     pub(crate) fn gap(&mut self) {
         if !self.sink.bytes().is_empty() {

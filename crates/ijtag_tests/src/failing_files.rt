@@ -41,27 +41,23 @@ fn is_met(command: &Command<'_>, passed: usize, ended: &Ended) -> bool {
     }
 }
 
-/// Whether a run is as it should be whose calls of the files pass so often.
-fn passes(alloc: Global, command: &Command<'_>, passed: usize) -> bool {
+/// Whether a run is as it should be whose call of this number fails, of the files.
+fn fails(alloc: Global, command: &Command<'_>, call: u32) -> bool {
     let failing = Failing {
-        shelf: &[(passed as u32).wrapping_add(1)],
+        shelf: &[call],
         out: &[],
         err: &[],
     };
     let ended = run(alloc, command.words, command.files, &failing);
-    is_met(command, passed, &ended)
+    is_met(command, call.saturating_sub(1) as usize, &ended)
 }
 
 /// Each file is loaded once, in its order, and the one that is written is begun once, gets one piece, and is finished.
 #[test]
 fn each_call_of_the_files_fails_once(rt: HostRuntime) {
     for command in &COMMANDS {
-        for passed in 0..8usize {
-            assert!(rt;
-                passes(rt.alloc(), command, passed),
-                "{:?} after {passed}",
-                command.words
-            );
+        for call in 1..9u32 {
+            assert!(rt; fails(rt.alloc(), command, call), "{:?}: call {call}", command.words);
         }
     }
 }
