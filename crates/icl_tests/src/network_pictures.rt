@@ -16,7 +16,10 @@ use std::process::Abort;
 fn power_up(alloc: Global, net: &Net) -> Result<Holds, OutOfMemory>
     ensures { IfOk result (AreHolds net.now) }
 {
-    Holds::power_up(alloc, net)
+    match Holds::power_up(alloc, net) {
+        Ok(holds) => Ok(holds),
+        Err(_) => Err(OutOfMemory),
+    }
 }
 
 /// The drawing of the network of an ICL text at power-up.

@@ -156,9 +156,11 @@ fn show_path_into(shown: &mut Shown, alloc: Global, net: &Net, holds: &Holds)
     requires held { AreHolds net.now holds.now }
 {
     let mut regs = List::new(alloc);
-    if regs.reserve(net.regs.len()).is_err() {
+    let Ok(()) = regs.reserve(net.regs.len()) else {
         shown.text(b"no memory;");
-    } else if path_into(net, holds, &mut regs) {
+        return;
+    };
+    if path_into(net, holds, &mut regs) {
         show_registers(shown, regs.as_slice());
     } else {
         shown.text(b"none;");
