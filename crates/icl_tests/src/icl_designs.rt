@@ -58,7 +58,7 @@ const DESIGNS: [(&str, &str); 10] = [
 
 #[test]
 fn texts_have_designs(rt: HostRuntime) {
-    for (text, wanted) in DESIGNS {
+    for (text, wanted) in &DESIGNS {
         items_of(rt.alloc(), text).check(&rt, text, wanted);
     }
 }
@@ -127,7 +127,7 @@ const VALUES: [(&str, &str); 3] = [
 
 #[test]
 fn operators_group_to_the_left(rt: HostRuntime) {
-    for (text, wanted) in VALUES {
+    for (text, wanted) in &VALUES {
         values_of(rt.alloc(), text).check(&rt, text, wanted);
     }
 }

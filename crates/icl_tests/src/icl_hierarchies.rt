@@ -258,7 +258,7 @@ const CELLS: [(&str, &str, &str); 4] = [
 
 #[test]
 fn instances_are_cells_in_preorder(rt: HostRuntime) {
-    for (text, top, wanted) in CELLS {
+    for (text, top, wanted) in &CELLS {
         cells_of(rt.alloc(), text, top).check(&rt, text, wanted);
     }
 }
@@ -381,7 +381,7 @@ const PARTS: [(&str, usize, usize, &str); 27] = [
 
 #[test]
 fn signals_and_values_are_bits(rt: HostRuntime) {
-    for (items, cell, part, wanted) in PARTS {
-        part_with(rt.alloc(), items, cell, part).check(&rt, wanted, wanted);
+    for (items, cell, part, wanted) in &PARTS {
+        part_with(rt.alloc(), items, *cell, *part).check(&rt, wanted, wanted);
     }
 }

@@ -199,7 +199,7 @@ const SIGNALS: [(&str, &str, &str); 7] = [
 
 #[test]
 fn signals_are_followed(rt: HostRuntime) {
-    for (parts, top, wanted) in SIGNALS {
+    for (parts, top, wanted) in &SIGNALS {
         network(rt.alloc(), parts, top).check(&rt, parts, wanted);
     }
     network_of(rt.alloc(), ALIAS).check(&rt, ALIAS, OF_ALIAS);

@@ -49,7 +49,7 @@ const PRINTED: [(&str, &str); 6] = [
 /// What is printed is printed so again.
 #[test]
 fn designs_are_printed(rt: HostRuntime) {
-    for (text, wanted) in PRINTED {
+    for (text, wanted) in &PRINTED {
         printed(rt.alloc(), text).check(&rt, text, wanted);
         printed(rt.alloc(), wanted).check(&rt, wanted, wanted);
     }

@@ -68,7 +68,7 @@ const TOKENS: [(&str, &str); 6] = [
 
 #[test]
 fn texts_have_tokens(rt: HostRuntime) {
-    for (text, wanted) in TOKENS {
+    for (text, wanted) in &TOKENS {
         tokens_of(rt.alloc(), text.as_bytes()).check(&rt, text, wanted);
     }
 }

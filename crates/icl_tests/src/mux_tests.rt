@@ -149,7 +149,7 @@ const TESTS: [(&str, &str, &str); 11] = [
 
 #[test]
 fn every_row_of_every_mux_is_gone_through(rt: HostRuntime) {
-    for (source, parts, wanted) in TESTS {
+    for (source, parts, wanted) in &TESTS {
         test_of(rt.alloc(), source, parts).check(&rt, parts, wanted);
     }
 }

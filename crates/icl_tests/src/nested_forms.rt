@@ -108,8 +108,8 @@ const ROUTES: [(char, char, char, &str); 5] = [
 
 #[test]
 fn routes_go_along_selected_rows_alone(rt: HostRuntime) {
-    for (outer, inner, beside, wanted) in ROUTES {
-        route_with(rt.alloc(), outer, inner, beside).check(&rt, wanted, wanted);
+    for (outer, inner, beside, wanted) in &ROUTES {
+        route_with(rt.alloc(), *outer, *inner, *beside).check(&rt, wanted, wanted);
     }
 }
 
@@ -142,7 +142,7 @@ const PLACES: [(&str, &str, &str); 4] = [
 
 #[test]
 fn networks_are_nested(rt: HostRuntime) {
-    for (source, parts, wanted) in PLACES {
+    for (source, parts, wanted) in &PLACES {
         places_of(rt.alloc(), source, parts).check(&rt, parts, wanted);
     }
 }

@@ -84,7 +84,7 @@ const IN_TEXT: [((&str, &str), &str); 6] = [
 
 #[test]
 fn a_listing_is_written_in_text(rt: HostRuntime) {
-    for ((source, parts), wanted) in IN_TEXT {
+    for ((source, parts), wanted) in &IN_TEXT {
         list_of(rt.alloc(), source, parts, ListFormat::Text).check(&rt, parts, wanted);
     }
 }
@@ -110,7 +110,7 @@ const IN_JSON: [((&str, &str), &str); 4] = [
 
 #[test]
 fn a_listing_is_written_in_json(rt: HostRuntime) {
-    for ((source, parts), wanted) in IN_JSON {
+    for ((source, parts), wanted) in &IN_JSON {
         list_of(rt.alloc(), source, parts, ListFormat::Json).check(&rt, parts, wanted);
     }
 }

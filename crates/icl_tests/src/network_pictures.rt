@@ -96,7 +96,7 @@ fn check_drawing(rt: &impl Abort, case: &str, drawing: &Shown, head: &str, tail:
 
 #[test]
 fn a_drawing_has_the_active_path_on_top(rt: HostRuntime) {
-    for ((source, parts), head, tail) in DRAWINGS {
+    for ((source, parts), head, tail) in &DRAWINGS {
         check_drawing(
             &rt,
             parts,

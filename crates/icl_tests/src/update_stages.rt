@@ -229,7 +229,7 @@ const PATHS: [(&str, &str, &[(u32, u32, bool)], &str); 8] = [
 
 #[test]
 fn paths_are_traced(rt: HostRuntime) {
-    for (source, parts, bits, wanted) in PATHS {
+    for (source, parts, bits, wanted) in &PATHS {
         outcome(rt.alloc(), source, parts, bits).check(&rt, parts, wanted);
     }
 }

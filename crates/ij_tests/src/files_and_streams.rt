@@ -105,9 +105,9 @@ fn is_kept(shelf: &MemShelf, name: &str, bytes: &[u8]) -> bool {
 fn the_named_call_of_a_file_fails(rt: HostRuntime) {
     let mut shelf = MemShelf::new(rt.alloc());
     shelf.fail_at(&[2]).expect(&rt, "a call that fails");
-    for (piece, wanted) in ANSWERS {
+    for (piece, wanted) in &ANSWERS {
         assert!(rt;
-            append(&mut shelf, "b", piece) == wanted,
+            append(&mut shelf, "b", piece) == *wanted,
             "piece {}",
             piece.escape_ascii()
         );
@@ -119,9 +119,9 @@ fn the_named_call_of_a_file_fails(rt: HostRuntime) {
 fn the_named_write_of_a_stream_fails(rt: HostRuntime) {
     let mut sink = MemSink::new(rt.alloc());
     sink.fail_at(&[2]).expect(&rt, "a call that fails");
-    for (piece, wanted) in ANSWERS {
+    for (piece, wanted) in &ANSWERS {
         let found = [write(&mut sink, piece), flush(&mut sink)];
-        assert!(rt; found == [wanted, Ok(())], "piece {}", piece.escape_ascii());
+        assert!(rt; found == [*wanted, Ok(())], "piece {}", piece.escape_ascii());
     }
     assert!(rt; sink.bytes() == b"abef".as_slice());
 }

@@ -244,10 +244,10 @@ const CHECKSUMS: [(u64, u64, [u64; 3]); 9] = [
 
 #[test]
 fn designs_of_each_size_have_the_texts_of_their_seed(rt: HostRuntime) {
-    for (seed, size, wanted) in CHECKSUMS {
-        let found = checksums(rt.alloc(), seed, size);
+    for (seed, size, wanted) in &CHECKSUMS {
+        let found = checksums(rt.alloc(), *seed, *size);
         assert!(rt;
-            found == Some(wanted),
+            found == Some(*wanted),
             "seed {seed}, size {size}: {found:?}"
         );
     }

@@ -99,7 +99,7 @@ const NUMBERS: [(&str, &str); 20] = [
 
 #[test]
 fn numbers_are_those_of_the_format(rt: HostRuntime) {
-    for (number, wanted) in NUMBERS {
+    for (number, wanted) in &NUMBERS {
         check_text(&rt, number, &bits_of(rt.alloc(), number.as_bytes()), wanted);
     }
 }

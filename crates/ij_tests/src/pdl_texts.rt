@@ -82,7 +82,7 @@ const TEXTS: [(&str, &str); 12] = [
 
 #[test]
 fn texts_have_procedures(rt: HostRuntime) {
-    for (text, wanted) in TEXTS {
+    for (text, wanted) in &TEXTS {
         check_text(
             &rt,
             text,

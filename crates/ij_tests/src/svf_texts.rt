@@ -102,7 +102,7 @@ const TEXTS: [(&str, &str); 9] = [
 
 #[test]
 fn texts_have_commands(rt: HostRuntime) {
-    for (text, wanted) in TEXTS {
+    for (text, wanted) in &TEXTS {
         check_text(&rt, text, &commands_of(rt.alloc(), text.as_bytes()), wanted);
     }
 }
