@@ -3,52 +3,56 @@ ghost use Rattle.std.specs.Prelude.{IfOk};
 ghost use Rattle.net_graph.specs.Held.{AreHolds};
 
 use crate::network_texts::network_of;
-use ij_io::SureSink;
+use crate::texts::Shown;
+use ij_bits::OutOfMemory;
 use nest_check::nest;
 use net_graph::{Holds, Net, Point};
 use net_picture::{put_dot, put_svg};
 use std::alloc::Global;
-use std::test::Fail;
+use std::process::Abort;
 
 /// The state of a network at power-up.
 #[tactic(auto, using(net_graph::proofs::Widths::start_held))]
-fn power_up(alloc: Global, net: &Net) -> Result<Holds, Fail>
+fn power_up(alloc: Global, net: &Net) -> Result<Holds, OutOfMemory>
     ensures { IfOk result (AreHolds net.now) }
 {
     match Holds::power_up(alloc, net) {
         Ok(holds) => Ok(holds),
-        Err(_) => Err(Fail::new("no memory")),
+        Err(_) => Err(OutOfMemory),
     }
 }
 
 /// The drawing of the network of an ICL text at power-up.
-fn drawing_of(alloc: Global, source: &str, parts: &str) -> Result<SureSink, Fail> {
-    let net = network_of(alloc, source, parts)?;
-    let holds = power_up(alloc, &net)?;
-    let Ok(tree) = nest(alloc, &net) else {
-        return Err(Fail::new("the network has no lawful form"));
+fn drawing_of(alloc: Global, source: &str, parts: &str) -> Shown {
+    let mut shown = Shown::new(alloc);
+    let Ok(net) = network_of(alloc, source, parts) else {
+        return shown;
     };
-    let mut sink = SureSink::new(alloc);
-    if put_svg(alloc, &net, &tree, &holds, &mut sink).is_err() {
-        return Err(Fail::new("no memory"));
+    let Ok(holds) = power_up(alloc, &net) else {
+        return shown;
+    };
+    let Ok(tree) = nest(alloc, &net) else {
+        return shown;
+    };
+    if put_svg(alloc, &net, &tree, &holds, &mut shown.sink).is_err() {
+        shown.text(b"refused");
     }
-    Ok(sink)
+    shown
 }
 
 /// The graph of the network of an ICL text at power-up.
-fn graph_of(
-    alloc: Global,
-    source: &str,
-    parts: &str,
-    marked: Option<Point>,
-) -> Result<SureSink, Fail> {
-    let net = network_of(alloc, source, parts)?;
-    let holds = power_up(alloc, &net)?;
-    let mut sink = SureSink::new(alloc);
-    if put_dot(alloc, &net, &holds, marked, &mut sink).is_err() {
-        return Err(Fail::new("no memory"));
+fn graph_of(alloc: Global, source: &str, parts: &str, marked: Option<Point>) -> Shown {
+    let mut shown = Shown::new(alloc);
+    let Ok(net) = network_of(alloc, source, parts) else {
+        return shown;
+    };
+    let Ok(holds) = power_up(alloc, &net) else {
+        return shown;
+    };
+    if put_dot(alloc, &net, &holds, marked, &mut shown.sink).is_err() {
+        shown.text(b"refused");
     }
-    Ok(sink)
+    shown
 }
 
 /// A register, and nothing else.
@@ -57,7 +61,7 @@ const FLAT: (&str, &str) = (
     "ScanRegister R[3:0] { ScanInSource SI; CaptureSource R; ResetValue 4'b0; }",
 );
 
-/// A register behind an insertion bit, which is closed at reset.
+/// A register after an insertion bit, which is closed at reset.
 const SIB: (&str, &str) = (
     "S",
     "ScanMux m SelectedBy S { 1'b0 : SI; 1'b1 : R; } ScanRegister R { ScanInSource SI; CaptureSource R; } ScanRegister S { ScanInSource m; CaptureSource S; ResetValue 1'b0; }",
@@ -77,29 +81,37 @@ const DRAWINGS: [((&str, &str), &str, &str); 2] = [
     ),
 ];
 
+/// A drawing has this before its style sheet, and this after it.
+fn check_drawing(rt: &impl Abort, case: &str, drawing: &Shown, head: &str, tail: &str) {
+    let text = drawing.sink.bytes();
+    assert!(rt;
+        text.starts_with(head.as_bytes()),
+        "the head of {case} differs"
+    );
+    assert!(rt;
+        text.ends_with(tail.as_bytes()),
+        "the shapes of {case} differ"
+    );
+}
+
 #[test]
-fn a_drawing_has_the_active_path_on_top(rt: HostRuntime) -> Result<(), Fail> {
-    let alloc = rt.alloc();
-    for ((source, parts), head, tail) in DRAWINGS {
-        let text = drawing_of(alloc, source, parts)?;
-        if !text.bytes().starts_with(head.as_bytes()) {
-            return Err(Fail::new("the head differs"));
-        }
-        if !text.bytes().ends_with(tail.as_bytes()) {
-            return Err(Fail::new("the shapes differ"));
-        }
+fn a_drawing_has_the_active_path_on_top(rt: HostRuntime) {
+    for ((source, parts), head, tail) in &DRAWINGS {
+        check_drawing(
+            &rt,
+            parts,
+            &drawing_of(rt.alloc(), source, parts),
+            head,
+            tail,
+        );
     }
-    Ok(())
 }
 
 const GRAPH: &str =
     "digraph net {\n  rankdir=LR;\n  node [shape=box, fontname=\"monospace\", fontsize=10];\n  edge [fontname=\"monospace\", fontsize=9];\n  tdi [label=\"TDI\", shape=cds];\n  tdo [label=\"TDO\", shape=cds];\n  r0 [label=\"net.R\", style=filled, fillcolor=\"#ffb3b3\", color=\"#e00000\", penwidth=3];\n  r1 [label=\"net.S\", color=\"#d55e00\", penwidth=3];\n  m0 [label=\"net.m\", shape=trapezium, orientation=270, color=\"#d55e00\", penwidth=3];\n  tdi -> r0 [color=\"#868e96\"];\n  m0 -> r1 [color=\"#d55e00\", penwidth=3];\n  tdi -> m0 [label=\"0\", color=\"#d55e00\", penwidth=3];\n  r0 -> m0 [label=\"1\", color=\"#868e96\"];\n  r1 -> m0 [style=dashed, color=\"#868e96\", constraint=false];\n  r1 -> tdo [color=\"#d55e00\", penwidth=3];\n}\n";
 
 #[test]
-fn a_graph_has_each_source_and_what_is_marked(rt: HostRuntime) -> Result<(), Fail> {
-    let text = graph_of(rt.alloc(), SIB.0, SIB.1, Some(Point::Reg(0)))?;
-    if text.bytes() != GRAPH.as_bytes() {
-        return Err(Fail::new("the graph differs"));
-    }
-    Ok(())
+fn a_graph_has_each_source_and_what_is_marked(rt: HostRuntime) {
+    let (source, parts) = SIB;
+    graph_of(rt.alloc(), source, parts, Some(Point::Reg(0))).check(&rt, parts, GRAPH);
 }

@@ -4,17 +4,24 @@ ghost use Rattle.std.specs.Prelude.{◌≡◌, length, IfOk};
 use ij_bits::{Bits, List, OutOfMemory, Ring};
 use std::alloc::Global;
 use std::process::Abort;
-use std::test::Fail;
+
+/// The two digits of 5 to 8 bits, and dots for others.
+fn digits(part: &Bits) -> [u8; 2] {
+    if part.len() > 4 {
+        [part.hex_digit(1), part.hex_digit(0)]
+    } else {
+        *b".."
+    }
+}
 
 /// The two digits of a part of 5 to 8 bits, and dots where there is none.
-fn digits(alloc: Global, bits: &Bits, from: u32, to: u32) -> Result<[u8; 2], OutOfMemory> {
+fn digits_of_part(alloc: Global, bits: &Bits, from: u32, to: u32) -> [u8; 2] {
     if from <= to && to <= bits.len() {
-        let part = bits.slice(alloc, from, to)?;
-        if part.len() > 4 {
-            return Ok([part.hex_digit(1), part.hex_digit(0)]);
+        if let Ok(part) = bits.slice(alloc, from, to) {
+            return digits(&part);
         }
     }
-    Ok(*b"..")
+    *b".."
 }
 
 /// The bit at a position, where there is one.
@@ -37,119 +44,108 @@ fn two_numbers(alloc: Global) -> Result<Bits, OutOfMemory>
 }
 
 /// Parts of some bits, each with its two digits.
-fn check_parts(
-    rt: &impl Abort,
-    alloc: Global,
-    bits: &Bits,
-    parts: &[(u32, u32, &[u8; 2])],
-) -> Result<(), OutOfMemory> {
+fn check_parts(rt: &impl Abort, alloc: Global, bits: &Bits, parts: &[(u32, u32, &[u8; 2])]) {
     for (from, to, wanted) in parts {
-        assert_eq!(rt; digits(alloc, bits, *from, *to)?, **wanted);
+        assert_eq!(rt;
+            digits_of_part(alloc, bits, *from, *to),
+            **wanted,
+            "bits from {from} to {to}"
+        );
     }
-    Ok(())
+}
+
+const PARTS: [(u32, u32, &[u8; 2]); 7] = [
+    (0, 8, b"EF"),
+    (4, 12, b"DE"),
+    (60, 68, b"A0"),
+    (64, 72, b"5A"),
+    (62, 67, b"08"),
+    (68, 76, b"F5"),
+    (132, 140, b"A0"),
+];
+
+#[test]
+fn parts_keep_their_order_over_the_border_of_a_word(rt: HostRuntime) {
+    let alloc = rt.alloc();
+    let bits = two_numbers(alloc).expect(&rt, "two numbers");
+    let mut twice = two_numbers(alloc).expect(&rt, "two numbers");
+    twice.append(&bits).expect(&rt, "append");
+    check_parts(&rt, alloc, &twice, &PARTS);
 }
 
 #[test]
-fn parts_keep_their_order_over_the_border_of_a_word(rt: HostRuntime) -> Result<(), Fail> {
+fn bits_are_written_copied_and_shifted(rt: HostRuntime) {
     let alloc = rt.alloc();
-    let bits = two_numbers(alloc)?;
-    let mut twice = two_numbers(alloc)?;
-    twice.append(&bits)?;
-    let parts: [(u32, u32, &[u8; 2]); 7] = [
-        (0, 8, b"EF"),
-        (4, 12, b"DE"),
-        (60, 68, b"A0"),
-        (64, 72, b"5A"),
-        (62, 67, b"08"),
-        (68, 76, b"F5"),
-        (132, 140, b"A0"),
-    ];
-    check_parts(&rt, alloc, &twice, &parts)?;
-    Ok(())
-}
-
-#[test]
-fn bits_are_written_copied_and_shifted(rt: HostRuntime) -> Result<(), Fail> {
-    let alloc = rt.alloc();
-    let bits = two_numbers(alloc)?;
-    let mut copy = Bits::zeros(alloc, 72)?;
+    let bits = two_numbers(alloc).expect(&rt, "two numbers");
+    let mut copy = Bits::zeros(alloc, 72).expect(&rt, "zeros");
     copy.fill(true);
-    check_parts(&rt, alloc, &copy, &[(64, 72, b"FF")])?;
+    check_parts(&rt, alloc, &copy, &[(64, 72, b"FF")]);
     copy.copy_from(&bits);
-    assert_eq!(rt; copy.shift(false), true);
+    assert!(rt; copy.shift(false));
     copy.set(0, false);
-    copy.push(true)?;
-    check_parts(&rt, alloc, &copy, &[(0, 8, b"F6"), (65, 73, b"96")])?;
-    Ok(())
+    copy.push(true).expect(&rt, "push");
+    check_parts(&rt, alloc, &copy, &[(0, 8, b"F6"), (65, 73, b"96")]);
 }
 
 #[test]
-fn a_part_is_copied_and_grows(rt: HostRuntime) -> Result<(), Fail> {
+fn a_part_is_copied_and_grows(rt: HostRuntime) {
     let alloc = rt.alloc();
-    let bits = two_numbers(alloc)?;
-    let mut part = Bits::zeros(alloc, 8)?;
+    let bits = two_numbers(alloc).expect(&rt, "two numbers");
+    let mut part = Bits::zeros(alloc, 8).expect(&rt, "zeros");
     part.copy_part(&bits, 60);
-    part.reserve(1)?;
+    part.reserve(1).expect(&rt, "reserve");
     part.push_reserved(true);
-    check_parts(&rt, alloc, &part, &[(1, 9, b"D0")])?;
-    assert_eq!(rt; bit(&part, 5), Some(true));
-    Ok(())
+    check_parts(&rt, alloc, &part, &[(1, 9, b"D0")]);
+    assert!(rt; bit(&part, 5) == Some(true));
 }
 
 #[test]
-fn bits_made_with_room_take_the_bits_they_were_made_for(rt: HostRuntime) -> Result<(), Fail> {
+fn bits_made_with_room_take_the_bits_they_were_made_for(rt: HostRuntime) {
     let alloc = rt.alloc();
-    let bits = two_numbers(alloc)?;
-    let mut copy = Bits::with_room(alloc, 72)?;
-    assert_eq!(rt; copy.len(), 0);
+    let bits = two_numbers(alloc).expect(&rt, "two numbers");
+    let mut copy = Bits::with_room(alloc, 72).expect(&rt, "with room");
+    assert!(rt; copy.len() == 0);
     copy.append_part_reserved(&bits, 0, 72);
-    check_parts(&rt, alloc, &copy, &[(62, 67, b"08"), (64, 72, b"5A")])?;
-    Ok(())
+    check_parts(&rt, alloc, &copy, &[(62, 67, b"08"), (64, 72, b"5A")]);
 }
 
 #[test]
-fn a_ring_gives_its_bits_in_order_while_it_turns(rt: HostRuntime) -> Result<(), Fail> {
+fn a_ring_gives_its_bits_in_order_while_it_turns(rt: HostRuntime) {
     let alloc = rt.alloc();
-    let bits = two_numbers(alloc)?;
-    let mut ring = Ring::zeros(alloc, 72)?;
+    let bits = two_numbers(alloc).expect(&rt, "two numbers");
+    let mut ring = Ring::zeros(alloc, 72).expect(&rt, "zeros");
     ring.copy_from(&bits);
-    assert_eq!(rt;
-        [
-            ring.shift(true),
-            ring.shift(true),
-            ring.shift(true),
-            ring.shift(true)
-        ],
-        [true; 4]
-    );
-    let mut part = Bits::zeros(alloc, 8)?;
+    let shifted = [
+        ring.shift(true),
+        ring.shift(true),
+        ring.shift(true),
+        ring.shift(true),
+    ];
+    assert!(rt; shifted == [true; 4]);
+    let mut part = Bits::zeros(alloc, 8).expect(&rt, "zeros");
     ring.part_into(60, &mut part);
-    check_parts(&rt, alloc, &part, &[(0, 8, b"5A")])?;
+    check_parts(&rt, alloc, &part, &[(0, 8, b"5A")]);
     ring.part_into(64, &mut part);
-    check_parts(&rt, alloc, &part, &[(0, 8, b"F5")])?;
-    Ok(())
+    check_parts(&rt, alloc, &part, &[(0, 8, b"F5")]);
 }
 
 #[test]
-fn a_ring_made_with_room_takes_the_bits_it_was_made_for(rt: HostRuntime) -> Result<(), Fail> {
+fn a_ring_made_with_room_takes_the_bits_it_was_made_for(rt: HostRuntime) {
     let alloc = rt.alloc();
-    let bits = two_numbers(alloc)?;
-    let mut filled = Ring::with_room(alloc, 73)?;
+    let bits = two_numbers(alloc).expect(&rt, "two numbers");
+    let mut filled = Ring::with_room(alloc, 73).expect(&rt, "with room");
     filled.append_reserved(&bits);
     filled.push_reserved(true);
-    assert_eq!(rt; filled.shift(false), true);
-    assert_eq!(rt; [filled.get(71), filled.get(72)], [true, false]);
-    Ok(())
+    let found = [filled.shift(false), filled.get(71), filled.get(72)];
+    assert!(rt; found == [true, true, false]);
 }
 
 #[test]
-fn a_list_takes_what_it_has_room_for(rt: HostRuntime) -> Result<(), Fail> {
-    let alloc = rt.alloc();
-    let mut list = List::new(alloc);
-    list.push(7)?;
-    list.reserve(2)?;
+fn a_list_takes_what_it_has_room_for(rt: HostRuntime) {
+    let mut list = List::new(rt.alloc());
+    list.push(7).expect(&rt, "push");
+    list.reserve(2).expect(&rt, "reserve");
     list.push_reserved(8);
     list.push_reserved(9);
-    assert_eq!(rt; list.as_slice(), [7, 8, 9].as_slice());
-    Ok(())
+    assert!(rt; list.as_slice() == [7, 8, 9].as_slice());
 }

@@ -10,63 +10,65 @@ use std::alloc::Global;
 use std::io;
 use std::io::{BufWriter, ErrorKind, Read, Write};
 use std::process::Abort;
-use std::test::Fail;
-
-/// Copies the file `a` of three bytes after `ab` into `b`, piece by piece, and reads it back.
-fn copied<S: Shelf>(alloc: Global, shelf: &mut S) -> Result<Vec<u8>, Fail> {
-    let bytes = load(alloc, shelf, "a", 3)?;
-    begin(shelf, "b")?;
-    append(shelf, "b", b"ab")?;
-    put_after(shelf, bytes.as_slice())?;
-    Ok(load(alloc, shelf, "b", 8)?)
-}
 
 /// Writes bytes to `b` as a stream does, and `xyz` after them.
-fn put_after<S: Shelf>(shelf: &mut S, bytes: &[u8]) -> Result<(), StoreFault> {
+fn put_after<S: Shelf>(shelf: &mut S, bytes: &[u8]) -> [Result<(), StoreFault>; 2] {
     let mut file = ShelfFile { shelf, name: "b" };
-    write_words(
-        &mut file,
-        &[Word::Text(bytes), Word::Text(b""), Word::Text(b"xy")],
-    )?;
-    write(&mut file, b"z")
+    let words = [Word::Text(bytes), Word::Text(b""), Word::Text(b"xy")];
+    [write_words(&mut file, &words), write(&mut file, b"z")]
+}
+
+/// Writes bytes after `ab` into `b`, piece by piece.
+fn put_copy<S: Shelf>(shelf: &mut S, bytes: &[u8]) -> bool {
+    let begun = begin(shelf, "b").is_ok();
+    let added = append(shelf, "b", b"ab").is_ok();
+    begun && added && put_after(shelf, bytes) == [Ok(()), Ok(())]
+}
+
+/// Copies the file `a` of three bytes after `ab` into `b`.
+fn is_copied<S: Shelf>(alloc: Global, shelf: &mut S) -> bool {
+    match load(alloc, shelf, "a", 3) {
+        Ok(bytes) => put_copy(shelf, bytes.as_slice()),
+        Err(_) => false,
+    }
 }
 
 /// Whether a file has these bytes, and no more than the limit.
-fn has<S: Shelf>(
-    alloc: Global,
-    shelf: &mut S,
-    name: &str,
-    limit: u32,
-    bytes: &[u8],
-) -> Result<bool, Fail> {
-    Ok(load(alloc, shelf, name, limit)?.as_slice() == bytes)
+fn has<S: Shelf>(alloc: Global, shelf: &mut S, name: &str, limit: u32, bytes: &[u8]) -> bool {
+    match load(alloc, shelf, name, limit) {
+        Ok(found) => found.as_slice() == bytes,
+        Err(_) => false,
+    }
 }
 
 fn is_too_long<S: Shelf>(alloc: Global, shelf: &mut S, name: &str, limit: u32) -> bool {
     matches!(load(alloc, shelf, name, limit), Err(LoadFault::Long))
 }
 
-/// One byte below the length of `b` is too little, and the file stays.
-fn check_copy<S: Shelf>(rt: &impl Abort, alloc: Global, shelf: &mut S) -> Result<(), Fail> {
+/// A copy is read back. One byte below the length of `b` is too little, and the file stays.
+fn check_copy<S: Shelf>(rt: &impl Abort, alloc: Global, shelf: &mut S) {
     let wanted = b"ababcxyz".as_slice();
-    assert!(rt; copied(alloc, shelf)?.as_slice() == wanted);
-    assert!(rt; is_too_long(alloc, shelf, "b", 7));
-    assert!(rt; has(alloc, shelf, "b", 8, wanted)?);
-    Ok(())
+    let found = [
+        is_copied(alloc, shelf),
+        has(alloc, shelf, "b", 8, wanted),
+        is_too_long(alloc, shelf, "b", 7),
+        has(alloc, shelf, "b", 8, wanted),
+    ];
+    assert_eq!(rt; found, [true; 4]);
 }
 
 #[test]
-fn a_file_is_copied_where_names_must_be_there(rt: HostRuntime) -> Result<(), Fail> {
+fn a_file_is_copied_where_names_must_be_there(rt: HostRuntime) {
     let mut named = MemShelf::new(rt.alloc());
-    named.put_file("a", b"abc")?;
-    check_copy(&rt, rt.alloc(), &mut named)
+    named.put_file("a", b"abc").expect(&rt, "a file");
+    check_copy(&rt, rt.alloc(), &mut named);
 }
 
 #[test]
-fn a_file_is_copied_where_each_name_has_a_text(rt: HostRuntime) -> Result<(), Fail> {
+fn a_file_is_copied_where_each_name_has_a_text(rt: HostRuntime) {
     let mut sure = SureShelf::new(rt.alloc());
-    sure.put_file("a", b"abc")?;
-    check_copy(&rt, rt.alloc(), &mut sure)
+    sure.put_file("a", b"abc").expect(&rt, "a file");
+    check_copy(&rt, rt.alloc(), &mut sure);
 }
 
 /// Whether files in memory give this text out.
@@ -75,16 +77,18 @@ fn is_held(shelf: &SureShelf, name: &str, bytes: &[u8]) -> bool {
 }
 
 #[test]
-fn a_name_without_a_text_has_the_empty_one(rt: HostRuntime) -> Result<(), Fail> {
+fn a_name_without_a_text_has_the_empty_one(rt: HostRuntime) {
     let mut sure = SureShelf::new(rt.alloc());
-    append(&mut sure, "c", b"new")?;
-    assert!(rt; has(rt.alloc(), &mut sure, "c", 3, b"new")?);
-    assert!(rt; has(rt.alloc(), &mut sure, "none", 0, b"")?);
-    assert!(rt; is_held(&sure, "c", b"new"));
-    Ok(())
+    let found = [
+        append(&mut sure, "c", b"new").is_ok(),
+        has(rt.alloc(), &mut sure, "c", 3, b"new"),
+        has(rt.alloc(), &mut sure, "none", 0, b""),
+        is_held(&sure, "c", b"new"),
+    ];
+    assert_eq!(rt; found, [true; 4]);
 }
 
-/// What the calls with these pieces answer, where the second one fails.
+/// What a call with a piece answers, where the second one fails.
 const ANSWERS: [(&[u8], Result<(), StoreFault>); 3] = [
     (b"ab", Ok(())),
     (b"cd", Err(StoreFault::Failed)),
@@ -98,37 +102,36 @@ fn is_kept(shelf: &MemShelf, name: &str, bytes: &[u8]) -> bool {
 
 /// The second call fails alone, and leaves all as it was.
 #[test]
-fn the_named_call_of_a_file_fails(rt: HostRuntime) -> Result<(), Fail> {
+fn the_named_call_of_a_file_fails(rt: HostRuntime) {
     let mut shelf = MemShelf::new(rt.alloc());
-    shelf.fail_at(&[2])?;
-    for (piece, wanted) in ANSWERS {
-        assert!(rt; append(&mut shelf, "b", piece) == wanted);
+    shelf.fail_at(&[2]).expect(&rt, "a call that fails");
+    for (piece, wanted) in &ANSWERS {
+        assert!(rt;
+            append(&mut shelf, "b", piece) == *wanted,
+            "piece {}",
+            piece.escape_ascii()
+        );
     }
     assert!(rt; is_kept(&shelf, "b", b"abef"));
-    Ok(())
 }
 
 #[test]
-fn the_named_write_of_a_stream_fails(rt: HostRuntime) -> Result<(), Fail> {
+fn the_named_write_of_a_stream_fails(rt: HostRuntime) {
     let mut sink = MemSink::new(rt.alloc());
-    sink.fail_at(&[2])?;
-    for (piece, wanted) in ANSWERS {
-        assert!(rt; write(&mut sink, piece) == wanted);
-        assert!(rt; flush(&mut sink).is_ok());
+    sink.fail_at(&[2]).expect(&rt, "a call that fails");
+    for (piece, wanted) in &ANSWERS {
+        let found = [write(&mut sink, piece), flush(&mut sink)];
+        assert!(rt; found == [*wanted, Ok(())], "piece {}", piece.escape_ascii());
     }
-    assert_eq!(rt; sink.bytes(), b"abef".as_slice());
-    Ok(())
+    assert!(rt; sink.bytes() == b"abef".as_slice());
 }
 
 #[test]
-fn words_are_texts_and_decimal_numbers(rt: HostRuntime) -> Result<(), Fail> {
+fn words_are_texts_and_decimal_numbers(rt: HostRuntime) {
     let mut sink = SureSink::new(rt.alloc());
-    write_words(
-        &mut sink,
-        &[Word::Text(b"ab"), Word::Number(0), Word::Text(b"c")],
-    )?;
-    assert_eq!(rt; sink.bytes(), b"ab0c".as_slice());
-    Ok(())
+    let words = [Word::Text(b"ab"), Word::Number(0), Word::Text(b"c")];
+    assert!(rt; write_words(&mut sink, &words).is_ok());
+    assert!(rt; sink.bytes() == b"ab0c".as_slice());
 }
 
 // What a stream does once it has no room.
@@ -171,12 +174,16 @@ impl Write for Trickle {
     }
 }
 
-/// What a stream that is full after eight bytes answers: to a write and to a flush, after a write of five bytes that it takes.
-fn answers(stream: &mut Trickle, last: &[u8]) -> Result<[Result<(), StoreFault>; 2], StoreFault> {
+/// What a stream that is full after eight bytes answers: to a write of five bytes that it takes, to a flush, to a last write, and to
+/// a flush.
+fn answers(stream: &mut Trickle, last: &[u8]) -> [Result<(), StoreFault>; 4] {
     let mut sink = HostSink::new(stream);
-    write(&mut sink, b"abcde")?;
-    flush(&mut sink)?;
-    Ok([write(&mut sink, last), flush(&mut sink)])
+    [
+        write(&mut sink, b"abcde"),
+        flush(&mut sink),
+        write(&mut sink, last),
+        flush(&mut sink),
+    ]
 }
 
 /// A stream with room for eight bytes.
@@ -189,20 +196,37 @@ fn slow_stream(alloc: Global, full: Full) -> Trickle {
     }
 }
 
+/// How a stream is full, the last write, and what it and the flush after it answer.
+const SLOW: [(Full, &[u8], [Result<(), StoreFault>; 2]); 3] = [
+    (
+        Full::TakesNothing,
+        b"fghi",
+        [Err(StoreFault::Failed), Ok(())],
+    ),
+    (Full::Fails, b"fghi", [Err(StoreFault::Failed), Ok(())]),
+    (
+        Full::FailsToFlush,
+        b"fgh",
+        [Ok(()), Err(StoreFault::Failed)],
+    ),
+];
+
+/// Whether a stream answers so, and took each of its eight bytes once.
+fn is_slow(alloc: Global, full: Full, last: &[u8], wanted: [Result<(), StoreFault>; 2]) -> bool {
+    let mut stream = slow_stream(alloc, full);
+    let found = answers(&mut stream, last);
+    found == [Ok(()), Ok(()), wanted[0], wanted[1]]
+        && stream.taken.as_slice() == b"abcdefgh".as_slice()
+}
+
 #[test]
-fn a_slow_stream_gets_each_byte_once(rt: HostRuntime) -> Result<(), Fail> {
-    let failed = Err(StoreFault::Failed);
-    let rows: [(Full, &[u8], [Result<(), StoreFault>; 2]); 3] = [
-        (Full::TakesNothing, b"fghi", [failed, Ok(())]),
-        (Full::Fails, b"fghi", [failed, Ok(())]),
-        (Full::FailsToFlush, b"fgh", [Ok(()), failed]),
-    ];
-    for (full, last, wanted) in rows {
-        let mut stream = slow_stream(rt.alloc(), full);
-        assert!(rt; answers(&mut stream, last)? == wanted);
-        assert_eq!(rt; stream.taken.as_slice(), b"abcdefgh".as_slice());
+fn a_slow_stream_gets_each_byte_once(rt: HostRuntime) {
+    for (number, (full, last, wanted)) in SLOW.iter().enumerate() {
+        assert!(rt;
+            is_slow(rt.alloc(), *full, last, *wanted),
+            "stream {number}"
+        );
     }
-    Ok(())
 }
 
 // Gives two bytes at most in each read, and every other read is interrupted. It may fail at the end.
@@ -229,47 +253,49 @@ impl Read for Drip {
     }
 }
 
+/// How many bytes are read of a file of five.
+fn read(alloc: Global, limit: u32, fails: bool) -> Result<usize, LoadFault> {
+    let mut file = Drip {
+        rest: 5,
+        fails,
+        interrupted: false,
+    };
+    Ok(read_up_to(alloc, &mut file, limit)?.len())
+}
+
 #[test]
-fn a_slow_file_is_read_up_to_its_limit(rt: HostRuntime) -> Result<(), Fail> {
-    let alloc = rt.alloc();
-    for (limit, fails, want) in [
+fn a_slow_file_is_read_up_to_its_limit(rt: HostRuntime) {
+    for (limit, fails, wanted) in [
         (5, false, Ok(5)),
         (4, false, Err(LoadFault::Long)),
         (5, true, Err(LoadFault::Failed)),
     ] {
-        let mut file = Drip {
-            rest: 5,
-            fails,
-            interrupted: false,
-        };
-        let read = read_up_to(alloc, &mut file, limit).map(|bytes| bytes.len());
-        assert_eq!(rt; read, want);
+        let found = read(rt.alloc(), limit, fails);
+        assert!(rt; found == wanted, "limit {limit}, fails {fails}: {found:?}");
     }
-    Ok(())
 }
 
-/// What a stream with a buffer answers to a flush after this text, which the buffer holds whole.
+/// What a stream with a buffer answers to this text, which the buffer holds whole, and to a flush after it.
 fn flushed(
     alloc: Global,
     stream: &mut Trickle,
     text: &[u8],
-) -> Result<Result<(), StoreFault>, Fail> {
-    let mut sink = HostSink::new(BufWriter::with_capacity(alloc, 64, stream)?);
-    write(&mut sink, text)?;
-    Ok(flush(&mut sink))
+) -> Option<[Result<(), StoreFault>; 2]> {
+    let buffer = BufWriter::with_capacity(alloc, 64, stream).ok()?;
+    let mut sink = HostSink::new(buffer);
+    Some([write(&mut sink, text), flush(&mut sink)])
+}
+
+/// Whether a flush after this text answers so, and a stream with room for eight bytes took these.
+fn is_flushed(alloc: Global, text: &[u8], wanted: Result<(), StoreFault>) -> bool {
+    let mut stream = slow_stream(alloc, Full::Fails);
+    let found = flushed(alloc, &mut stream, text);
+    found == Some([Ok(()), wanted]) && stream.taken.as_slice() == b"abcdefgh".as_slice()
 }
 
 /// What a stream that buffers keeps back is handed on by `flush` alone, and a stream that is full then fails there.
 #[test]
-fn a_buffer_is_handed_on_by_flush(rt: HostRuntime) -> Result<(), Fail> {
-    let rows: [(&[u8], Result<(), StoreFault>); 2] = [
-        (b"abcdefgh", Ok(())),
-        (b"abcdefghi", Err(StoreFault::Failed)),
-    ];
-    for (text, wanted) in rows {
-        let mut stream = slow_stream(rt.alloc(), Full::Fails);
-        assert!(rt; flushed(rt.alloc(), &mut stream, text)? == wanted);
-        assert_eq!(rt; stream.taken.as_slice(), b"abcdefgh".as_slice());
-    }
-    Ok(())
+fn a_buffer_is_handed_on_by_flush(rt: HostRuntime) {
+    assert!(rt; is_flushed(rt.alloc(), b"abcdefgh", Ok(())));
+    assert!(rt; is_flushed(rt.alloc(), b"abcdefghi", Err(StoreFault::Failed)));
 }

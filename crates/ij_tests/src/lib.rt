@@ -8,6 +8,8 @@ mod bit_lists;
 #[cfg(test)]
 mod calls;
 #[cfg(test)]
+mod checks;
+#[cfg(test)]
 mod files_and_streams;
 #[cfg(test)]
 mod host_files;

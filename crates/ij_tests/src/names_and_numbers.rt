@@ -1,82 +1,105 @@
 // Names with numbers, and texts of numbers.
-use ij_bits::{OutOfMemory, Tern};
-use ij_text::{FitFault, Names, Number, NumberFault, Place, fit, name_of, read_number};
+use crate::checks::{check_text, show_bytes};
+use ij_bits::Tern;
+use ij_io::SureSink;
+use ij_text::{FitFault, Name, Names, Number, NumberFault, Place, fit, name_of, read_number};
 use std::alloc::Global;
-use std::test::Fail;
+
+/// The numbers of two names: of the first one before it is known; of each when it is made known, the first one twice; and of the
+/// second one in the end.
+fn numbers(names: &mut Names, a: &Name, b: &Name) -> [Option<u32>; 5] {
+    [
+        names.find(a),
+        names.intern(a).ok(),
+        names.intern(b).ok(),
+        names.intern(a).ok(),
+        names.find(b),
+    ]
+}
+
+/// Whether so many names are known, and the second one is this.
+fn are_named(names: &Names, count: u32, second: &[u8]) -> bool {
+    names.len() == count && count > 1 && names.name(1).as_slice() == second
+}
 
 #[test]
-fn a_known_name_keeps_its_number(rt: HostRuntime) -> Result<(), Fail> {
+fn a_known_name_keeps_its_number(rt: HostRuntime) {
     let alloc = rt.alloc();
+    let a = name_of(alloc, b"SI").expect(&rt, "a name");
+    let b = name_of(alloc, b"chip").expect(&rt, "a name");
     let mut names = Names::new(alloc);
-    let (a, b) = (name_of(alloc, b"SI")?, name_of(alloc, b"chip")?);
-    assert_eq!(rt; names.find(&a), None);
-    assert_eq!(rt; names.intern(&a)?, 0);
-    assert_eq!(rt; names.intern(&b)?, 1);
-    assert_eq!(rt; names.intern(&a)?, 0);
-    assert_eq!(rt; names.find(&b), Some(1));
-    assert_eq!(rt; names.len(), 2);
-    assert_eq!(rt; names.name(1).as_slice(), b"chip".as_slice());
-    Ok(())
+    let wanted = [None, Some(0), Some(1), Some(0), Some(1)];
+    assert_eq!(rt; numbers(&mut names, &a, &b), wanted);
+    assert!(rt; are_named(&names, 2, b"chip"));
 }
 
 /// The bits of a number, position 0 first, as digits.
-fn digits(alloc: Global, t: &Tern) -> Result<Vec<u8>, OutOfMemory> {
-    let mut all = Vec::new(alloc);
+fn show_digits(text: &mut SureSink, t: &Tern) {
     for i in 0..t.len() {
-        all.push(match t.get(i) {
-            Some(true) => b'1',
-            Some(false) => b'0',
-            None => b'x',
-        })?;
+        let digit = match t.get(i) {
+            Some(true) => b"1",
+            Some(false) => b"0",
+            None => b"x",
+        };
+        show_bytes(text, digit);
     }
-    Ok(all)
+}
+
+/// A decimal in 8 bits, or `W`.
+fn show_fitted(text: &mut SureSink, alloc: Global, number: &Number) {
+    match fit(alloc, number, 8) {
+        Ok(t) => show_digits(text, &t),
+        Err(FitFault::Wide) => show_bytes(text, b"W"),
+        Err(FitFault::OutOfMemory) => show_bytes(text, b"no memory"),
+    }
+}
+
+fn show_number(text: &mut SureSink, alloc: Global, number: &Number) {
+    if let Number::Digits(t) = number {
+        show_digits(text, t);
+    } else {
+        show_fitted(text, alloc, number);
+    }
 }
 
 /// The bits of a text's number, or of a decimal in 8 bits, and `B`, `T` or `W` for a fault.
-fn bits_of(alloc: Global, text: &[u8]) -> Result<Vec<u8>, OutOfMemory> {
-    let number = match read_number(alloc, text, Place { line: 2, col: 7 }) {
-        Ok(number) => number,
-        Err(NumberFault::BadNumber { .. }) => return Ok(Vec::from_slice(alloc, b"B")?),
-        Err(NumberFault::TooWide { .. }) => return Ok(Vec::from_slice(alloc, b"T")?),
-        Err(NumberFault::OutOfMemory) => return Err(OutOfMemory),
-    };
-    if let Number::Digits(t) = &number {
-        return digits(alloc, t);
+fn bits_of(alloc: Global, number: &[u8]) -> SureSink {
+    let mut text = SureSink::new(alloc);
+    match read_number(alloc, number, Place { line: 2, col: 7 }) {
+        Ok(number) => show_number(&mut text, alloc, &number),
+        Err(NumberFault::BadNumber { .. }) => show_bytes(&mut text, b"B"),
+        Err(NumberFault::TooWide { .. }) => show_bytes(&mut text, b"T"),
+        Err(NumberFault::OutOfMemory) => show_bytes(&mut text, b"no memory"),
     }
-    match fit(alloc, &number, 8) {
-        Ok(t) => digits(alloc, &t),
-        Err(FitFault::Wide) => Ok(Vec::from_slice(alloc, b"W")?),
-        Err(FitFault::OutOfMemory) => Err(OutOfMemory),
-    }
+    text
 }
 
+const NUMBERS: [(&str, &str); 20] = [
+    ("", "B"),
+    ("0", "00000000"),
+    ("255", "11111111"),
+    ("25_6", "W"),
+    ("0_12", "00110000"),
+    ("1__0", "01010000"),
+    ("1_", "B"),
+    ("_1", "B"),
+    ("0b1_x0", "0x1"),
+    ("0b", "B"),
+    ("0b_1", "B"),
+    ("0b2", "B"),
+    ("0bX", "B"),
+    ("0B1", "B"),
+    ("0xx5", "1010xxxx"),
+    ("0xA_f", "11110101"),
+    ("0x1_", "B"),
+    ("0xg", "B"),
+    ("340282366920938463463374607431768211455", "W"),
+    ("340282366920938463463374607431768211456", "T"),
+];
+
 #[test]
-fn numbers_are_those_of_the_format(rt: HostRuntime) -> Result<(), Fail> {
-    let alloc = rt.alloc();
-    let rows: [(&[u8], &[u8]); 20] = [
-        (b"", b"B"),
-        (b"0", b"00000000"),
-        (b"255", b"11111111"),
-        (b"25_6", b"W"),
-        (b"0_12", b"00110000"),
-        (b"1__0", b"01010000"),
-        (b"1_", b"B"),
-        (b"_1", b"B"),
-        (b"0b1_x0", b"0x1"),
-        (b"0b", b"B"),
-        (b"0b_1", b"B"),
-        (b"0b2", b"B"),
-        (b"0bX", b"B"),
-        (b"0B1", b"B"),
-        (b"0xx5", b"1010xxxx"),
-        (b"0xA_f", b"11110101"),
-        (b"0x1_", b"B"),
-        (b"0xg", b"B"),
-        (b"340282366920938463463374607431768211455", b"W"),
-        (b"340282366920938463463374607431768211456", b"T"),
-    ];
-    for (text, wanted) in rows {
-        assert_eq!(rt; bits_of(alloc, text)?.as_slice(), wanted, "{}", text.len());
+fn numbers_are_those_of_the_format(rt: HostRuntime) {
+    for (number, wanted) in &NUMBERS {
+        check_text(&rt, number, &bits_of(rt.alloc(), number.as_bytes()), wanted);
     }
-    Ok(())
 }

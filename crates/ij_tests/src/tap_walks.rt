@@ -8,37 +8,43 @@ use std::test::Fail;
 use svf_writer::{Command, Commands, Part, Scan};
 use tap_machine::{Pins, Player, Stable, Tap, TapState};
 
+/// The levels of TMS from Test-Logic-Reset on, and the state to which each leads: through a data and an instruction scan, and back.
+const WALK: [(bool, TapState); 20] = [
+    (false, TapState::RunTestIdle),
+    (true, TapState::SelectDrScan),
+    (false, TapState::CaptureDr),
+    (false, TapState::ShiftDr),
+    (false, TapState::ShiftDr),
+    (true, TapState::Exit1Dr),
+    (true, TapState::UpdateDr),
+    (false, TapState::RunTestIdle),
+    (true, TapState::SelectDrScan),
+    (true, TapState::SelectIrScan),
+    (false, TapState::CaptureIr),
+    (false, TapState::ShiftIr),
+    (true, TapState::Exit1Ir),
+    (false, TapState::PauseIr),
+    (true, TapState::Exit2Ir),
+    (true, TapState::UpdateIr),
+    (true, TapState::SelectDrScan),
+    (true, TapState::SelectIrScan),
+    (true, TapState::TestLogicReset),
+    (true, TapState::TestLogicReset),
+];
+
+/// Whether a clock comes in the state in which the controller is, and leads to this one.
+fn is_walked(tap: &mut Tap, tms: bool, wanted: TapState) -> bool {
+    let before = tap.state();
+    let act = tap.clock(tms);
+    act.before == before && act.after == wanted
+}
+
 #[test]
 fn a_controller_walks_to_reset_and_through_a_data_scan(rt: HostRuntime) {
     let mut tap = Tap::power_up();
-    assert_eq!(rt; tap.state(), TapState::TestLogicReset);
-    let scan = [
-        (false, TapState::RunTestIdle),
-        (true, TapState::SelectDrScan),
-        (false, TapState::CaptureDr),
-        (false, TapState::ShiftDr),
-        (false, TapState::ShiftDr),
-        (true, TapState::Exit1Dr),
-        (true, TapState::UpdateDr),
-        (false, TapState::RunTestIdle),
-        (true, TapState::SelectDrScan),
-        (true, TapState::SelectIrScan),
-        (false, TapState::CaptureIr),
-        (false, TapState::ShiftIr),
-        (true, TapState::Exit1Ir),
-        (false, TapState::PauseIr),
-        (true, TapState::Exit2Ir),
-        (true, TapState::UpdateIr),
-        (true, TapState::SelectDrScan),
-        (true, TapState::SelectIrScan),
-        (true, TapState::TestLogicReset),
-        (true, TapState::TestLogicReset),
-    ];
-    for (tms, wanted) in scan {
-        let before = tap.state();
-        let act = tap.clock(tms);
-        assert_eq!(rt; act.before, before);
-        assert_eq!(rt; act.after, wanted, "after {before:?} with TMS {tms}");
+    assert!(rt; tap.state() == TapState::TestLogicReset);
+    for (number, (tms, wanted)) in WALK.iter().enumerate() {
+        assert!(rt; is_walked(&mut tap, *tms, *wanted), "clock {number}");
     }
 }
 
@@ -105,38 +111,43 @@ struct Clocks {
     ended: Stable,
 }
 
-fn played(alloc: Global, commands: &Commands) -> Result<Clocks, Fail>
+fn played(alloc: Global, commands: &Commands) -> Clocks
     requires { 7 + scans_in commands.now < 2 ^ 32 }
 {
     let mut player = Player::new(Stable::Reset, 7, commands);
     let mut shifted = Vec::new(alloc);
     let mut quiet = Vec::new(alloc);
     while let Some(pins) = player.next() {
+        // Without memory a clock is missing, and the test fails.
         if pins.scan > 0 {
-            shifted.push(pins)?;
+            let _ = shifted.push(pins);
         } else {
-            quiet.push(pins.tms)?;
+            let _ = quiet.push(pins.tms);
         }
     }
-    Ok(Clocks {
+    Clocks {
         quiet,
         shifted,
         ended: player.ended(),
-    })
+    }
 }
+
+/// To Run-Test/Idle; three scans, each led in by three clocks and out by two; three clocks to run; five to reset.
+const QUIET: [bool; 24] = [
+    LOW, HIGH, LOW, LOW, HIGH, LOW, HIGH, LOW, LOW, HIGH, LOW, HIGH, LOW, LOW, HIGH, LOW, LOW, LOW,
+    LOW, HIGH, HIGH, HIGH, HIGH, HIGH,
+];
+
+const LOW: bool = false;
+
+const HIGH: bool = true;
 
 #[test]
 fn tdi_and_mask_hold_up_to_a_new_length(rt: HostRuntime) -> Result<(), Fail> {
     let commands = commands_to_play(rt.alloc())?;
-    let clocks = played(rt.alloc(), &commands)?;
-    assert_eq!(rt; clocks.ended, Stable::Reset);
-    // To Run-Test/Idle; three scans, each led in by three clocks and out by two; three clocks to run; five to reset.
-    let (low, high) = (false, true);
-    let quiet = [
-        low, high, low, low, high, low, high, low, low, high, low, high, low, low, high, low, low,
-        low, low, high, high, high, high, high,
-    ];
-    assert_eq!(rt; clocks.quiet.as_slice(), quiet.as_slice());
+    let clocks = played(rt.alloc(), &commands);
+    assert!(rt; clocks.ended == Stable::Reset);
+    assert!(rt; clocks.quiet.as_slice() == QUIET.as_slice());
     let shifted = [
         shifts(8, 0, false, true, None),
         shifts(8, 1, true, false, Some(true)),

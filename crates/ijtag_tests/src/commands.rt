@@ -1,8 +1,7 @@
 // The commands that the tests call, their files, and a run of the program with calls that fail.
-use ij_io::{MemShelf, MemSink};
+use ij_io::{MemShelf, MemSink, SureShelf};
 use ijtag_core::{Status, ijtag};
-use std::alloc::{AllocError, Global};
-use std::test::Fail;
+use std::alloc::Global;
 
 /// An instrument that counts run cycles from the moment its input rises, and is done at 100.
 const COUNTER: &[u8] =
@@ -34,7 +33,7 @@ const MEMORY: &[u8] =
 const MEMORY_TABLES: &[u8] =
     b"tables 2\ninstrument mem\n in a 4\n in d 8\n word q 8\n mem m 12 8\n out o=q\nchange do m[a]=d,q=m[a]\nend\n";
 
-/// Two values are stored at one place, and then one behind the memory's end.
+/// Two values are stored at one place, and then one after the memory's end.
 const STORE: &[u8] =
     b"iProcsForModule chip\niProc p {} {\n  iWrite mem.a 3\n  iWrite mem.d 0x5A\n  iApply\n  iWrite mem.d 0x11\n  iApply\n  iWrite mem.a 13\n  iApply\n}\n";
 
@@ -179,22 +178,62 @@ pub(crate) struct Ended {
     pub err: MemSink,
 }
 
-pub(crate) fn words(alloc: Global, parts: &[&str]) -> Result<Vec<String>, AllocError> {
-    let mut words = Vec::new(alloc);
-    for part in parts {
-        words.push(String::from_str(alloc, part)?)?;
+impl Ended {
+    /// Whether the program ended so, and wrote this.
+    pub(crate) fn is(&self, status: Status, out: &[u8], err: &[u8]) -> bool {
+        self.status == status && self.out.bytes() == out && self.err.bytes() == err
     }
-    Ok(words)
+
+    /// Whether a file has this text.
+    pub(crate) fn has(&self, name: &str, text: &[u8]) -> bool {
+        self.shelf.file(name) == Some(text)
+    }
 }
 
-fn shelf_of(alloc: Global, files: &[(&str, &[u8])]) -> Result<MemShelf, AllocError> {
-    let mut shelf = MemShelf::new(alloc);
-    for file in files {
-        if shelf.put_file(file.0, file.1).is_err() {
-            return Err(AllocError);
+/// What a run shows in which one call fails.
+#[derive(Clone, Copy)]
+pub(crate) enum Outcome {
+    /// The call wasn't made, and all is there.
+    Whole,
+    /// The call was made, and what stands is a first part of all.
+    Part,
+    /// Anything else.
+    Wrong,
+}
+
+/// Words of a command. Like files and failing calls, one that finds no memory is left out, and then the run isn't as it should be.
+pub(crate) fn words(alloc: Global, parts: &[&str]) -> Vec<String> {
+    let mut words = Vec::new(alloc);
+    for part in parts {
+        if let Ok(word) = String::from_str(alloc, part) {
+            let _ = words.push(word);
         }
     }
-    Ok(shelf)
+    words
+}
+
+fn shelf_of(alloc: Global, files: &[(&str, &[u8])], failing: &[u32]) -> MemShelf {
+    let mut shelf = MemShelf::new(alloc);
+    for file in files {
+        let _ = shelf.put_file(file.0, file.1);
+    }
+    let _ = shelf.fail_at(failing);
+    shelf
+}
+
+/// Files in memory whose calls don't fail.
+pub(crate) fn sure_shelf_of(alloc: Global, files: &[(&str, &[u8])]) -> SureShelf {
+    let mut shelf = SureShelf::new(alloc);
+    for file in files {
+        let _ = shelf.put_file(file.0, file.1);
+    }
+    shelf
+}
+
+fn sink_of(alloc: Global, failing: &[u32]) -> MemSink {
+    let mut sink = MemSink::new(alloc);
+    let _ = sink.fail_at(failing);
+    sink
 }
 
 /// A run of the program. It has no clause: a test looks at what comes.
@@ -203,19 +242,16 @@ pub(crate) fn run(
     parts: &[&str],
     files: &[(&str, &[u8])],
     failing: &Failing<'_>,
-) -> Result<Ended, Fail> {
-    let words = words(alloc, parts)?;
-    let mut shelf = shelf_of(alloc, files)?;
-    shelf.fail_at(failing.shelf)?;
-    let mut out = MemSink::new(alloc);
-    out.fail_at(failing.out)?;
-    let mut err = MemSink::new(alloc);
-    err.fail_at(failing.err)?;
+) -> Ended {
+    let words = words(alloc, parts);
+    let mut shelf = shelf_of(alloc, files, failing.shelf);
+    let mut out = sink_of(alloc, failing.out);
+    let mut err = sink_of(alloc, failing.err);
     let status = ijtag(alloc, &words, &mut shelf, &mut out, &mut err);
-    Ok(Ended {
+    Ended {
         status,
         shelf,
         out,
         err,
-    })
+    }
 }

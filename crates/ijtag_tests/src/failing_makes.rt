@@ -1,8 +1,7 @@
 // Calls that fail while a design is made.
 use crate::commands::{Ended, Failing, run};
 use ijtag_core::Status;
-use std::process::Abort;
-use std::test::Fail;
+use std::alloc::Global;
 
 /// The files of a design, in the order in which they are written, and what they hold before.
 pub(crate) const FILES: [(&str, &[u8]); 5] = [
@@ -33,78 +32,79 @@ fn fault_of_store(call: u32) -> &'static [u8] {
     }
 }
 
-/// What a file holds after a refused call, whose own calls are three from the one of this number on: it is as before until the
-/// first of them, and whole from the third on.
-pub(crate) fn check_file(
-    rt: &impl Abort,
+/// Whether a file holds what it may after a refused call, whose own calls are three from the one of this number on: it is as before
+/// until the first of them, and whole from the third on.
+pub(crate) fn is_left(
     call: u32,
     first: u32,
     before: &[u8],
     all: Option<&[u8]>,
     held: Option<&[u8]>,
-) {
+) -> bool {
     let (Some(all), Some(held)) = (all, held) else {
-        assert!(rt; false);
-        return;
+        return false;
     };
     if call > first.wrapping_add(1) {
-        assert!(rt; held == all);
-    } else if call < first {
-        assert!(rt; held == before);
+        held == all
     } else {
-        assert!(rt; held == before || all.starts_with(held));
+        held == before || (call >= first && all.starts_with(held))
     }
 }
 
-/// The files before the one of the failed call are whole, and those after it are as before.
-fn check_files(rt: &impl Abort, whole: &Ended, ended: &Ended, call: u32) {
+/// Whether the files before the one of the failed call are whole, and those after it are as before.
+fn are_left(whole: &Ended, ended: &Ended, call: u32) -> bool {
     let mut first = 1u32;
+    let mut left = true;
     for file in &FILES {
         let all = whole.shelf.file(file.0);
         let held = ended.shelf.file(file.0);
-        check_file(rt, call, first, file.1, all, held);
+        left = is_left(call, first, file.1, all, held) && left;
         first = first.wrapping_add(3);
     }
+    left
+}
+
+/// Whether a make whose call of this number fails, of the files, says so and leaves what it may. There are 15 calls.
+fn is_met(alloc: Global, whole: &Ended, call: u32) -> bool {
+    let failing = Failing {
+        shelf: &[call],
+        out: &[],
+        err: &[],
+    };
+    let ended = run(alloc, &MAKE, &FILES, &failing);
+    let said = if call > 15 {
+        ended.is(Status::Good, whole.out.bytes(), ended.err.bytes())
+    } else {
+        ended.is(Status::WriteFault, b"", fault_of_store(call))
+    };
+    said && are_left(whole, &ended, call)
 }
 
 /// Each call of the files fails once, and nothing is printed then.
 #[test]
-fn each_call_of_the_files_fails_once_in_a_make(rt: HostRuntime) -> Result<(), Fail> {
-    let alloc = rt.alloc();
-    let whole = run(alloc, &MAKE, &FILES, &NONE)?;
+fn each_call_of_the_files_fails_once_in_a_make(rt: HostRuntime) {
+    let whole = run(rt.alloc(), &MAKE, &FILES, &NONE);
     for call in 1..20u32 {
-        let failing = Failing {
-            shelf: &[call],
-            out: &[],
-            err: &[],
-        };
-        let ended = run(alloc, &MAKE, &FILES, &failing)?;
-        if call > 15 {
-            assert_eq!(rt; ended.status, Status::Good);
-            assert_eq!(rt; ended.out.bytes(), whole.out.bytes());
-        } else {
-            assert_eq!(rt; ended.status, Status::WriteFault);
-            assert_eq!(rt; ended.err.bytes(), fault_of_store(call));
-            assert_eq!(rt; ended.out.bytes(), b"".as_slice());
-        }
-        check_files(&rt, &whole, &ended, call);
+        assert!(rt; is_met(rt.alloc(), &whole, call), "call {call}");
     }
-    Ok(())
 }
 
 /// Where the output fails, the five files are whole.
 #[test]
-fn an_output_that_fails_leaves_the_files(rt: HostRuntime) -> Result<(), Fail> {
-    let alloc = rt.alloc();
-    let whole = run(alloc, &MAKE, &FILES, &NONE)?;
+fn an_output_that_fails_leaves_the_files(rt: HostRuntime) {
+    let whole = run(rt.alloc(), &MAKE, &FILES, &NONE);
     let failing = Failing {
         shelf: &[],
         out: &[1],
         err: &[],
     };
-    let ended = run(alloc, &MAKE, &FILES, &failing)?;
-    assert_eq!(rt; ended.status, Status::WriteFault);
-    assert_eq!(rt; ended.err.bytes(), b"write fault output\n".as_slice());
-    check_files(&rt, &whole, &ended, 20);
-    Ok(())
+    let ended = run(rt.alloc(), &MAKE, &FILES, &failing);
+    assert!(rt;
+        ended.is(
+            Status::WriteFault,
+            ended.out.bytes(),
+            b"write fault output\n"
+        )
+    );
+    assert!(rt; are_left(&whole, &ended, 20));
 }

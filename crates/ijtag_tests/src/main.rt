@@ -1,4 +1,4 @@
-//! Tests of the program where a call of a file or of a stream fails: what it says then, and what stands. What it answers to texts is told by
+//! Tests of the program where a call of a file or of a stream fails: what it says then, and what stands. What it answers to texts is in
 //! the cases of `.ci/answers.py`.
 #![tactic(auto)]
 

@@ -2,14 +2,13 @@
 ghost use Rattle.std.specs.Prelude.{None};
 
 use crate::commands::{
-    COMMANDS, COMPILE, Command, PLAY, REFUSED_FILES, run as run_with_faults, words,
+    COMMANDS, COMPILE, Command, Ended as WithFaults, Outcome, PLAY, REFUSED_FILES,
+    run as run_with_faults, sure_shelf_of, words,
 };
-use crate::failing_makes::{FILES, MAKE, NONE, check_file};
+use crate::failing_makes::{FILES, MAKE, NONE, is_left};
 use ij_io::{LoadFault, Shelf, Sink, StoreFault, SureShelf, SureSink};
 use ijtag_core::{Status, ijtag};
-use std::alloc::{AllocError, Global};
-use std::process::Abort;
-use std::test::Fail;
+use std::alloc::Global;
 
 /// More calls than any of these runs makes.
 const MANY: u32 = 100;
@@ -143,6 +142,19 @@ struct Ended {
     err: SureSink,
 }
 
+impl Ended {
+    /// Whether the program ended so, and wrote this.
+    fn is(&self, status: Status, out: &[u8], err: &[u8]) -> bool {
+        self.status == status && self.out.bytes() == out && self.err.bytes() == err
+    }
+
+    /// Whether it ended for want of memory, and printed a first part of a report.
+    fn is_out_of_memory(&self, report: &[u8]) -> bool {
+        self.is(Status::OutOfMemory, self.out.bytes(), b"out of memory\n")
+            && report.starts_with(self.out.bytes())
+    }
+}
+
 fn sink(alloc: Global, left: u32) -> ShortSink {
     ShortSink {
         bytes: SureSink::new(alloc),
@@ -150,201 +162,228 @@ fn sink(alloc: Global, left: u32) -> ShortSink {
     }
 }
 
-fn shelf(alloc: Global, files: &[(&str, &[u8])], left: u32) -> Result<ShortShelf, AllocError> {
-    let mut shelf = SureShelf::new(alloc);
-    for file in files {
-        if shelf.put_file(file.0, file.1).is_err() {
-            return Err(AllocError);
-        }
-    }
-    Ok(ShortShelf {
-        files: shelf,
-        until: Countdown { left },
-    })
-}
-
 // A run of the program. It has no clause: a test looks at what comes.
-fn run(
-    alloc: Global,
-    parts: &[&str],
-    files: &[(&str, &[u8])],
-    short: Short,
-) -> Result<Ended, Fail> {
-    let words = words(alloc, parts)?;
-    let mut shelf = shelf(alloc, files, short.shelf)?;
+fn run(alloc: Global, parts: &[&str], files: &[(&str, &[u8])], short: Short) -> Ended {
+    let words = words(alloc, parts);
+    let mut shelf = ShortShelf {
+        files: sure_shelf_of(alloc, files),
+        until: Countdown { left: short.shelf },
+    };
     let mut out = sink(alloc, short.out);
     let mut err = sink(alloc, short.err);
     let status = ijtag(alloc, &words, &mut shelf, &mut out, &mut err);
-    Ok(Ended {
+    Ended {
         status,
         files: shelf.files,
         out: out.bytes,
         err: err.bytes,
-    })
+    }
 }
 
-/// What a run without memory says and leaves: its one line; of the report and of each file that is written, as before or a first
-/// part; and all other files.
-fn check_left(
-    rt: &impl Abort,
-    ended: &Ended,
-    before: &[(&str, &[u8])],
-    written: &[(&str, &[u8])],
-    report: &[u8],
-) {
-    assert_eq!(rt; ended.status, Status::OutOfMemory);
-    assert_eq!(rt; ended.err.bytes(), b"out of memory\n".as_slice());
-    assert!(rt; report.starts_with(ended.out.bytes()));
-    for file in before {
-        if !written.iter().any(|new| new.0 == file.0) {
-            assert_eq!(rt; ended.files.file(file.0), Some(file.1));
+/// Whether a command's files are as before, but for the one that it writes.
+fn others_stay(command: &Command<'_>, ended: &Ended) -> bool {
+    let mut stay = true;
+    for file in command.files {
+        let held = ended.files.file(file.0);
+        stay = stay && (file.0 == command.writes || held == Some(file.1));
+    }
+    stay
+}
+
+/// Whether the file that a command writes has its text, where it writes one.
+fn is_written(command: &Command<'_>, ended: &Ended) -> bool {
+    command.writes.is_empty() || ended.files.file(command.writes) == Some(command.text)
+}
+
+/// Whether a run without memory says and leaves what it may: its one line; of the report and of the file that is written, which wasn't
+/// there before, a first part; and all other files.
+fn is_short(command: &Command<'_>, report: &[u8], ended: &Ended) -> bool {
+    let held = ended.files.file(command.writes).unwrap_or(b"".as_slice());
+    ended.is_out_of_memory(report) && others_stay(command, ended) && command.text.starts_with(held)
+}
+
+/// Whether a run met no call without memory, and all is there.
+fn is_whole(command: &Command<'_>, ended: &Ended) -> bool {
+    ended.is(Status::Good, command.report, b"") && is_written(command, ended)
+}
+
+/// A run whose call of this number finds no memory, of the files.
+fn outcome_of_shelf(alloc: Global, command: &Command<'_>, call: u32) -> Outcome {
+    let ended = run(alloc, command.words, command.files, Short::of_shelf(call));
+    if is_whole(command, &ended) {
+        Outcome::Whole
+    } else if is_short(command, b"", &ended) {
+        Outcome::Part
+    } else {
+        Outcome::Wrong
+    }
+}
+
+/// The first call of the files that isn't made; or one that is wrong.
+fn end_of_shelf(alloc: Global, command: &Command<'_>) -> Result<u32, u32> {
+    for call in 1..MANY {
+        match outcome_of_shelf(alloc, command, call) {
+            Outcome::Whole => return Ok(call),
+            Outcome::Part => {}
+            Outcome::Wrong => return Err(call),
         }
     }
-    for new in written {
-        let held = ended.files.file(new.0).unwrap_or(b"".as_slice());
-        let stays = before.iter().any(|old| old.0 == new.0 && old.1 == held);
-        assert!(rt; stays || new.1.starts_with(held));
-    }
-}
-
-/// The name that a command writes and the text that it has then; none, where it writes no file.
-fn written<'a>(command: &Command<'a>) -> [(&'a str, &'a [u8]); 1] {
-    [(command.writes, command.text)]
-}
-
-/// Whether a run met no call without memory. Then all is there.
-fn is_whole(rt: &impl Abort, command: &Command<'_>, ended: &Ended) -> bool {
-    if ended.status != Status::Good {
-        return false;
-    }
-    assert_eq!(rt; ended.err.bytes(), b"".as_slice());
-    assert_eq!(rt; ended.out.bytes(), command.report);
-    if !command.writes.is_empty() {
-        assert_eq!(rt; ended.files.file(command.writes), Some(command.text));
-    }
-    true
+    Err(MANY)
 }
 
 /// Each command but `make` calls its files once for each load, and begins, grows and finishes the one that it writes.
 #[test]
-fn each_call_of_the_files_finds_no_memory_once(rt: HostRuntime) -> Result<(), Fail> {
-    let alloc = rt.alloc();
+fn each_call_of_the_files_finds_no_memory_once(rt: HostRuntime) {
     for command in &COMMANDS {
-        let stores = if command.writes.is_empty() { 0u32 } else { 3 };
-        let calls = (command.loads.len() as u32).wrapping_add(stores);
-        for call in 1..calls.wrapping_add(1) {
-            let short = Short::of_shelf(call);
-            let ended = run(alloc, command.words, command.files, short)?;
-            check_left(&rt, &ended, command.files, &written(command), b"");
-        }
-        let short = Short::of_shelf(calls.wrapping_add(1));
-        let ended = run(alloc, command.words, command.files, short)?;
-        assert!(rt; is_whole(&rt, command, &ended));
+        let end = end_of_shelf(rt.alloc(), command);
+        let first = if command.writes.is_empty() { 1 } else { 4 };
+        let wanted = command.loads.len().saturating_add(first);
+        assert!(rt;
+            matches!(end, Ok(call) if call as usize == wanted),
+            "{:?}: {end:?}",
+            command.words
+        );
     }
-    Ok(())
+}
+
+/// A run whose call of this number finds no memory, of the output. The file is whole.
+fn outcome_of_out(alloc: Global, command: &Command<'_>, call: u32) -> Outcome {
+    let ended = run(alloc, command.words, command.files, Short::of_out(call));
+    if is_whole(command, &ended) {
+        Outcome::Whole
+    } else if is_short(command, command.report, &ended) && is_written(command, &ended) {
+        Outcome::Part
+    } else {
+        Outcome::Wrong
+    }
+}
+
+/// The first call of the output that isn't made; or one that is wrong.
+fn end_of_out(alloc: Global, command: &Command<'_>) -> Result<u32, u32> {
+    for call in 1..MANY {
+        match outcome_of_out(alloc, command, call) {
+            Outcome::Whole => return Ok(call),
+            Outcome::Part => {}
+            Outcome::Wrong => return Err(call),
+        }
+    }
+    Err(MANY)
 }
 
 /// Each call of the output, until a run meets none; then the file is whole.
 #[test]
-fn each_call_of_the_output_finds_no_memory_once(rt: HostRuntime) -> Result<(), Fail> {
-    let alloc = rt.alloc();
+fn each_call_of_the_output_finds_no_memory_once(rt: HostRuntime) {
     for command in &COMMANDS {
-        let mut whole = 0u32;
-        for call in 1..MANY {
-            let short = Short::of_out(call);
-            let ended = run(alloc, command.words, command.files, short)?;
-            if is_whole(&rt, command, &ended) {
-                whole = call;
-                break;
-            }
-            check_left(
-                &rt,
-                &ended,
-                command.files,
-                &written(command),
-                command.report,
-            );
-            if !command.writes.is_empty() {
-                assert_eq!(rt; ended.files.file(command.writes), Some(command.text));
-            }
-        }
-        assert!(rt; whole > 0);
-        assert!(rt; whole > 2 || command.report.is_empty());
+        let end = end_of_out(rt.alloc(), command);
+        let least = if command.report.is_empty() { 1 } else { 3 };
+        assert!(rt;
+            matches!(end, Ok(call) if call >= least),
+            "{:?}: {end:?}",
+            command.words
+        );
     }
-    Ok(())
+}
+
+/// A refused run whose call of this number finds no memory, of the error stream.
+fn outcome_of_err(alloc: Global, words: &[&str], call: u32) -> Outcome {
+    let line = b"refused icl Syntax 1:28\n".as_slice();
+    let ended = run(alloc, words, &REFUSED_FILES, Short::of_err(call));
+    if ended.is(Status::Refused, b"", line) {
+        Outcome::Whole
+    } else if ended.is(Status::OutOfMemory, b"", ended.err.bytes())
+        && line.starts_with(ended.err.bytes())
+    {
+        Outcome::Part
+    } else {
+        Outcome::Wrong
+    }
+}
+
+/// The first call of the error stream that isn't made; or one that is wrong.
+fn end_of_err(alloc: Global, words: &[&str]) -> Result<u32, u32> {
+    for call in 1..MANY {
+        match outcome_of_err(alloc, words, call) {
+            Outcome::Whole => return Ok(call),
+            Outcome::Part => {}
+            Outcome::Wrong => return Err(call),
+        }
+    }
+    Err(MANY)
 }
 
 /// Each call of the error stream of a refused run: the status is that of want of memory, and what the stream took is a first part of
 /// its line.
 #[test]
-fn each_call_of_the_error_stream_finds_no_memory_once(rt: HostRuntime) -> Result<(), Fail> {
-    let alloc = rt.alloc();
-    let line = b"refused icl Syntax 1:28\n".as_slice();
+fn each_call_of_the_error_stream_finds_no_memory_once(rt: HostRuntime) {
     for words in [COMPILE.as_slice(), &PLAY] {
-        let mut whole = 0u32;
-        for call in 1..MANY {
-            let short = Short::of_err(call);
-            let ended = run(alloc, words, &REFUSED_FILES, short)?;
-            assert_eq!(rt; ended.out.bytes(), b"".as_slice());
-            assert!(rt; line.starts_with(ended.err.bytes()));
-            if ended.status == Status::Refused {
-                assert_eq!(rt; ended.err.bytes(), line);
-                whole = call;
-                break;
-            }
-            assert_eq!(rt; ended.status, Status::OutOfMemory);
-        }
-        assert!(rt; whole > 2);
+        let end = end_of_err(rt.alloc(), words);
+        assert!(rt; matches!(end, Ok(call) if call > 2), "{words:?}: {end:?}");
     }
-    Ok(())
 }
 
-/// A made design: three calls for each of its five files. Those that are finished are whole, and those that aren't begun are as before.
+/// Whether the files of a make that are finished before this call are whole, and those that aren't begun are as before.
+fn are_left(whole: &WithFaults, ended: &Ended, call: u32) -> bool {
+    let mut first = 1u32;
+    let mut left = true;
+    for file in &FILES {
+        let all = whole.shelf.file(file.0);
+        let held = ended.files.file(file.0);
+        left = is_left(call, first, file.1, all, held) && left;
+        first = first.wrapping_add(3);
+    }
+    left
+}
+
+/// Whether a make whose call of this number finds no memory, of the files, says so and leaves what it may. There are 15 calls.
+fn is_met(alloc: Global, whole: &WithFaults, call: u32) -> bool {
+    let ended = run(alloc, &MAKE, &FILES, Short::of_shelf(call));
+    let said = if call > 15 {
+        ended.is(Status::Good, whole.out.bytes(), ended.err.bytes())
+    } else {
+        ended.is_out_of_memory(b"")
+    };
+    said && are_left(whole, &ended, call)
+}
+
+/// A made design: three calls for each of its five files.
 #[test]
-fn each_call_of_a_make_finds_no_memory_once(rt: HostRuntime) -> Result<(), Fail> {
-    let alloc = rt.alloc();
-    let whole = run_with_faults(alloc, &MAKE, &FILES, &NONE)?;
+fn each_call_of_a_make_finds_no_memory_once(rt: HostRuntime) {
+    let whole = run_with_faults(rt.alloc(), &MAKE, &FILES, &NONE);
     for call in 1..17u32 {
-        let ended = run(alloc, &MAKE, &FILES, Short::of_shelf(call))?;
-        if call > 15 {
-            assert_eq!(rt; ended.status, Status::Good);
-            assert_eq!(rt; ended.out.bytes(), whole.out.bytes());
-        } else {
-            assert_eq!(rt; ended.status, Status::OutOfMemory);
-            assert_eq!(rt; ended.err.bytes(), b"out of memory\n".as_slice());
-            assert_eq!(rt; ended.out.bytes(), b"".as_slice());
-        }
-        let mut first = 1u32;
-        for file in &FILES {
-            let all = whole.shelf.file(file.0);
-            let held = ended.files.file(file.0);
-            check_file(&rt, call, first, file.1, all, held);
-            first = first.wrapping_add(3);
+        assert!(rt; is_met(rt.alloc(), &whole, call), "call {call}");
+    }
+}
+
+/// A make whose call of this number finds no memory, of the output. Its files are whole.
+fn outcome_of_make(alloc: Global, whole: &WithFaults, call: u32) -> Outcome {
+    let ended = run(alloc, &MAKE, &FILES, Short::of_out(call));
+    if !are_left(whole, &ended, MANY) {
+        Outcome::Wrong
+    } else if ended.is(Status::Good, whole.out.bytes(), ended.err.bytes()) {
+        Outcome::Whole
+    } else if ended.is_out_of_memory(whole.out.bytes()) {
+        Outcome::Part
+    } else {
+        Outcome::Wrong
+    }
+}
+
+/// The first call of the output of a make that isn't made; or one that is wrong.
+fn end_of_make(alloc: Global, whole: &WithFaults) -> Result<u32, u32> {
+    for call in 1..MANY {
+        match outcome_of_make(alloc, whole, call) {
+            Outcome::Whole => return Ok(call),
+            Outcome::Part => {}
+            Outcome::Wrong => return Err(call),
         }
     }
-    Ok(())
+    Err(MANY)
 }
 
 /// Each call of the output of a make, until a run meets none: its files are whole.
 #[test]
-fn each_call_of_the_output_of_a_make_finds_no_memory_once(rt: HostRuntime) -> Result<(), Fail> {
-    let alloc = rt.alloc();
-    let whole = run_with_faults(alloc, &MAKE, &FILES, &NONE)?;
-    let mut met = 0u32;
-    for call in 1..MANY {
-        let ended = run(alloc, &MAKE, &FILES, Short::of_out(call))?;
-        for file in &FILES {
-            assert_eq!(rt; ended.files.file(file.0), whole.shelf.file(file.0));
-        }
-        if ended.status == Status::Good {
-            assert_eq!(rt; ended.out.bytes(), whole.out.bytes());
-            met = call;
-            break;
-        }
-        assert_eq!(rt; ended.status, Status::OutOfMemory);
-        assert_eq!(rt; ended.err.bytes(), b"out of memory\n".as_slice());
-        assert!(rt; whole.out.bytes().starts_with(ended.out.bytes()));
-    }
-    assert!(rt; met > 2);
-    Ok(())
+fn each_call_of_the_output_of_a_make_finds_no_memory_once(rt: HostRuntime) {
+    let whole = run_with_faults(rt.alloc(), &MAKE, &FILES, &NONE);
+    let end = end_of_make(rt.alloc(), &whole);
+    assert!(rt; matches!(end, Ok(call) if call > 2), "{end:?}");
 }
