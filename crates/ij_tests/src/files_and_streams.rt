@@ -121,7 +121,11 @@ fn the_named_write_of_a_stream_fails(rt: HostRuntime) {
     sink.fail_at(&[2]).expect(&rt, "a call that fails");
     for (piece, wanted) in &ANSWERS {
         let found = [write(&mut sink, piece), flush(&mut sink)];
-        assert!(rt; found == [*wanted, Ok(())], "piece {}", piece.escape_ascii());
+        assert!(rt;
+            found == [*wanted, Ok(())],
+            "piece {}",
+            piece.escape_ascii()
+        );
     }
     assert!(rt; sink.bytes() == b"abef".as_slice());
 }

@@ -57,7 +57,11 @@ fn fails(alloc: Global, command: &Command<'_>, call: u32) -> bool {
 fn each_call_of_the_files_fails_once(rt: HostRuntime) {
     for command in &COMMANDS {
         for call in 1..9u32 {
-            assert!(rt; fails(rt.alloc(), command, call), "{:?}: call {call}", command.words);
+            assert!(rt;
+                fails(rt.alloc(), command, call),
+                "{:?}: call {call}",
+                command.words
+            );
         }
     }
 }
