@@ -1,6 +1,6 @@
 -- The edges that are read in a graph's text are those of its network.
-use Rattle.std.proofs.Common.{◌≡◌, ℕ, zero, suc, ◌+◌, ◌-◌, ◌<◌, ◌≤◌, ◌^◌, Bool, true, false, List, [], ◌∷◌, ◌++◌, Option, Some, None, length, take, drop, map, get_or, refl, sym, ap, ◌∙◌, subst, arith, append_assoc, append-nil, decimal, cond}
-use Rattle.std.specs.Prelude.{◌==◌, ◌&&◌, ◌*◌, All, IsTrue, codes, nat_le}
+use Rattle.std.proofs.Common.{◌≡◌, ℕ, zero, suc, ◌+◌, ◌-◌, ◌<◌, ◌≤◌, ◌^◌, Bool, true, false, List, [], ◌∷◌, ◌++◌, Option, length, take, drop, map, get_or, refl, sym, ap, ◌∙◌, subst, arith, append_assoc, append-nil, decimal, cond}
+use Rattle.std.specs.Prelude.{◌==◌, ◌*◌, All, IsTrue, codes, nat_le}
 use Rattle.std.specs.List.{flat_map, range_with_len}
 use Rattle.std.specs.Option.{option_map}
 use Rattle.std.proofs.lemmas.List.Elements.{All-head, All-nil, All-tail}
@@ -25,10 +25,10 @@ use Rattle.net_graph.specs.Signals.{Holds}
 use Rattle.net_graph.proofs.Tracing.{reg_count}
 use Rattle.net_graph.proofs.Widths.{register_there}
 use Rattle.net_list.specs.Drivers.{index_of, register_path}
-use Rattle.net_list.specs.Forms.{items, tern_digit, tern_digits, tern_text, values_text}
+use Rattle.net_list.specs.Forms.{items, tern_digit, tern_digits, tern_text}
 use Rattle.net_list.specs.Listing.{lines_from}
 use Rattle.net_tree.specs.Lawful.{selects_of}
-use Rattle.net_picture.specs.Dot.{dot_head, dot_text, edge_style, graph_text, is_marked, is_met, labelled_edge, met, mux_edges, mux_node, node_letters, node_number, node_style, node_text, output_edge, register_edge, register_node, row_edge, row_line, row_source, select_edge}
+use Rattle.net_picture.specs.Dot.{dot_head, dot_text, edge_style, graph_text, is_marked, is_met, labelled_edge, met, mux_edges, mux_node, node_letters, node_number, node_style, node_text, output_edge, register_edge, register_node, row_line, row_source, select_edge}
 use Rattle.net_picture.specs.Edges.{Node, Tdi, Tdo, Register, Multiplexer, Link, Source, Row, Select, Edge, node_of, edge_to_register, edge_of_row, edge_of_select, edges_to_mux, edge_to_scan_out, edges}
 use Rattle.net_picture.specs.Labels.{ends_of, range_if, range_of, range_text, register_label, row_values, short, short_values}
 use Rattle.net_picture.specs.ReadEdges.{read_edges}

@@ -1,20 +1,19 @@
 -- What a reader of edges finds in lines.
-use Rattle.std.proofs.Common.{◌≡◌, ℕ, zero, suc, ◌+◌, ◌-◌, ◌<◌, ◌≤◌, ◌^◌, ◌/◌, ◌%◌, Bool, true, false, List, [], ◌∷◌, ◌++◌, Option, Some, None, length, take, drop, map, get_or, refl, sym, ap, ◌∙◌, arith, append_assoc, decimal, nat_lt, cond}
-use Rattle.std.specs.Prelude.{◌==◌, ◌||◌, ◌&&◌, codes, filter, nat_le, not}
+use Rattle.std.proofs.Common.{◌≡◌, ℕ, zero, suc, ◌+◌, ◌<◌, ◌≤◌, ◌^◌, ◌/◌, ◌%◌, Bool, true, false, List, [], ◌∷◌, ◌++◌, Some, length, take, drop, refl, sym, ap, ◌∙◌, arith, append_assoc, decimal, nat_lt, cond}
+use Rattle.std.specs.Prelude.{◌==◌, ◌||◌, codes, filter, not}
 use Rattle.std.specs.Fmt.{digits as digits_in, digits_onto, digit_glyph}
 use Rattle.std.specs.List.{AllByRecursion, flat_map, list_all}
-use Rattle.std.specs.Str.{all_ascii_digits, bytes_eq}
+use Rattle.std.specs.Str.{all_ascii_digits}
 use Rattle.std.specs.Str.Parse.{digits_value}
 use Rattle.std.proofs.lemmas.Bool.{and_parts}
 use Rattle.std.proofs.lemmas.Bool.Decides.{nat_tests}
 use Rattle.std.proofs.lemmas.Fmt.{digits_decimal, digits_value-decimal, decimal_nonempty}
-use Rattle.std.proofs.lemmas.Grind.{flat_map-append}
 use Rattle.std.proofs.lemmas.Str.Parse.{IsNumeralModel, numerals_by_value, tells_all_ascii_digits}
 use Rattle.ij_text.specs.Parts.{before, split}
 use Rattle.ij_text.specs.Words.{begins_name, in_name, is_name}
 use Rattle.net_picture.specs.Dot.{edge_style}
-use Rattle.net_picture.specs.Edges.{Node, Tdi, Tdo, Register, Multiplexer, Link, Source, Row, Select, Edge}
-use Rattle.net_picture.specs.ReadEdges.{has_bytes, words, number, numbered, node_named, link_in, link_of, edge_between, edge_to, edge_from, edge_by, read_edges}
+use Rattle.net_picture.specs.Edges.{Node, Link, Source, Row, Select, Edge}
+use Rattle.net_picture.specs.ReadEdges.{has_bytes, words, number, node_named, link_in, link_of, edge_between, edge_from, edge_by, read_edges}
 
 -- ---- bytes that are no line feed (10), blank (32) or quote (34)
 
