@@ -1,6 +1,7 @@
 -- What a reader of edges finds in lines.
 use Rattle.std.proofs.Common.{◌≡◌, ℕ, zero, suc, ◌+◌, ◌<◌, ◌≤◌, ◌^◌, ◌/◌, ◌%◌, Bool, true, false, List, [], ◌∷◌, ◌++◌, Some, length, take, drop, refl, sym, ap, ◌∙◌, arith, append_assoc, decimal, nat_lt, cond}
 use Rattle.std.specs.Prelude.{◌==◌, ◌||◌, codes, filter, not}
+use Rattle.std.specs.Char.{is_ascii_digit}
 use Rattle.std.specs.Fmt.{digits as digits_in, digits_onto, digit_glyph}
 use Rattle.std.specs.List.{AllByRecursion, flat_map, list_all}
 use Rattle.std.specs.Str.{all_ascii_digits}
@@ -9,6 +10,7 @@ use Rattle.std.proofs.lemmas.Bool.{and_parts}
 use Rattle.std.proofs.lemmas.Bool.Decides.{nat_tests}
 use Rattle.std.proofs.lemmas.Fmt.{digits_decimal, digits_value-decimal, decimal_nonempty}
 use Rattle.std.proofs.lemmas.Str.Parse.{IsNumeralModel, numerals_by_value, tells_all_ascii_digits}
+use Rattle.ij_bits.proofs.Tests.{number_self}
 use Rattle.ij_text.specs.Parts.{before, split}
 use Rattle.ij_text.specs.Words.{begins_name, in_name, is_name}
 use Rattle.net_picture.specs.Dot.{edge_style}
@@ -93,23 +95,20 @@ letters_plain (b ∷ bs) h =
     let both = and_parts (in_name b) (list_all in_name bs) h in
     (letter_plain b both.0, letters_plain bs both.1)
 
-or_left : (k l : Bool) → k ≡ true → (k || l) ≡ true
-or_left true l e = refl
-or_left false l e = absurd (cc)
-
 pub name_plain : (name : List ℕ) → is_name name ≡ true → IsPlain name
 name_plain [] h = absurd (cc)
 name_plain (b ∷ bs) h =
     let both = and_parts (begins_name b) (list_all in_name bs) h in
-    (letter_plain b (or_left (begins_name b) _ both.0), letters_plain bs both.1)
+    (letter_plain b (begins (begins_name b) (is_ascii_digit b) both.0), letters_plain bs both.1)
+  where
+    begins : (k l : Bool) → k ≡ true → (k || l) ≡ true
+    begins true l e = refl
+    begins false l e = absurd (cc)
 
 -- ---- parts of texts
 
-same : (n : ℕ) → (n == n) ≡ true
-same n = grind (arith, nat_tests)
-
 pub split_off : (at : ℕ) (xs ys : List ℕ) → Without at xs → split at (xs ++ at ∷ ys) ≡ xs ∷ split at ys
-split_off at [] ys free = ap (λ k. cond k ([] ∷ split at ys) (before at (split at ys))) (same at)
+split_off at [] ys free = ap (λ k. cond k ([] ∷ split at ys) (before at (split at ys))) (number_self at)
 split_off at (x ∷ xs) ys free =
     ap (λ k. cond k ([] ∷ split at (xs ++ at ∷ ys)) (before x (split at (xs ++ at ∷ ys)))) free.0 ∙ ap (before x) (split_off at xs ys free.1)
 
