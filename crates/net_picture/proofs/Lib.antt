@@ -7,3 +7,6 @@ mod Areas
 mod Named
 mod Marking
 mod Lining
+mod Reading
+mod Into
+mod Read

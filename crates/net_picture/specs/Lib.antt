@@ -11,4 +11,6 @@ pub mod Marked
 pub mod Line
 pub mod Svg
 pub mod Dot
+pub mod Edges
+pub mod ReadEdges
 pub mod Examples

@@ -1,7 +1,9 @@
 // What is proved of the definitions.
 ghost use Rattle.net_picture.specs.Apart.{DrawingsAreApart};
+ghost use Rattle.net_picture.specs.Edges.{EdgesAreSources};
 ghost use Rattle.net_picture.specs.Line.{DrawingsAreLines};
 ghost use Rattle.net_picture.specs.Marked.{DrawingsAreMarked};
+ghost use Rattle.net_picture.specs.ReadEdges.{EdgesAreRead};
 ghost use Rattle.net_picture.specs.Whole.{DrawingsAreWhole};
 
 /// What is proved of every drawing: it carries no code, its clauses say what holds of the definitions.
@@ -16,4 +18,14 @@ pub fn picture_laws()
     ensures apart { DrawingsAreApart }
     ensures marked { DrawingsAreMarked }
     ensures line { DrawingsAreLines }
+{}
+
+/// What is proved of every graph: it carries no code, its clauses say what holds of the definitions.
+///
+/// The edges into a register, a multiplexer or scan-out are exactly its scan sources, of a multiplexer in the order of its rows, and its
+/// select bits (IEEE 1687-2014, ICL: `ScanInSource`, `ScanMux`, `SelectedBy`). A reader of the text, which knows of lines and words alone,
+/// finds exactly these edges in it, each once and in their order.
+pub fn graph_laws()
+    ensures sources { EdgesAreSources }
+    ensures read { EdgesAreRead }
 {}

@@ -16,5 +16,5 @@ mod svg;
 mod texts;
 
 pub use dot::put_dot;
-pub use laws::picture_laws;
+pub use laws::{graph_laws, picture_laws};
 pub use svg::put_svg;

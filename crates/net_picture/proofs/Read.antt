@@ -1,0 +1,326 @@
+-- The edges that are read in a graph's text are those of its network.
+use Rattle.std.proofs.Common.{◌≡◌, ℕ, zero, suc, ◌+◌, ◌-◌, ◌<◌, ◌≤◌, ◌^◌, Bool, true, false, List, [], ◌∷◌, ◌++◌, Option, length, take, drop, map, get_or, refl, sym, ap, ◌∙◌, subst, arith, append_assoc, append-nil, decimal, cond}
+use Rattle.std.specs.Prelude.{◌==◌, ◌*◌, All, IsTrue, codes, nat_le}
+use Rattle.std.specs.List.{flat_map, range_with_len}
+use Rattle.std.specs.Option.{option_map}
+use Rattle.std.proofs.lemmas.List.Elements.{All-head, All-nil, All-tail}
+use Rattle.ij_bits.specs.BitLists.{bit}
+use Rattle.ij_bits.specs.Room.{Listed}
+use Rattle.ij_bits.specs.declared.tern.Tern.{Tern}
+use Rattle.ij_text.specs.Words.{is_name}
+use Rattle.net_graph.specs.declared.net.BitId.{BitId}
+use Rattle.net_graph.specs.declared.net.Mux.{Mux as MuxOf}
+use Rattle.net_graph.specs.declared.net.Net.{Net}
+use Rattle.net_graph.specs.declared.net.Node.{Node as NodeOf}
+use Rattle.net_graph.specs.declared.net.Point.{Point}
+use Rattle.net_graph.specs.declared.net.Point.TheVariants.{Entry, Reg, Mux}
+use Rattle.net_graph.specs.declared.net.Reg.{Reg as RegOf}
+use Rattle.net_graph.specs.declared.net.Row.{Row as RowOf}
+use Rattle.net_graph.specs.declared.net.Thing.{Thing}
+use Rattle.net_graph.specs.Named.{IsBitOf, IsPointOf, thing_of, width_of}
+use Rattle.net_graph.specs.Nets.{IsNet, IsMux, IsReg, IsRow, IsThing}
+use Rattle.net_graph.specs.Path.{reg_source, row_of, rows_of}
+use Rattle.net_graph.specs.PathNames.{mux_path, node_names, with_dot}
+use Rattle.net_graph.specs.Signals.{Holds}
+use Rattle.net_graph.proofs.Tracing.{reg_count}
+use Rattle.net_graph.proofs.Widths.{register_there}
+use Rattle.net_list.specs.Drivers.{index_of, register_path}
+use Rattle.net_list.specs.Forms.{items, tern_digit, tern_digits, tern_text}
+use Rattle.net_list.specs.Listing.{lines_from}
+use Rattle.net_tree.specs.Lawful.{selects_of}
+use Rattle.net_picture.specs.Dot.{dot_head, dot_text, edge_style, graph_text, is_marked, is_met, labelled_edge, met, mux_edges, mux_node, node_letters, node_number, node_style, node_text, output_edge, register_edge, register_node, row_line, row_source, select_edge}
+use Rattle.net_picture.specs.Edges.{Node, Tdi, Tdo, Register, Multiplexer, Link, Source, Row, Select, Edge, node_of, edge_to_register, edge_of_row, edge_of_select, edges_to_mux, edge_to_scan_out, edges}
+use Rattle.net_picture.specs.Labels.{ends_of, range_if, range_of, range_text, register_label, row_values, short, short_values}
+use Rattle.net_picture.specs.ReadEdges.{read_edges}
+use Rattle.net_picture.proofs.Reading.{IsPlain, Without, without, plain_both, plain_if, plain_take, plain_drop, decimal_plain, number_again, name_plain, Reads, reads_none, reads_both, IsLine, line_after, IsWord, IsAttribute, reads_edge, reads_node, plain_style, dashed, labelled, by_test}
+
+-- ---- labels
+
+names_plain : (names : List (Listed ℕ)) → All (λ name. IsTrue (is_name name.items)) names → IsPlain (flat_map with_dot names)
+names_plain [] all = tt
+names_plain (name ∷ names) all =
+    plain_both (with_dot name) (flat_map with_dot names)
+    (plain_both name.items (46 ∷ []) (name_plain name.items (All-head (λ (n : Listed ℕ). IsTrue (is_name n.items)) name names all)) (omega arith, tt))
+    (names_plain names (All-tail (λ (n : Listed ℕ). IsTrue (is_name n.items)) name names all))
+
+nodes_plain : (nodes : List NodeOf) (n : ℕ) → All (λ node. All (λ name. IsTrue (is_name name.items)) node.path.items) nodes → IsPlain (flat_map with_dot (get_or (map (λ node. node.path.items) nodes) n []))
+nodes_plain [] n all = tt
+nodes_plain (node ∷ nodes) zero all =
+    names_plain node.path.items (All-head (λ (x : NodeOf). All (λ name. IsTrue (is_name name.items)) x.path.items) node nodes all)
+nodes_plain (node ∷ nodes) (suc n) all =
+    nodes_plain nodes n (All-tail (λ (x : NodeOf). All (λ name. IsTrue (is_name name.items)) x.path.items) node nodes all)
+
+things_plain : (net : Net) (things : List Thing) (t : ℕ) → All (IsThing net) things → IsPlain (get_or (map (λ thing. thing.name.items) things) t [])
+things_plain net [] t all = tt
+things_plain net (thing ∷ things) zero all = name_plain thing.name.items (All-head (IsThing net) thing things all).named
+things_plain net (thing ∷ things) (suc t) all = things_plain net things t (All-tail (IsThing net) thing things all)
+
+mux_names_plain : (net : Net) (muxes : List MuxOf) (m : ℕ) → All (IsMux net) muxes → IsPlain (get_or (map (λ mux. mux.name.items) muxes) m [])
+mux_names_plain net [] m all = tt
+mux_names_plain net (mux ∷ muxes) zero all = name_plain mux.name.items (All-head (IsMux net) mux muxes all).named
+mux_names_plain net (mux ∷ muxes) (suc m) all = mux_names_plain net muxes m (All-tail (IsMux net) mux muxes all)
+
+mux_plain : (net : Net) (m : ℕ) → IsNet net → IsPlain (mux_path net m)
+mux_plain net m n =
+    plain_both (flat_map with_dot (node_names net (get_or (map (λ mux. mux.node) net.muxes.items) m 0))) (get_or (map (λ mux. mux.name.items) net.muxes.items) m [])
+    (nodes_plain net.nodes.items (get_or (map (λ mux. mux.node) net.muxes.items) m 0) n.path_names) (mux_names_plain net net.muxes.items m n.muxes)
+
+path_plain : (net : Net) (r : ℕ) → IsNet net → IsPlain (register_path net r)
+path_plain net r n =
+    let t = thing_of net r in
+    plain_both (flat_map with_dot (node_names net (get_or (map (λ thing. thing.node) net.things.items) t 0))) (get_or (map (λ thing. thing.name.items) net.things.items) t [])
+    (nodes_plain net.nodes.items (get_or (map (λ thing. thing.node) net.things.items) t 0) n.path_names) (things_plain net net.things.items t n.things)
+
+range_plain : (left right : ℕ) → IsPlain (range_of left right)
+unfolding range_of
+range_plain left right =
+    let open_plain : IsPlain (codes "[") = (omega arith, tt) in
+    let colon : IsPlain (codes ":") = (omega arith, tt) in
+    let close : IsPlain (codes "]") = (omega arith, tt) in
+    plain_both (codes "[") (decimal left ++ (codes ":" ++ (decimal right ++ (codes "]" ++ [])))) open_plain
+    (plain_both (decimal left) (codes ":" ++ (decimal right ++ (codes "]" ++ []))) (decimal_plain left)
+    (plain_both (codes ":") (decimal right ++ (codes "]" ++ [])) colon (plain_both (decimal right) (codes "]" ++ []) (decimal_plain right) close)))
+
+label_plain : (net : Net) (r : ℕ) → IsNet net → IsPlain (register_label net r)
+label_plain net r n =
+    plain_both (register_path net r) (range_if net r) (path_plain net r n)
+    (plain_if (width_of net r == 1) [] (range_text net r) tt (range_plain (index_of net (record { reg = r; pos = width_of net r - 1 })) (index_of net (record { reg = r; pos = 0 }))))
+
+digit_plain : (t : Tern) (p : ℕ) → 34 < tern_digit t p
+digit_plain t p = cases (bit t.care.items p) (bit t.value.items p)
+  where
+    cases : (care value : Bool) → 34 < cond care (cond value 49 48) 120
+    cases true true = omega arith
+    cases true false = omega arith
+    cases false value = omega arith
+
+digits_plain : (t : Tern) (n : ℕ) → IsPlain (tern_digits t n)
+digits_plain t zero = tt
+digits_plain t (suc n) = (digit_plain t n, digits_plain t n)
+
+values_plain : (before : List ℕ) (ts : List Tern) → IsPlain before → IsPlain (items tern_text (codes "|") before ts)
+values_plain before [] plain = tt
+values_plain before (t ∷ ts) plain =
+    plain_both before (tern_text t ++ items tern_text (codes "|") (codes "|") ts) plain
+    (plain_both (tern_text t) (items tern_text (codes "|") (codes "|") ts) (digits_plain t (length t.value.items)) (values_plain (codes "|") ts (omega arith, tt)))
+
+row_plain : (rows : List RowOf) (q : ℕ) → IsPlain (row_values rows q)
+row_plain [] q = tt
+row_plain (row ∷ rows) zero = values_plain [] row.values.items tt
+row_plain (row ∷ rows) (suc q) = row_plain rows q
+
+short_plain : (h : ℕ) (text : List ℕ) → IsPlain text → IsPlain (short h text)
+unfolding ends_of
+short_plain h text plain =
+    let back = drop (length text - h) text in
+    let dots : IsPlain (codes "..") = (omega arith, (omega arith, tt)) in
+    let back_plain : IsPlain (back ++ []) = plain_both back [] (plain_drop (length text - h) text plain) tt in
+    plain_if (nat_le (length text) (2 * h + 2)) text (ends_of (take h text) back) plain
+    (plain_both (take h text) (codes ".." ++ (back ++ [])) (plain_take h text plain) (plain_both (codes "..") (back ++ []) dots back_plain))
+
+-- ---- points
+
+small : (r n : ℕ) → r < n → n ≤ 4096 → r < 2 ^ 64
+small r n less few = omega (arith, less, few)
+
+register_word : (net : Net) (r : ℕ) → IsNet net → r < length net.regs.items → IsWord 114 (decimal r) (Register r)
+register_word net r n less = record {
+  no_feed = (refl, without 10 (decimal r) (omega arith) (decimal_plain r));
+  no_blank = (refl, without 32 (decimal r) (omega arith) (decimal_plain r));
+  named = ap (λ (o : Option ℕ). option_map Register o) (number_again r (small r (length net.regs.items) less (reg_count net n)));
+}
+
+mux_word : (net : Net) (m : ℕ) → IsNet net → m < length net.muxes.items → IsWord 109 (decimal m) (Multiplexer m)
+mux_word net m n less = record {
+  no_feed = (refl, without 10 (decimal m) (omega arith) (decimal_plain m));
+  no_blank = (refl, without 32 (decimal m) (omega arith) (decimal_plain m));
+  named = ap (λ (o : Option ℕ). option_map Multiplexer o) (number_again m (small m (length net.muxes.items) less (omega (arith, n.few_muxes))));
+}
+
+tdi_word : IsWord 116 (codes "di") Tdi
+tdi_word = record { no_feed = by_test 10 (codes "tdi") refl; no_blank = by_test 32 (codes "tdi") refl; named = refl }
+
+tdo_word : IsWord 116 (codes "do") Tdo
+tdo_word = record { no_feed = by_test 10 (codes "tdo") refl; no_blank = by_test 32 (codes "tdo") refl; named = refl }
+
+module _ (net : Net) (n : IsNet net) where
+  from_point : (p : Point) → IsPointOf net p → (b : ℕ) (ys text : List ℕ) (to : Node) (link : Link) → IsWord b ys to → IsAttribute text link
+      → Reads (codes "  " ++ (node_letters p ++ (node_number p ++ (32 ∷ 45 ∷ 62 ∷ 32 ∷ b ∷ (ys ++ 32 ∷ 91 ∷ text))))) (record { from = node_of p; to = to; link = link } ∷ [])
+  from_point Entry there b ys text to link t a =
+      reads_edge 116 b (codes "di") ys text a.rest a.first a.others Tdi to link tdi_word t a.ended a.words_are a.says
+  from_point (Reg r) there b ys text to link t a =
+      reads_edge 114 b (decimal r) ys text a.rest a.first a.others (Register r) to link (register_word net r n there) t a.ended a.words_are a.says
+  from_point (Mux m) there b ys text to link t a =
+      reads_edge 109 b (decimal m) ys text a.rest a.first a.others (Multiplexer m) to link (mux_word net m n there) t a.ended a.words_are a.says
+
+  sources_there : (regs : List RegOf) (r : ℕ) → All (IsReg net) regs → IsPointOf net (get_or (map (λ reg. reg.from) regs) r Entry)
+  sources_there [] r all = tt
+  sources_there (reg ∷ regs) zero all = (All-head (IsReg net) reg regs all).source
+  sources_there (reg ∷ regs) (suc r) all = sources_there regs r (All-tail (IsReg net) reg regs all)
+
+  rows_there : (width : ℕ) (rows : List RowOf) (q : ℕ) → All (IsRow net width) rows → IsPointOf net (get_or (map (λ row. row.from) rows) q Entry)
+  rows_there width [] q all = tt
+  rows_there width (row ∷ rows) zero all = (All-head (IsRow net width) row rows all).source
+  rows_there width (row ∷ rows) (suc q) all = rows_there width rows q (All-tail (IsRow net width) row rows all)
+
+  muxes_there : (muxes : List MuxOf) (m q : ℕ) → All (IsMux net) muxes → IsPointOf net (get_or (map (λ row. row.from) (get_or (map (λ mux. mux.rows.items) muxes) m [])) q Entry)
+  muxes_there [] m q all = tt
+  muxes_there (mux ∷ muxes) zero q all = rows_there (length mux.select.items) mux.rows.items q (All-head (IsMux net) mux muxes all).rows
+  muxes_there (mux ∷ muxes) (suc m) q all = muxes_there muxes m q (All-tail (IsMux net) mux muxes all)
+
+  selects_there : (muxes : List MuxOf) (m : ℕ) → All (IsMux net) muxes → All (IsBitOf net) (get_or (map (λ mux. mux.select.items) muxes) m [])
+  selects_there [] m all = All-nil (IsBitOf net)
+  selects_there (mux ∷ muxes) zero all = (All-head (IsMux net) mux muxes all).select
+  selects_there (mux ∷ muxes) (suc m) all = selects_there muxes m (All-tail (IsMux net) mux muxes all)
+
+  -- ---- lines
+
+  read_register_edge : (points : List Point) (r : ℕ) → r < length net.regs.items → Reads (register_edge net points r) (edge_to_register net r ∷ [])
+  unfolding register_edge
+  read_register_edge points r less =
+      let style = edge_style (is_met points (Reg r)) ++ (codes "];\n" ++ []) in
+      from_point (reg_source net r) (sources_there net.regs.items r n.regs) 114 (decimal r) style (Register r) Source (register_word net r n less) (plain_style (is_met points (Reg r)))
+
+  read_labelled_edge : (p : Point) → IsPointOf net p → (m : ℕ) → m < length net.muxes.items → (values : List ℕ) (active : Bool) → IsPlain values
+      → Reads (labelled_edge (node_letters p) (node_number p) m values (edge_style active)) (record { from = node_of p; to = Multiplexer m; link = Row values } ∷ [])
+  unfolding labelled_edge
+  read_labelled_edge p there m less values active plain =
+      let text = codes "label=\"" ++ (values ++ (codes "\", " ++ (edge_style active ++ (codes "];\n" ++ [])))) in
+      from_point p there 109 (decimal m) text (Multiplexer m) (Row values) (mux_word net m n less) (labelled values active plain)
+
+  read_row_line : (active : Bool) (selected : Option ℕ) (m q : ℕ) → m < length net.muxes.items → Reads (row_line net active selected m q) (edge_of_row net m q ∷ [])
+  read_row_line active selected m q less =
+      read_labelled_edge (row_source net m q) (muxes_there net.muxes.items m q n.muxes) m less (short_values net m q) _ (short_plain 7 (row_values (rows_of net m) q) (row_plain (rows_of net m) q))
+
+  read_select_edge : (m : ℕ) (b : BitId) → m < length net.muxes.items → IsBitOf net b → Reads (select_edge m b) (edge_of_select m b ∷ [])
+  unfolding select_edge
+  read_select_edge m b less there =
+      let text = codes "style=dashed, color=\"#868e96\", constraint=false];\n" ++ [] in
+      from_point (Reg b.reg) (register_there net b there) 109 (decimal m) text (Multiplexer m) Select (mux_word net m n less) dashed
+
+  -- the last edge has the end of the text after it
+  read_output : (p : Point) → IsPointOf net p → Reads (codes "  " ++ (node_letters p ++ (node_number p ++ (codes " -> tdo [" ++ (edge_style true ++ (codes "];\n}\n" ++ [])))))) (record { from = node_of p; to = Tdo; link = Source } ∷ [])
+  read_output p there = cases p there
+    where
+      text : List ℕ
+      text = edge_style true ++ (codes "];\n" ++ [])
+
+      last : Reads (codes "}\n") []
+      last = λ rest. refl
+
+      tail : List ℕ
+      tail = 32 ∷ 45 ∷ 62 ∷ 32 ∷ 116 ∷ (codes "do" ++ 32 ∷ 91 ∷ text)
+
+      edge : Node → Edge
+      edge from = record { from = from; to = Tdo; link = Source }
+
+      -- letters and digits before it
+      numbered : (letter : ℕ) (digits : List ℕ) (from : Node) → Reads (32 ∷ 32 ∷ letter ∷ (digits ++ tail)) (edge from ∷ [])
+          → Reads (32 ∷ 32 ∷ letter ∷ (digits ++ (tail ++ codes "}\n"))) (edge from ∷ [])
+      numbered letter digits from reads =
+          subst (λ (t : List ℕ). Reads (32 ∷ 32 ∷ letter ∷ t) (edge from ∷ [])) (append_assoc digits tail (codes "}\n"))
+          (reads_both (32 ∷ 32 ∷ letter ∷ (digits ++ tail)) (codes "}\n") (edge from ∷ []) [] reads last)
+
+      cases : (p : Point) → IsPointOf net p → Reads (codes "  " ++ (node_letters p ++ (node_number p ++ (codes " -> tdo [" ++ (edge_style true ++ (codes "];\n}\n" ++ [])))))) (edge (node_of p) ∷ [])
+      cases Entry there = numbered 116 (codes "di") Tdi (from_point Entry there 116 (codes "do") text Tdo Source tdo_word (plain_style true))
+      cases (Reg r) there = numbered 114 (decimal r) (Register r) (from_point (Reg r) there 116 (codes "do") text Tdo Source tdo_word (plain_style true))
+      cases (Mux m) there = numbered 109 (decimal m) (Multiplexer m) (from_point (Mux m) there 116 (codes "do") text Tdo Source tdo_word (plain_style true))
+
+  read_output_edge : Reads (output_edge net) (edge_to_scan_out net ∷ [])
+  unfolding output_edge
+  read_output_edge = read_output net.out n.output
+
+  -- ---- nodes
+
+  style_line : (marked active : Bool) → IsLine (node_style marked active ++ (codes "];\n" ++ [])) (node_style marked active ++ codes "];")
+  style_line true active = record { ended = refl; free = by_test 10 (node_style true active ++ codes "];") refl }
+  style_line false true = record { ended = refl; free = by_test 10 (node_style false true ++ codes "];") refl }
+  style_line false false = record { ended = refl; free = by_test 10 (codes "];") refl }
+
+  read_node : (letter k : ℕ) (label form : List ℕ) (marked active : Bool) → (letter == 10) ≡ false → (letter == 32) ≡ false → IsPlain label → Without 10 form
+      → Reads (node_text (32 ∷ 32 ∷ letter ∷ []) k label form (node_style marked active)) []
+  unfolding node_text
+  read_node letter k label form marked active feed blank plain free =
+      let style = node_style marked active in
+      let s = style_line marked active in
+      let rest = codes "label=\"" ++ (label ++ (form ++ (style ++ codes "];"))) in
+      reads_node letter (decimal k) (codes "label=\"" ++ (label ++ (form ++ (style ++ (codes "];\n" ++ []))))) rest
+      (feed, without 10 (decimal k) (omega arith) (decimal_plain k)) (blank, without 32 (decimal k) (omega arith) (decimal_plain k))
+      (line_after (codes "label=\"") (label ++ (form ++ (style ++ (codes "];\n" ++ [])))) (label ++ (form ++ (style ++ codes "];"))) (by_test 10 (codes "label=\"") refl)
+      (line_after label (form ++ (style ++ (codes "];\n" ++ []))) (form ++ (style ++ codes "];")) (without 10 label (omega arith) plain)
+      (line_after form (style ++ (codes "];\n" ++ [])) (style ++ codes "];") free s)))
+
+  read_register_node : (marked : Option Point) (points : List Point) (r : ℕ) → Reads (register_node net marked points r) []
+  read_register_node marked points r =
+      read_node 114 r (register_label net r) (codes "\"") (is_marked marked (Reg r)) (is_met points (Reg r)) refl refl (label_plain net r n) (by_test 10 (codes "\"") refl)
+
+  read_mux_node : (marked : Option Point) (points : List Point) (m : ℕ) → Reads (mux_node net marked points m) []
+  read_mux_node marked points m =
+      read_node 109 m (mux_path net m) (codes "\", shape=trapezium, orientation=270") (is_marked marked (Mux m)) (is_met points (Mux m)) refl refl (mux_plain net m n) (by_test 10 (codes "\", shape=trapezium, orientation=270") refl)
+
+  -- ---- many lines
+
+  read_lines : (line : ℕ → List ℕ) (found : ℕ → List Edge) (i k : ℕ) → ((j : ℕ) → j < i + k → Reads (line j) (found j)) → Reads (lines_from line i k) (flat_map found (range_with_len i k))
+  read_lines line found i zero each = reads_none
+  read_lines line found i (suc k) each =
+      let next : suc i ≡ i + 1 = omega arith in
+      let rest : Reads (lines_from line (suc i) k) (flat_map found (range_with_len (suc i) k)) = read_lines line found (suc i) k (λ j less. each j (omega (arith, less))) in
+      reads_both (line i) (lines_from line (suc i) k) (found i) (flat_map found (range_with_len (i + 1) k)) (each i (omega arith))
+      (subst (λ (at : ℕ). Reads (lines_from line (suc i) k) (flat_map found (range_with_len at k))) next rest)
+
+  one_each : {T : Type 0} (f : T → Edge) (xs : List T) → flat_map (λ x. f x ∷ []) xs ≡ map f xs
+  one_each f [] = refl
+  one_each f (x ∷ xs) = ap (λ (es : List Edge). f x ∷ es) (one_each f xs)
+
+  abbrev none : ℕ → List Edge
+  none j = []
+
+  none_each : (xs : List ℕ) → flat_map none xs ≡ []
+  none_each [] = refl
+  none_each (x ∷ xs) = none_each xs
+
+  read_selects : (m : ℕ) (bits : List BitId) → m < length net.muxes.items → All (IsBitOf net) bits → Reads (flat_map (select_edge m) bits) (map (edge_of_select m) bits)
+  read_selects m [] less all = reads_none
+  read_selects m (b ∷ bits) less all =
+      reads_both (select_edge m b) (flat_map (select_edge m) bits) (edge_of_select m b ∷ []) (map (edge_of_select m) bits)
+      (read_select_edge m b less (All-head (IsBitOf net) b bits all)) (read_selects m bits less (All-tail (IsBitOf net) b bits all))
+
+  read_mux_edges : (holds : Holds) (points : List Point) (m : ℕ) → m < length net.muxes.items → Reads (mux_edges net holds points m) (edges_to_mux net m)
+  read_mux_edges holds points m less =
+      let active = is_met points (Mux m) in
+      let selected = row_of net holds m in
+      let count = length (rows_of net m) in
+      reads_both (lines_from (row_line net active selected m) 0 count) (flat_map (select_edge m) (selects_of net m)) (map (edge_of_row net m) (range_with_len 0 count)) (map (edge_of_select m) (selects_of net m))
+      (subst (Reads (lines_from (row_line net active selected m) 0 count)) (one_each (edge_of_row net m) (range_with_len 0 count))
+      (read_lines (row_line net active selected m) (λ q. edge_of_row net m q ∷ []) 0 count (λ q below. read_row_line active selected m q less)))
+      (read_selects m (selects_of net m) less (selects_there net.muxes.items m n.muxes))
+
+  read_head : Reads dot_head []
+  unfolding dot_head
+  read_head = λ rest. refl
+
+  read_graph : (holds : Holds) (marked : Option Point) (points : List Point) → Reads (graph_text net holds marked points) (edges net)
+  read_graph holds marked points =
+      let regs = length net.regs.items in
+      let muxes = length net.muxes.items in
+      let nodes = lines_from (register_node net marked points) 0 regs in
+      let funnels = lines_from (mux_node net marked points) 0 muxes in
+      let to_regs = lines_from (register_edge net points) 0 regs in
+      let to_muxes = lines_from (mux_edges net holds points) 0 muxes in
+      let one = map (edge_to_register net) (range_with_len 0 regs) in
+      let two = flat_map (edges_to_mux net) (range_with_len 0 muxes) in
+      let three = edge_to_scan_out net ∷ [] in
+      reads_both dot_head (nodes ++ (funnels ++ (to_regs ++ (to_muxes ++ output_edge net)))) [] (one ++ (two ++ three)) read_head
+      (reads_both nodes (funnels ++ (to_regs ++ (to_muxes ++ output_edge net))) [] (one ++ (two ++ three))
+      (subst (Reads nodes) (none_each (range_with_len 0 regs)) (read_lines (register_node net marked points) none 0 regs (λ r below. read_register_node marked points r)))
+      (reads_both funnels (to_regs ++ (to_muxes ++ output_edge net)) [] (one ++ (two ++ three))
+      (subst (Reads funnels) (none_each (range_with_len 0 muxes)) (read_lines (mux_node net marked points) none 0 muxes (λ m below. read_mux_node marked points m)))
+      (reads_both to_regs (to_muxes ++ output_edge net) one (two ++ three)
+      (subst (Reads to_regs) (one_each (edge_to_register net) (range_with_len 0 regs)) (read_lines (register_edge net points) (λ r. edge_to_register net r ∷ []) 0 regs (λ r below. read_register_edge points r (omega (arith, below)))))
+      (reads_both to_muxes (output_edge net) two three
+      (read_lines (mux_edges net holds points) (edges_to_mux net) 0 muxes (λ m below. read_mux_edges holds points m (omega (arith, below))))
+      read_output_edge))))
+
+pub edges_read : (net : Net) (holds : Holds) (marked : Option Point) → IsNet net → read_edges (dot_text net holds marked) ≡ edges net
+edges_read net holds marked n =
+    ap read_edges (sym (append-nil (dot_text net holds marked))) ∙ read_graph net n holds marked (met net holds) [] ∙ append-nil (edges net)
