@@ -2,35 +2,23 @@
 use crate::checks::{check_text, show_bytes};
 use ij_bits::Tern;
 use ij_io::SureSink;
-use ij_text::{FitFault, Name, Names, Number, NumberFault, Place, fit, name_of, read_number};
+use ij_text::{FitFault, Names, Number, NumberFault, Place, fit, name_of, read_number};
 use std::alloc::Global;
-
-/// The numbers of two names: of the first one before it is known; of each when it is made known, the first one twice; and of the
-/// second one in the end.
-fn numbers(names: &mut Names, a: &Name, b: &Name) -> [Option<u32>; 5] {
-    [
-        names.find(a),
-        names.intern(a).ok(),
-        names.intern(b).ok(),
-        names.intern(a).ok(),
-        names.find(b),
-    ]
-}
-
-/// Whether so many names are known, and the second one is this.
-fn are_named(names: &Names, count: u32, second: &[u8]) -> bool {
-    names.len() == count && count > 1 && names.name(1).as_slice() == second
-}
+use std::test::Fail;
 
 #[test]
-fn a_known_name_keeps_its_number(rt: HostRuntime) {
+fn a_known_name_keeps_its_number(rt: HostRuntime) -> Result<(), Fail> {
     let alloc = rt.alloc();
-    let a = name_of(alloc, b"SI").expect(&rt, "a name");
-    let b = name_of(alloc, b"chip").expect(&rt, "a name");
     let mut names = Names::new(alloc);
-    let wanted = [None, Some(0), Some(1), Some(0), Some(1)];
-    assert_eq!(rt; numbers(&mut names, &a, &b), wanted);
-    assert!(rt; are_named(&names, 2, b"chip"));
+    let (a, b) = (name_of(alloc, b"SI")?, name_of(alloc, b"chip")?);
+    assert_eq!(rt; names.find(&a), None);
+    assert_eq!(rt; names.intern(&a)?, 0);
+    assert_eq!(rt; names.intern(&b)?, 1);
+    assert_eq!(rt; names.intern(&a)?, 0);
+    assert_eq!(rt; names.find(&b), Some(1));
+    assert_eq!(rt; names.len(), 2);
+    assert_eq!(rt; names.name(1).as_slice(), b"chip".as_slice());
+    Ok(())
 }
 
 /// The bits of a number, position 0 first, as digits.
