@@ -27,10 +27,14 @@ fn is_same_output(a: Sig, b: Sig) -> bool
     match (a, b) {
         (
             Sig::Out {
-                inst: i, port: p, ..
+                inst: i,
+                port: p,
+                ..
             },
             Sig::Out {
-                inst: j, port: q, ..
+                inst: j,
+                port: q,
+                ..
             },
         ) => i == j && p == q,
         _ => false,
