@@ -1,4 +1,4 @@
-use Rattle.std.proofs.Common.{◌≡◌, ◌-◌, ◌+◌, ℕ, suc, List, ◌++◌, Some, length, arith, subst, sym, ap, ◌∙◌}
+use Rattle.std.proofs.Common.{◌≡◌, ◌-◌, ◌+◌, ℕ, suc, List, ◌++◌, Some, length, arith, subst, ap, ◌∙◌}
 use Rattle.ij_io.proofs.Fronts.{AddsFront, front_next}
 use Rattle.net_picture.specs.Captures.{capture_at, captures}
 use Rattle.net_picture.proofs.captures.put_signals.Goals as goal
