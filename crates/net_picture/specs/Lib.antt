@@ -9,6 +9,7 @@ pub mod Whole
 pub mod Apart
 pub mod Marked
 pub mod Line
+pub mod Captures
 pub mod Svg
 pub mod Dot
 pub mod Edges

@@ -11,13 +11,15 @@ use Rattle.net_list.specs.Lines.{reset_text, rows_text, selected_by, selects_of_
 use Rattle.net_picture.specs.declared.drawing.View.{View}
 use Rattle.net_picture.specs.declared.shape.Shape.{Shape}
 use Rattle.net_picture.specs.declared.shape.Shape.TheVariants.{Register, Mux, Values, Wire}
+use Rattle.net_picture.specs.Captures.{captures_text}
 use Rattle.net_picture.specs.Drawing.{Drawing, drawing_of}
 use Rattle.net_picture.specs.Labels.{register_label, short_mux, short_register, short_values}
 
--- a register's tooltip: its path, bits and reset value, and the multiplexers in which it selects
+-- a register's tooltip: its path, bits and reset value, the multiplexers in which it selects, and the outputs of instruments that
+-- it captures
 abbrev pub register_title : Net → ℕ → List ℕ
 register_title net r =
-    register_label net r ++ (width_text Text net r ++ (codes " reset " ++ (reset_text net r ++ selects_text Text net r)))
+    register_label net r ++ (width_text Text net r ++ (codes " reset " ++ (reset_text net r ++ (selects_text Text net r ++ captures_text net r))))
 
 -- a multiplexer's tooltip: its path, what selects, and its rows
 abbrev pub mux_title : Net → ℕ → List ℕ

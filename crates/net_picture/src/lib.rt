@@ -1,6 +1,7 @@
 //! The drawing of a scan network, with the active path of a state.
 #![tactic(auto)]
 
+mod captures;
 mod dot;
 mod draw;
 mod drawing;

@@ -387,8 +387,8 @@ fn put_drawing<K: Sink>(
 /// with their rows one below the other, wires from TDI to TDO, and the active path of the state in colour (IEEE 1687-2014: active scan
 /// path). A box is round at its ends where its register selects.
 ///
-/// Tooltips (`<title>`) have paths, bits, reset values (the left bit first, an x where it has none), select bits and select values; labels
-/// are cut in the middle where they are long. A list of items is broken into lines where it is long. Where a multiplexer on the way is in
+/// Tooltips (`<title>`) have paths, bits, reset values (the left bit first, an x where it has none), select bits and select values, and
+/// the outputs of instruments that a register captures (`CaptureSource`); labels are cut in the middle where they are long. A list of items is broken into lines where it is long. Where a multiplexer on the way is in
 /// none of its rows, no row of it is in colour.
 ///
 /// # Errors

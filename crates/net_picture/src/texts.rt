@@ -5,6 +5,7 @@ ghost use Rattle.net_list.specs.Lines.{selected_by};
 ghost use Rattle.net_picture.specs.Labels as labels;
 ghost use Rattle.net_picture.specs.Svg as svg;
 
+use crate::captures::put_captures;
 use crate::labels::{mux_label, put_register_label, put_short, register_label, row_label};
 use ij_bits::OutOfMemory;
 use ij_io::{Sink, StoreFault, SureSink};
@@ -86,6 +87,7 @@ fn register_title_of(
     text.write(b" reset ")?;
     put_reset(net, reg, &mut text)?;
     put_selected(ListFormat::Text, net, reg, muxes, &mut text)?;
+    put_captures(net, reg, &mut text)?;
     Ok(text)
 }
 
