@@ -19,7 +19,8 @@ use Rattle.net_bench.specs.Instruction.{Selected, Network, Identity, Bypass}
 use Rattle.tap_machine.specs.declared.TapState.{TapState}
 use Rattle.tap_machine.specs.declared.TapState.TheVariants.{TestLogicReset, RunTestIdle, SelectDrScan, CaptureDr, ShiftDr, Exit1Dr, PauseDr, Exit2Dr, UpdateDr, SelectIrScan, CaptureIr, ShiftIr, Exit1Ir, PauseIr, Exit2Ir, UpdateIr}
 use Rattle.tap_machine.specs.Tap.{next}
-use Rattle.net_wave.specs.Left.{shifts_in}
+use Rattle.std.specs.Prelude.{◌&&◌}
+use Rattle.net_wave.specs.Changes.{shifts_in}
 
 length_shift : (bits : List Bool) (tdi : Bool) → length (shift bits tdi) ≡ length bits
 length_shift [] tdi = refl
@@ -128,3 +129,11 @@ module _ (net : Net) (device : Device) (machines : List Machine) (is : IsNet net
       ∙ ap (λ (x : Holds). cond (shifts_in s.tap) (put_chain (route_of net t.holds) (chain (route_of net t.holds) t.stages) x) x) same
       ∙ kept.1 in
       (subst (λ (x : Holds). AreHolds net x) (sym all) kept.0, all)
+
+  -- the same where they are kept at all
+  pub kept_beside : (tms tdi : Bool) (s t : State Counts) (b : Net) (kept k : Bool) (old new : Holds) → t ≡ clock chip tms tdi s → b ≡ net → k ≡ shifts_in s.tap → (kept ≡ true → old ≡ s.stages) → AreHolds net old
+      → new ≡ cond (kept && k) (put_chain (route_of b t.holds) (chain (route_of b t.holds) t.stages) old) old → AreHolds net new × (kept ≡ true → new ≡ t.stages)
+  kept_beside tms tdi s t b true k old new e n shifts same h is =
+      let all = stepped tms tdi s t b k old new e n shifts (same refl) h is in (all.0, λ _. all.1)
+  kept_beside tms tdi s t b false k old new e n shifts same h is =
+      (subst (λ (x : Holds). AreHolds net x) (sym is) h, λ never. absurd (cc))
