@@ -189,7 +189,7 @@ module _ (p q : Playing) (same : q ≡ record p { told = q.told; scratch = q.scr
         let base : WasTold c models p.vars.items (told_of q.told.items) q.last b.state =
         record {
           before = s;
-          told = is ∙ ap (λ (l : Shown). values c models p.vars.items l.pins s) (sym last);
+          all = is ∙ ap (λ (l : Shown). values c models p.vars.items l.pins s) (sym last);
           shown = last ∙ ap (λ (l : Shown). shown_at c l.pins s) (sym last);
           next = ap (λ (y : SeenBench). y.state) further ∙ ap (λ (l : Shown). clock c l.pins.tms l.pins.tdi s) (sym last);
         } in

@@ -22,6 +22,10 @@ told_both : (n : ℕ) (d : List ℕ) (xs ys : List Change) → last_told n d (xs
 told_both n d [] ys = refl
 told_both n d (x ∷ xs) ys = told_both n (cond (x.number == n) x.digits d) xs ys
 
+-- TCK is another variable
+pub tck_is_other : (i : ℕ) → (0 == suc i) ≡ false
+tck_is_other i = grind (arith, nat_tests)
+
 module _ (first : Bool) (before now : List (List ℕ)) (i : ℕ) where
   abbrev here : List Change
   here = change_at first before now i
@@ -71,16 +75,15 @@ module _ (first : Bool) (before now : List (List ℕ)) (i : ℕ) where
       ∙ ap (λ x. last_told (suc i) x (change_at first before now m)) (told_from k m d known refl)
       ∙ others (get_or now i []) m other
 
-  told_all : (d : List ℕ) → (first ≡ false → d ≡ get_or before i []) → i < length now → last_told (suc i) d (changes first before now) ≡ get_or now i []
+  pub told_all : (d : List ℕ) → (first ≡ false → d ≡ get_or before i []) → i < length now → last_told (suc i) d (changes first before now) ≡ get_or now i []
   told_all d known h = told_from (length now - suc i) (length now) d known (omega (arith, h))
 
 module _ (chip : Chip Counts) (models : List SeenModel) (vars : List Var) (i : ℕ) (within : i < length vars) where
   abbrev told : List ℕ → List Moment → List ℕ
   told d ms = last_told (suc i) d (flat_map (λ m. m.changes) ms)
 
-  -- TCK is another variable
   tck : (0 == suc i) ≡ false
-  tck = grind (arith, nat_tests)
+  tck = tck_is_other i
 
   -- the moment at which a clock begins tells the value of the clock
   fallen : (first : Bool) (k : ℕ) (before : List (List ℕ)) (p : Pins) (s : State Counts) (d : List ℕ) (later : List Moment) → (first ≡ false → d ≡ get_or before i [])

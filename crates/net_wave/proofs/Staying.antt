@@ -231,7 +231,7 @@ module _ (chip : Chip Counts) where
       let b = was.before in
       let one : may_change (shown_at chip q b) (shown_at chip p s) v ≡ false = subst (λ (x : Shown). may_change x (shown_at chip p s) v ≡ false) was.shown e in
       let two : may_change (shown_at chip q b) (shown_at chip p (clock chip q.tms q.tdi b)) v ≡ false = subst (λ (x : State Counts). may_change (shown_at chip q b) (shown_at chip p x) v ≡ false) was.next one in
-      ap (λ (l : List (List ℕ)). get_or l k []) was.told
+      ap (λ (l : List (List ℕ)). get_or l k []) was.all
       ∙ get_or-map (λ (x : Var). value chip models x q b) vars k d [] h
       ∙ sym (value_stays models q p b v two)
       ∙ ap (λ (x : State Counts). value chip models v p x) (sym was.next)

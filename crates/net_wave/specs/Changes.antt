@@ -74,6 +74,6 @@ Stay before now vars place = (k : ℕ) → place ≤ k → k < length vars → m
 -- what was told are the values of the clock before, which began in a state with these pins
 pub record WasTold (chip : Chip Counts) (models : List SeenModel) (vars : List Var) (told : List (List ℕ)) (last : Shown) (s : State Counts) : Type 0 where
   pub before : State Counts
-  pub told : told ≡ values chip models vars last.pins before
+  pub all : told ≡ values chip models vars last.pins before
   pub shown : last ≡ shown_at chip last.pins before
   pub next : s ≡ clock chip last.pins.tms last.pins.tdi before

@@ -6,5 +6,6 @@ pub mod Moments
 pub mod Wave
 pub mod Changes
 pub mod Left
+pub mod Reader
 pub mod Laws
 pub mod Whole

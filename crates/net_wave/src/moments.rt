@@ -11,7 +11,7 @@ ghost use Rattle.net_wave.specs.Vars.{IsVar};
 
 use crate::codes::add_code;
 use crate::digits::add_value_text;
-use crate::scene::Scene;
+use crate::scene::{Scene, shown};
 use crate::shown::{Shown, may_change};
 use crate::texts::{add, add_words};
 use crate::var::Var;
@@ -108,7 +108,7 @@ pub(crate) fn add_changes(
     ensures told { OnOk result (told_of told.new.items ≡ values.values (chip_of scene.now.bench.now) (map seen_model scene.now.models.now.items) vars.now scene.now.pins scene.now.bench.now.state) }
     ensures text { OnOk result (piece.new ≡ piece.old ++ flat_map moments.change_text (moments.changes first (told_of told.old.items) (values.values (chip_of scene.now.bench.now) (map seen_model scene.now.models.now.items) vars.now scene.now.pins scene.now.bench.now.state))) }
 {
-    let now = scene.shown();
+    let now = shown(scene.bench, scene.pins);
     for i in 0..place {
         let changes = may_change(last, &now, vars[i]);
         add_var(

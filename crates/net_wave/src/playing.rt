@@ -18,7 +18,7 @@ ghost use Rattle.tap_machine.specs.declared.Stable.TheVariants.{Reset as InReset
 ghost use Rattle.tap_machine.specs.Play.{pins, scans_in};
 
 use crate::moments::{add_falling, add_rising};
-use crate::scene::Scene;
+use crate::scene::{Scene, shown};
 use crate::shown::{Shown, after_pins, has_shifts, looked_at, shifts_in};
 use crate::var::{Var, Window};
 use ij_bits::{List, OutOfMemory};
@@ -197,6 +197,10 @@ impl<'a> Playing<'a> {
         ensures told { OnOk result (left.told_of self.new.told.items ≡ left.values_at self.old pins) }
         ensures text { OnOk result (piece.new ≡ piece.old ++ left.falling_text self.old pins) }
     {
+        let now = shown(&self.bench, pins);
+        let place = self.place(&now);
+        let last = self.last;
+        self.last = now;
         let scene = Scene {
             net: self.net,
             models: self.models,
@@ -205,10 +209,6 @@ impl<'a> Playing<'a> {
             shifts: self.shifts,
             pins,
         };
-        let now = scene.shown();
-        let place = self.place(&now);
-        let last = self.last;
-        self.last = now;
         add_falling(
             &scene,
             self.vars.as_slice(),

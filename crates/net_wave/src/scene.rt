@@ -30,6 +30,17 @@ pub(crate) struct Scene<'s, 'a> {
     pub pins: Pins,
 }
 
+/// What a clock of a bench with some pins shows at the pins.
+pub(crate) fn shown(bench: &Bench, pins: Pins) -> Shown
+    ensures { result ≡ shown_at (chip_of bench.now) pins bench.now.state }
+{
+    Shown {
+        pins,
+        tdo: bench.tdo(),
+        tap: bench.tap(),
+    }
+}
+
 /// Whether a register is among some.
 fn is_in(registers: &[u32], reg: u32) -> bool
     ensures { result ≡ paths.is_in registers.now reg }
@@ -54,17 +65,6 @@ fn add_row(width: u32, row: Option<u32>, into: &mut List<u8>) -> Result<(), OutO
 }
 
 impl<'s, 'a> Scene<'s, 'a> {
-    /// What stands at the pins.
-    pub(crate) fn shown(&self) -> Shown
-        ensures { result ≡ shown_at (chip_of self.now.bench.now) self.now.pins self.now.bench.now.state }
-    {
-        Shown {
-            pins: self.pins,
-            tdo: self.bench.tdo(),
-            tap: self.bench.tap(),
-        }
-    }
-
     /// Adds the digits of an input of an instrument.
     fn add_input(&self, inst: u32, port: u32, into: &mut List<u8>) -> Result<(), OutOfMemory>
         requires scene { IsScene self.now }

@@ -1,5 +1,5 @@
 // What may change from one clock to the next.
-ghost use Rattle.std.specs.Prelude.{◌≡◌, ◌<◌, ◌≤◌, ℕ, false, get_or, length};
+ghost use Rattle.std.specs.Prelude.{◌≡◌, ◌+◌, ◌<◌, ◌≤◌, ℕ, cond, false, get_or, length};
 ghost use Rattle.std.specs.List.{list_any};
 ghost use Rattle.net_wave.specs.Changes as changes;
 ghost use Rattle.net_wave.specs.Header.{is_pin};
@@ -102,6 +102,14 @@ fn is_shift(var: Var) -> bool
     }
 }
 
+/// The place after a variable if that is a pin, and the earlier one if not.
+fn place_after(var: Var, i: usize, place: usize) -> usize
+    requires { i < usize.MAX }
+    ensures { result ≡ cond (is_pin var) (i + 1) place }
+{
+    if is_pin(var) { i + 1 } else { place }
+}
+
 /// A place from which on no variable is a pin.
 pub(crate) fn after_pins(vars: &[Var]) -> usize
     ensures few { result ≤ length vars.now }
@@ -109,9 +117,7 @@ pub(crate) fn after_pins(vars: &[Var]) -> usize
 {
     let mut place = 0;
     for i in 0..vars.len() {
-        if is_pin(vars[i]) {
-            place = i + 1;
-        }
+        place = place_after(vars[i], i, place);
     }
     place
 }
@@ -143,9 +149,11 @@ pub(crate) fn looked_at(
     ensures few { result ≤ length vars.now }
     ensures rest { changes.Stay before.now now.now vars.now result }
 {
-    if runs(before.tap, now.tap) || (shifts && shifts_in(before.tap)) {
-        vars.len()
-    } else {
-        pins
+    if runs(before.tap, now.tap) {
+        return vars.len();
     }
+    if shifts && shifts_in(before.tap) {
+        return vars.len();
+    }
+    pins
 }
