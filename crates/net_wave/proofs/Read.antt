@@ -10,6 +10,7 @@ use Rattle.instruments.specs.declared.Counts.{Counts}
 use Rattle.instruments.specs.Seen.{SeenModel}
 use Rattle.net_bench.specs.Bench.{Chip, State, clock}
 use Rattle.net_bench.specs.Playing.{after_pins}
+use Rattle.net_graph.specs.Path.{row_of}
 use Rattle.report.specs.Registers.{digit}
 use Rattle.tap_machine.specs.declared.Pins.{Pins}
 use Rattle.tap_machine.specs.Play.{no_shift}
@@ -19,7 +20,7 @@ use Rattle.net_wave.specs.Codes.{code}
 use Rattle.net_wave.specs.Laws.{last_told}
 use Rattle.net_wave.specs.Moments.{Change, Moment, change_at, change_if, changes, counted, falling, falls, moment_text, moments_from, moments_text, next_clock, rises, rising, trimmed, untold}
 use Rattle.net_wave.specs.Reader.{Event, At, Told, Other, event, events, padded, read_value, told_at}
-use Rattle.net_wave.specs.Values.{digits, expect_digit, row_digits, unknown, value, values}
+use Rattle.net_wave.specs.Values.{digits, expect_digit, is_odd_at, row_digits, row_width, tap_code, unknown, value, values}
 use Rattle.net_wave.specs.Vars.{up_to}
 use Rattle.net_wave.proofs.Apart.{codes_differ}
 use Rattle.net_wave.proofs.Reading.{AllDigits, AreDigits, IsDigit, front, moment_read, padded_again, told}
@@ -58,14 +59,14 @@ module _ (chip : Chip Counts) (models : List SeenModel) where
   value_digits Tdo p s = (is_digit _, tt)
   value_digits Expect p s = (expect_is p.expect, tt)
   value_digits Differs p s = (is_digit _, tt)
-  value_digits Tap p s = digits_are _ 4
+  value_digits Tap p s = digits_are (is_odd_at (tap_code s.tap)) 4
   value_digits Instruction p s = digits_are _ (length s.ir_hold)
-  value_digits Scan p s = digits_are _ 32
-  value_digits Bit p s = digits_are _ 16
+  value_digits Scan p s = digits_are (is_odd_at p.scan) 32
+  value_digits Bit p s = digits_are (is_odd_at p.bit) 16
   value_digits (Update r) p s = digits_are _ _
   value_digits (Shift r) p s = digits_are _ _
   value_digits (OnPath r) p s = (is_digit _, tt)
-  value_digits (Row m) p s = row_are _ _
+  value_digits (Row m) p s = row_are (row_width chip.net m) (row_of chip.net s.holds m)
   value_digits (Input i n) p s = digits_are _ _
   value_digits (Output i n) p s = digits_are _ _
   value_digits (Word i w) p s = digits_are _ _
