@@ -98,11 +98,11 @@ rest_untold old now n (suc m) h same = cases (λ l. rest_untold old now n m l (�
         ap (λ (l : List Change). up_to (change_at false old now) m ++ l) here ∙ append-nil (up_to (change_at false old now) m) ∙ high fewer
 
 pub stays_text : (first : Bool) (number : ℕ) (piece before now : List ℕ) → first ≡ false → before ≡ now → piece ≡ piece ++ flat_map change_text (change_if first number before now)
-stays_text first number piece before now no same =
+stays_text first number piece before now later same =
     sym (append-nil piece)
     ∙ ap (λ (l : List Change). piece ++ flat_map change_text l) (sym (told_again number now))
     ∙ ap (λ (d : List ℕ). piece ++ flat_map change_text (change_if false number d now)) (sym same)
-    ∙ ap (λ (b : Bool). piece ++ flat_map change_text (change_if b number before now)) (sym no)
+    ∙ ap (λ (b : Bool). piece ++ flat_map change_text (change_if b number before now)) (sym later)
 
 -- after the last variable that is looked at
 module _ (first : Bool) (old now : List (List ℕ)) (n : ℕ) (same : length old ≡ length now) (within : n ≤ length now) (all : first ≡ true → n ≡ length now) (stay : first ≡ false → (k : ℕ) → n ≤ k → k < length now → get_or old k [] ≡ get_or now k []) where

@@ -1,7 +1,6 @@
 -- What a reader finds in the text of moments.
-use Rattle.std.proofs.Common.{◌≡◌, ℕ, zero, suc, ◌+◌, ◌-◌, ◌*◌, ◌/◌, ◌^◌, ◌<◌, ◌≤◌, Bool, true, false, not, cond, Option, Some, None, List, [], ◌∷◌, ◌++◌, length, map, take, get_or, refl, ap, sym, ◌∙◌, subst, arith, add-one, append-nil, append_assoc}
-use Rattle.std.specs.Prelude.{◌==◌, ◌||◌, min, nat_lt}
-use Rattle.std.specs.List.{flat_map}
+use Rattle.std.proofs.Common.{◌≡◌, ℕ, zero, suc, ◌+◌, ◌*◌, ◌^◌, ◌<◌, ◌≤◌, Bool, true, false, not, cond, Option, Some, None, List, [], ◌∷◌, ◌++◌, length, map, take, get_or, refl, ap, sym, ◌∙◌, arith, add-one}
+use Rattle.std.specs.Prelude.{◌==◌, ◌||◌, nat_lt}
 use Rattle.std.specs.Str.{bytes_eq}
 use Rattle.std.proofs.lemmas.Bool.Decides.{nat_tests}
 use Rattle.std.proofs.lemmas.List.{length-map}
@@ -18,8 +17,8 @@ use Rattle.net_wave.specs.declared.var.Var.{Var}
 use Rattle.net_wave.specs.declared.var.Var.TheVariants.{Tms, Tdi, Tdo, Expect, Differs, Tap, Instruction, Scan, Bit, Update, Shift, OnPath, Row, Input, Output, Word}
 use Rattle.net_wave.specs.Codes.{code}
 use Rattle.net_wave.specs.Laws.{last_told}
-use Rattle.net_wave.specs.Moments.{Change, Moment, change_at, change_if, changes, counted, falling, falls, moment_text, moments_from, moments_text, next_clock, rises, rising, trimmed, untold}
-use Rattle.net_wave.specs.Reader.{Event, At, Told, Other, event, events, padded, read_value, told_at}
+use Rattle.net_wave.specs.Moments.{Change, Moment, change_at, changes, counted, falling, moment_text, moments_from, moments_text, next_clock, rising, trimmed, untold}
+use Rattle.net_wave.specs.Reader.{Event, events, padded, read_value, told_at}
 use Rattle.net_wave.specs.Values.{digits, expect_digit, is_odd_at, row_digits, row_width, tap_code, unknown, value, values}
 use Rattle.net_wave.specs.Vars.{up_to}
 use Rattle.net_wave.proofs.Apart.{codes_differ}

@@ -1,12 +1,12 @@
 -- What is written is read: lines, numbers, codes and digits.
-use Rattle.std.proofs.Common.{◌≡◌, ℕ, zero, suc, ◌+◌, ◌-◌, ◌*◌, ◌/◌, ◌%◌, ◌^◌, ◌<◌, ◌≤◌, Bool, true, false, cond, List, [], ◌∷◌, ◌++◌, length, map, refl, ap, sym, ◌∙◌, subst, arith, append-nil, append_assoc, length-append}
-use Rattle.std.specs.Prelude.{◌==◌, codes, decimal, min}
+use Rattle.std.proofs.Common.{◌≡◌, ℕ, zero, suc, ◌+◌, ◌-◌, ◌*◌, ◌/◌, ◌%◌, ◌^◌, ◌<◌, ◌≤◌, Bool, true, false, cond, List, [], ◌∷◌, ◌++◌, length, map, refl, ap, sym, ◌∙◌, subst, arith, append_assoc}
+use Rattle.std.specs.Prelude.{◌==◌, codes, decimal}
 use Rattle.std.specs.List.{flat_map}
 use Rattle.std.proofs.lemmas.Bool.Decides.{nat_tests}
 use Rattle.std.proofs.lemmas.Fmt.{decimal_by_steps}
 use Rattle.net_wave.specs.Codes.{code, code_digits}
-use Rattle.net_wave.specs.Moments.{Change, Moment, change_text, counted, digits_text, moment_text, moments_text, time_text, trimmed}
-use Rattle.net_wave.specs.Reader.{Event, At, Told, Other, event, events, lines, number_from, padded, put_first, split, vector, words, zeros}
+use Rattle.net_wave.specs.Moments.{Change, Moment, change_text, counted, digits_text, moment_text, time_text, trimmed}
+use Rattle.net_wave.specs.Reader.{Event, At, Told, Other, event, events, number_from, padded, put_first, split, vector, words, zeros}
 
 -- ---- bytes that aren't there
 
@@ -208,5 +208,5 @@ moment_read m xs h =
     ap events (append_assoc a (b ++ (c ++ d)) xs ∙ ap (λ l. a ++ l) (append_assoc b (c ++ d) xs ∙ ap (λ l. b ++ l) (append_assoc c d xs)))
     ∙ time_read m.time (b ++ (c ++ (d ++ xs)))
     ∙ ap (λ l. At (counted m.time) ∷ l)
-      (word_read m.first (codes "$dumpvars") (c ++ (d ++ xs)) (refl, (refl, (refl, (refl, (refl, (refl, (refl, (refl, (refl, tt))))))))) refl
-      ∙ ap (λ l. front m.first ++ l) (changes_read m.changes (d ++ xs) h ∙ ap (λ l. map told m.changes ++ l) (word_read m.first (codes "$end") xs (refl, (refl, (refl, (refl, tt)))) refl)))
+    (word_read m.first (codes "$dumpvars") (c ++ (d ++ xs)) (refl, (refl, (refl, (refl, (refl, (refl, (refl, (refl, (refl, tt))))))))) refl
+    ∙ ap (λ l. front m.first ++ l) (changes_read m.changes (d ++ xs) h ∙ ap (λ l. map told m.changes ++ l) (word_read m.first (codes "$end") xs (refl, (refl, (refl, (refl, tt)))) refl)))

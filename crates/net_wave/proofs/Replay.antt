@@ -1,5 +1,5 @@
 -- Changes, replayed.
-use Rattle.std.proofs.Common.{◌≡◌, ℕ, zero, suc, ◌+◌, ◌-◌, ◌*◌, ◌<◌, ◌≤◌, Bool, true, false, not, cond, List, [], ◌∷◌, ◌++◌, length, map, take, get_or, refl, ap, sym, ◌∙◌, arith, add-one}
+use Rattle.std.proofs.Common.{◌≡◌, ℕ, zero, suc, ◌+◌, ◌-◌, ◌*◌, ◌<◌, ◌≤◌, Bool, true, false, not, cond, List, [], ◌∷◌, ◌++◌, length, take, get_or, refl, ap, ◌∙◌, arith, add-one}
 use Rattle.std.specs.Prelude.{◌==◌, ◌||◌}
 use Rattle.std.specs.List.{flat_map}
 use Rattle.std.specs.Str.{bytes_eq}
@@ -14,7 +14,7 @@ use Rattle.tap_machine.specs.declared.Pins.{Pins}
 use Rattle.tap_machine.specs.Play.{no_shift}
 use Rattle.net_wave.specs.declared.var.Var.{Var}
 use Rattle.net_wave.specs.Laws.{last_told, replayed}
-use Rattle.net_wave.specs.Moments.{Change, Moment, change_at, change_if, changes, falling, moments_from, next_clock, rising, untold}
+use Rattle.net_wave.specs.Moments.{Change, Moment, change_at, changes, falling, moments_from, next_clock, rising, untold}
 use Rattle.net_wave.specs.Values.{value, values}
 use Rattle.net_wave.specs.Vars.{up_to}
 

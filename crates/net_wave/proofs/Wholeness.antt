@@ -2,7 +2,6 @@
 use Rattle.std.proofs.Common.{◌≡◌, ◌⊎◌, inl, inr, ℕ, zero, suc, ◌+◌, ◌-◌, ◌<◌, ◌≤◌, All, Bool, true, false, cond, List, [], ◌∷◌, ◌++◌, length, map, get_or, refl, ap, sym, ◌∙◌, subst, arith}
 use Rattle.std.specs.Prelude.{◌==◌, ◌&&◌}
 use Rattle.std.proofs.lemmas.Bool.Decides.{nat_tests}
-use Rattle.std.proofs.lemmas.List.{get_or-map}
 use Rattle.std.proofs.lemmas.List.Elements.{All-head, All-tail}
 use Rattle.net_graph.specs.declared.net.Inst.{Inst}
 use Rattle.net_graph.specs.declared.net.Mux.{Mux}
@@ -13,14 +12,14 @@ use Rattle.net_graph.specs.Named.{thing_of}
 use Rattle.net_graph.specs.Nets.{IsNet, IsInst, IsMux, IsReg, IsThing}
 use Rattle.instruments.specs.Seen.{SeenModel}
 use Rattle.net_wave.specs.declared.var.Item.{Item}
-use Rattle.net_wave.specs.declared.var.Item.TheVariants.{Open, Declare, Close}
-use Rattle.net_wave.specs.declared.var.Scope.TheVariants.{Node, Register, Multiplexer, Words}
+use Rattle.net_wave.specs.declared.var.Item.TheVariants.{Open, Close}
+use Rattle.net_wave.specs.declared.var.Scope.TheVariants.{Node, Words}
 use Rattle.net_wave.specs.declared.var.Var.{Var}
 use Rattle.net_wave.specs.declared.var.Var.TheVariants.{Tms, Tdi, Tdo, Expect, Differs, Tap, Instruction, Scan, Bit, Update, Shift, OnPath, Row, Input, Output, Word}
 use Rattle.net_wave.specs.declared.var.WaveKind.{WaveKind}
 use Rattle.net_wave.specs.declared.var.WaveKind.TheVariants.{Pins, State, All as AllOf}
-use Rattle.net_wave.specs.Vars.{IsVar, close_item, closing, depth, has_shift, has_state, input_count, input_item, inst_items, inst_node, insts_in, items, mux_items, mux_node, muxes_in, node_items, opening, output_count, output_item, pin_items, register_items, register_node, registers_in, up_to, vars, vars_of, word_count, word_item}
-use Rattle.net_wave.specs.Whole.{VarsAreWhole, is_asked, same_var, times}
+use Rattle.net_wave.specs.Vars.{IsVar, close_item, closing, depth, has_shift, has_state, input_count, input_item, inst_items, inst_node, insts_in, mux_items, mux_node, muxes_in, node_items, opening, output_count, output_item, pin_items, register_items, register_node, registers_in, up_to, vars, word_count, word_item}
+use Rattle.net_wave.specs.Whole.{is_asked, same_var, times}
 use Rattle.net_wave.proofs.Counted.{none_to, one_to, section_none, section_one, section_other, seen, seen_both}
 
 -- ---- nodes of things

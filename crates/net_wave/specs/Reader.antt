@@ -1,6 +1,6 @@
 -- A reader of value change dumps (IEEE 1364-2005, 18.2): what a text tells of a variable at a time. It knows of the text alone, and nothing of
 -- what wrote it.
-use Rattle.std.specs.Prelude.{ℕ, zero, suc, ◌+◌, ◌*◌, ◌-◌, ◌==◌, nat_lt, Bool, true, false, cond, List, [], ◌∷◌, ◌++◌, length, map}
+use Rattle.std.specs.Prelude.{ℕ, zero, suc, ◌+◌, ◌*◌, ◌-◌, ◌==◌, nat_lt, cond, List, [], ◌∷◌, ◌++◌, length, map}
 use Rattle.std.specs.Str.{bytes_eq}
 
 -- ---- lines and words

@@ -19,7 +19,7 @@ ghost use Rattle.tap_machine.specs.Play.{pins, scans_in};
 
 use crate::moments::{add_falling, add_rising};
 use crate::scene::{Scene, shown};
-use crate::shown::{Shown, after_pins, has_shifts, looked_at, shifts_in};
+use crate::shown::{Shown, after_pins, has_shifts, looked_at, moves_stages};
 use crate::var::{Var, Window};
 use ij_bits::{List, OutOfMemory};
 use ij_io::SureSink;
@@ -98,10 +98,9 @@ fn step(bench: &mut Bench, stages: &mut Holds, kept: bool, pins: Pins)
     ensures shape { AreHolds bench.old.net stages.new }
     ensures stages { kept ≡ true → stages.new ≡ bench.new.state.stages }
 {
-    let shifts = shifts_in(bench.tap());
+    let moves = moves_stages(kept, bench.tap());
     let _found = bench.clock(pins.tms, pins.tdi);
-    let copied = kept && shifts;
-    copy_if(copied, bench, stages);
+    copy_if(moves, bench, stages);
 }
 
 impl<'a> Playing<'a> {

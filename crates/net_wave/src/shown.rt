@@ -1,5 +1,5 @@
 // What may change from one clock to the next.
-ghost use Rattle.std.specs.Prelude.{◌≡◌, ◌+◌, ◌<◌, ◌≤◌, ℕ, cond, false, get_or, length};
+ghost use Rattle.std.specs.Prelude.{◌≡◌, ◌+◌, ◌<◌, ◌≤◌, ◌&&◌, ℕ, cond, false, get_or, length};
 ghost use Rattle.std.specs.List.{list_any};
 ghost use Rattle.net_wave.specs.Changes as changes;
 ghost use Rattle.net_wave.specs.Header.{is_pin};
@@ -56,7 +56,7 @@ fn runs(before: TapState, now: TapState) -> bool
 }
 
 /// Whether a clock that begins in a state changes shift stages of the network.
-pub(crate) fn shifts_in(tap: TapState) -> bool
+fn shifts_in(tap: TapState) -> bool
     ensures { result ≡ changes.shifts_in tap }
 {
     match tap {
@@ -134,6 +134,13 @@ pub(crate) fn has_shifts(vars: &[Var]) -> bool
     false
 }
 
+/// Whether shift stages change at a clock that begins in a state, if they are kept.
+pub(crate) fn moves_stages(kept: bool, tap: TapState) -> bool
+    ensures { result ≡ (kept && changes.shifts_in tap) }
+{
+    kept && shifts_in(tap)
+}
+
 /// How many variables are to be looked at, from the first on: those after them stay from a clock to the next. `pins` is a
 /// place from which on there is no pin, and without `shifts` there are no shift stages.
 pub(crate) fn looked_at(
@@ -152,7 +159,7 @@ pub(crate) fn looked_at(
     if runs(before.tap, now.tap) {
         return vars.len();
     }
-    if shifts && shifts_in(before.tap) {
+    if moves_stages(shifts, before.tap) {
         return vars.len();
     }
     pins
