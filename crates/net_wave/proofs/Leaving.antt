@@ -1,5 +1,5 @@
 -- What is left of a play, clock by clock.
-use Rattle.std.proofs.Common.{◌≡◌, ℕ, zero, suc, ◌+◌, ◌-◌, Bool, true, false, Option, Some, None, List, [], ◌∷◌, ◌++◌, drop, length, map, take, refl, ap, sym, ◌∙◌, subst, arith, append-nil, append_assoc, length-append, Vec, Global}
+use Rattle.std.proofs.Common.{◌≡◌, ℕ, zero, suc, ◌-◌, Bool, true, false, Option, Some, None, List, [], ◌∷◌, ◌++◌, drop, length, map, take, refl, ap, sym, ◌∙◌, subst, arith, append-nil, append_assoc, length-append, Vec, Global}
 use Rattle.std.specs.Prelude.{IfSome, MatchOption}
 use Rattle.std.proofs.lemmas.List.{length-map}
 use Rattle.bench_report.specs.Report.{chip, chip_of}
@@ -26,9 +26,8 @@ use Rattle.net_wave.specs.declared.var.Var.{Var}
 use Rattle.net_wave.specs.declared.var.Window.{Window}
 use Rattle.net_wave.specs.Changes.{WasTold, shown_at}
 use Rattle.net_wave.specs.Left.{IsPlaying, after_text, clock_text, falling_text, left_text, models_of, skipped_text, text_from, told_of, values_at}
-use Rattle.net_wave.specs.Moments.{falling, moment_text, moments_from, moments_text, next_clock, nothing, rising, untold}
+use Rattle.net_wave.specs.Moments.{moment_text, moments_from, moments_text, next_clock, nothing, rising, untold}
 use Rattle.net_wave.specs.Values.{value, values}
-use Rattle.net_wave.specs.Vars.{up_to}
 use Rattle.net_wave.specs.Wave.{moments_of}
 
 pub next_taken : (r : Option Pins) (n : ℕ) (ps qs : List Pins) → (n ≡ 0 → ⊥) → MatchOption r (ps ≡ []) (λ p. ps ≡ p ∷ qs) → IfSome r (λ p. take n ps ≡ p ∷ take (n - 1) qs)

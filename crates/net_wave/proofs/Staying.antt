@@ -1,27 +1,26 @@
 -- Values that stay from one clock to the next.
-use Rattle.std.proofs.Common.{◌≡◌, ℕ, Bool, true, false, not, cond, List, [], ◌∷◌, ◌<◌, get_or, length, map, refl, ap, sym, ◌∙◌, subst, arith}
+use Rattle.std.proofs.Common.{◌≡◌, ℕ, Bool, true, false, not, List, [], ◌∷◌, ◌<◌, get_or, length, refl, ap, sym, ◌∙◌, subst, arith}
 use Rattle.std.specs.Prelude.{◌==◌, ◌||◌, ◌&&◌}
 use Rattle.std.proofs.lemmas.Bool.Decides.{nat_tests}
 use Rattle.std.proofs.lemmas.List.{get_or-map}
 use Rattle.ij_bits.specs.BitLists.{same_bit}
 use Rattle.instruments.specs.declared.Counts.{Counts}
-use Rattle.instruments.specs.OnNetwork.{Running, inner_at, outputs}
+use Rattle.instruments.specs.OnNetwork.{Running}
 use Rattle.instruments.specs.Seen.{SeenModel}
-use Rattle.net_graph.specs.Path.{is_in, route_of, row_of}
-use Rattle.net_graph.specs.Signals.{Holds, bits_at, signal}
+use Rattle.net_graph.specs.Signals.{Holds}
 use Rattle.net_bench.specs.Bench.{Chip, State, act, capture_bits, clock, dr_bits, enter, put_dr, run_from, select_of, tdo, update_dr}
 use Rattle.net_bench.specs.Instruction.{Selected, Network, Identity, Bypass}
 use Rattle.net_graph.specs.Chain.{shift}
 use Rattle.report.specs.Registers.{digit}
 use Rattle.tap_machine.specs.declared.Pins.{Pins}
 use Rattle.tap_machine.specs.declared.TapState.{TapState}
-use Rattle.tap_machine.specs.declared.TapState.TheVariants.{TestLogicReset, RunTestIdle, SelectDrScan, CaptureDr, ShiftDr, Exit1Dr, PauseDr, Exit2Dr, UpdateDr, SelectIrScan, CaptureIr, ShiftIr, Exit1Ir, PauseIr, Exit2Ir, UpdateIr}
+use Rattle.tap_machine.specs.declared.TapState.TheVariants.{TestLogicReset, RunTestIdle, CaptureDr, ShiftDr, UpdateDr, CaptureIr, ShiftIr, UpdateIr}
 use Rattle.tap_machine.specs.Tap.{next}
 use Rattle.net_wave.specs.declared.shown.Shown.{Shown}
 use Rattle.net_wave.specs.declared.var.Var.{Var}
 use Rattle.net_wave.specs.declared.var.Var.TheVariants.{Tms, Tdi, Tdo, Expect, Differs, Tap, Instruction, Scan, Bit, Update, Shift, OnPath, Row, Input, Output, Word}
-use Rattle.net_wave.specs.Changes.{Stay, WasTold, is_idle, loads, may_change, runs, shifts_in, shown_at, updates}
-use Rattle.net_wave.specs.Values.{differs, digits, drivers, expect_digit, number_digits, output_width, row_digits, row_width, tap_code, value, values, word_width}
+use Rattle.net_wave.specs.Changes.{WasTold, is_idle, loads, may_change, runs, shifts_in, shown_at, updates}
+use Rattle.net_wave.specs.Values.{differs, expect_digit, number_digits, tap_code, value, values}
 
 -- ---- tests that find nothing new
 

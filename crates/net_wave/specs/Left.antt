@@ -16,7 +16,7 @@ use Rattle.net_wave.specs.declared.scene.Scene.{Scene}
 use Rattle.net_wave.specs.declared.var.Var.TheVariants.{Tms}
 use Rattle.net_wave.specs.Changes.{WasTold, is_shift}
 use Rattle.net_wave.specs.Header.{is_pin}
-use Rattle.net_wave.specs.Moments.{Moment, falling, moment_text, moments_from, moments_text, next_clock, rising}
+use Rattle.net_wave.specs.Moments.{falling, moment_text, moments_from, moments_text, next_clock, rising}
 use Rattle.net_wave.specs.Values.{values}
 use Rattle.net_wave.specs.Vars.{IsVar}
 

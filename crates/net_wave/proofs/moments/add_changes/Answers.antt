@@ -1,4 +1,4 @@
-use Rattle.std.proofs.Common.{◌≡◌, ◌+◌, ◌<◌, ◌≤◌, ◌++◌, ℕ, List, drop, false, true, get_or, length, map, take, [], ap, sym, ◌∙◌, arith, add-one}
+use Rattle.std.proofs.Common.{◌≡◌, ◌<◌, ◌≤◌, ◌++◌, ℕ, drop, false, true, get_or, length, map, take, [], ap, sym, ◌∙◌, arith, add-one}
 use Rattle.std.proofs.lemmas.List.{get_or-map, length-map}
 use Rattle.bench_report.specs.Report.{chip_of}
 use Rattle.ij_bits.specs.Room.{Listed}
@@ -8,7 +8,7 @@ use Rattle.net_wave.specs.declared.var.Var.TheVariants.{Tms}
 use Rattle.net_wave.specs.declared.shown.Shown.{Shown}
 use Rattle.net_wave.specs.Changes.{may_change, shown_at}
 use Rattle.net_wave.specs.Left.{told_of}
-use Rattle.net_wave.specs.Values.{value, values}
+use Rattle.net_wave.specs.Values.{value}
 use Rattle.net_wave.proofs.Changing.{all_text, all_told, text_next, told_before, told_next}
 use Rattle.net_wave.proofs.Staying.{told_stays}
 use Rattle.net_wave.proofs.moments.add_changes.Goals as goal

@@ -1,4 +1,3 @@
-use Rattle.std.proofs.Common.{◌≡◌}
 use Rattle.net_wave.proofs.Changing.{stays_text}
 use Rattle.net_wave.proofs.moments.add_var.Goals as goal
 

@@ -1,4 +1,3 @@
-use Rattle.std.proofs.Common.{◌≡◌, arith}
 use Rattle.net_wave.proofs.Quiet.{next_place}
 use Rattle.net_wave.proofs.shown.after_pins.Goals as goal
 

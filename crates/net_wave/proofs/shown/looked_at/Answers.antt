@@ -1,4 +1,4 @@
-use Rattle.std.proofs.Common.{◌≡◌, sym, ◌∙◌}
+use Rattle.std.proofs.Common.{sym, ◌∙◌}
 use Rattle.net_wave.proofs.Quiet.{all_quiet}
 use Rattle.net_wave.proofs.shown.looked_at.Goals as goal
 

@@ -1,4 +1,3 @@
-use Rattle.std.proofs.Common.{◌≡◌}
 use Rattle.net_wave.proofs.Leaving.{clock_played, same_left}
 use Rattle.net_wave.proofs.playing.Playing.add_clock.Goals as goal
 
