@@ -185,7 +185,13 @@ impl<'a> Playing<'a> {
         if self.first {
             return self.vars.len();
         }
-        looked_at(self.vars.as_slice(), self.pins, self.shifts, &self.last, now)
+        looked_at(
+            self.vars.as_slice(),
+            self.pins,
+            self.shifts,
+            &self.last,
+            now,
+        )
     }
 
     /// Adds the moment at which a clock begins.

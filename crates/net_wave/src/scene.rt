@@ -9,7 +9,9 @@ ghost use Rattle.net_wave.specs.Left.{IsScene};
 ghost use Rattle.net_wave.specs.Values as values;
 ghost use Rattle.net_wave.specs.Vars as vars;
 
-use crate::digits::{add_bits, add_digit, add_number, add_unknown, differs, expect_digit, tap_code};
+use crate::digits::{
+    add_bits, add_digit, add_number, add_unknown, differs, expect_digit, tap_code,
+};
 use crate::shapes::{input_at, output_at, row_width, word_at};
 use crate::shown::Shown;
 use crate::var::Var;
