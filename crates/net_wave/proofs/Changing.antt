@@ -1,10 +1,14 @@
 -- Changes of one variable after the other.
-use Rattle.std.proofs.Common.{◌≡◌, ℕ, zero, suc, ◌+◌, ◌<◌, Bool, List, [], ◌∷◌, ◌++◌, length, map, get_or, set, take, drop, refl, ap, sym, ◌∙◌, arith, add-one, append_assoc}
+use Rattle.std.proofs.Common.{◌≡◌, ℕ, zero, suc, ◌+◌, ◌<◌, ◌≤◌, Bool, true, false, not, cond, append-nil, List, [], ◌∷◌, ◌++◌, length, get_or, set, take, drop, refl, ap, sym, ◌∙◌, arith, add-one, append_assoc}
 use Rattle.std.specs.List.{flat_map}
-use Rattle.std.proofs.lemmas.List.{get_or-map, length-map}
+use Rattle.std.specs.Prelude.{◌==◌}
+use Rattle.std.specs.Str.{bytes_eq}
+use Rattle.std.proofs.lemmas.Bool.Decides.{nat_tests}
+use Rattle.std.proofs.lemmas.Slice.Eq.{bytes_eq-Decides}
+use Rattle.std.proofs.lemmas.List.{get_or-map}
 use Rattle.ij_bits.specs.Room.{Listed}
 use Rattle.net_wave.specs.Left.{told_of}
-use Rattle.net_wave.specs.Moments.{Change, change_at, change_if, change_text}
+use Rattle.net_wave.specs.Moments.{Change, change_at, change_if, change_text, changes}
 use Rattle.net_wave.specs.Vars.{up_to}
 
 -- one list more is told
@@ -62,3 +66,57 @@ text_next first before now i old piece new b n so_far is at more =
     ∙ append_assoc old (flat_map change_text (up_to f i)) (flat_map change_text (f i))
     ∙ ap (λ (x : List ℕ). old ++ x) (sym (flat_both (up_to f i) (f i)))
     ∙ ap (λ (k : ℕ). old ++ flat_map change_text (up_to f k)) (sym (add-one i))
+
+-- ---- variables that stay
+
+told_again : (number : ℕ) (d : List ℕ) → change_if false number d d ≡ []
+told_again number d =
+    let same : bytes_eq d d ≡ true = (bytes_eq-Decides d d).1 refl in ap (λ (b : Bool). cond (not b) (record { number = number; digits = d } ∷ []) []) same
+
+pub rest_told : (now old : List (List ℕ)) (n : ℕ) → length old ≡ length now → ((k : ℕ) → n ≤ k → k < length now → get_or old k [] ≡ get_or now k []) → take n now ++ drop n old ≡ now
+rest_told [] [] zero same h = refl
+rest_told [] [] (suc n) same h = refl
+rest_told [] (o ∷ os) n same h = absurd (omega (arith, same))
+rest_told (x ∷ xs) [] n same h = absurd (omega (arith, same))
+rest_told (x ∷ xs) (o ∷ os) zero same h =
+    let later = rest_told xs os zero (omega (arith, same)) (λ k l m. h (suc k) (omega (arith, l)) (omega (arith, m))) in
+    ap (λ (y : List ℕ). y ∷ os) (h zero (omega arith) (omega arith)) ∙ ap (λ (l : List (List ℕ)). x ∷ l) later
+rest_told (x ∷ xs) (o ∷ os) (suc n) same h =
+    ap (λ (l : List (List ℕ)). x ∷ l) (rest_told xs os n (omega (arith, same)) (λ k l m. h (suc k) (omega (arith, l)) (omega (arith, m))))
+
+pub rest_untold : (old now : List (List ℕ)) (n m : ℕ) → n ≤ m → ((k : ℕ) → n ≤ k → k < m → get_or old k [] ≡ get_or now k []) → up_to (change_at false old now) m ≡ up_to (change_at false old now) n
+rest_untold old now n zero h same = let none : n ≡ 0 = omega (arith, h) in ap (up_to (change_at false old now)) (sym none)
+rest_untold old now n (suc m) h same = cases (λ l. rest_untold old now n m l (λ k a b. same k a (omega (arith, b)))) (n == suc m) refl
+  where
+    cases : (n ≤ m → up_to (change_at false old now) m ≡ up_to (change_at false old now) n) → (b : Bool) → (n == suc m) ≡ b → up_to (change_at false old now) (suc m) ≡ up_to (change_at false old now) n
+    cases high true e =
+        let all : n ≡ suc m = grind (arith, nat_tests) in ap (up_to (change_at false old now)) (sym all)
+    cases high false e =
+        let other : n ≡ suc m → ⊥ = λ d. grind (arith, nat_tests) in
+        let fewer : n ≤ m = omega (arith, h, other) in
+        let here : change_at false old now m ≡ [] = ap (λ (d : List ℕ). change_if false (suc m) d (get_or now m [])) (same m fewer (omega arith)) ∙ told_again (suc m) (get_or now m []) in
+        ap (λ (l : List Change). up_to (change_at false old now) m ++ l) here ∙ append-nil (up_to (change_at false old now) m) ∙ high fewer
+
+pub stays_text : (first : Bool) (number : ℕ) (piece before now : List ℕ) → first ≡ false → before ≡ now → piece ≡ piece ++ flat_map change_text (change_if first number before now)
+stays_text first number piece before now later same =
+    sym (append-nil piece)
+    ∙ ap (λ (l : List Change). piece ++ flat_map change_text l) (sym (told_again number now))
+    ∙ ap (λ (d : List ℕ). piece ++ flat_map change_text (change_if false number d now)) (sym same)
+    ∙ ap (λ (b : Bool). piece ++ flat_map change_text (change_if b number before now)) (sym later)
+
+-- after the last variable that is looked at
+module _ (first : Bool) (old now : List (List ℕ)) (n : ℕ) (same : length old ≡ length now) (within : n ≤ length now) (all : first ≡ true → n ≡ length now) (stay : first ≡ false → (k : ℕ) → n ≤ k → k < length now → get_or old k [] ≡ get_or now k []) where
+  stays : (b : Bool) → first ≡ b → (k : ℕ) → n ≤ k → k < length now → get_or old k [] ≡ get_or now k []
+  stays true e k l m = absurd (omega (arith, l, m, all e))
+  stays false e k l m = stay e k l m
+
+  pub all_told : (told : List (List ℕ)) → told ≡ take n now ++ drop n old → told ≡ now
+  all_told told is = is ∙ rest_told now old n same (stays first refl)
+
+  untold_is : (b : Bool) → first ≡ b → up_to (change_at b old now) (length now) ≡ up_to (change_at b old now) n
+  untold_is true e = ap (up_to (change_at true old now)) (sym (all e))
+  untold_is false e = rest_untold old now n (length now) within (stay e)
+
+  pub all_text : (piece new : List ℕ) → new ≡ piece ++ flat_map change_text (up_to (change_at first old now) n) → new ≡ piece ++ flat_map change_text (changes first old now)
+  all_text piece new is =
+      is ∙ ap (λ (l : List Change). piece ++ flat_map change_text l) (sym (untold_is first refl))

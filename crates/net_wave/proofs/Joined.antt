@@ -1,5 +1,5 @@
 -- Pieces that are added one after the other.
-use Rattle.std.proofs.Common.{◌≡◌, ℕ, List, [], ◌∷◌, ◌++◌, refl, ap, sym, ◌∙◌, append_assoc}
+use Rattle.std.proofs.Common.{◌≡◌, List, ◌++◌, ap, ◌∙◌, append_assoc}
 
 module _ {T : Type 0} where
   pub two : (old p q a b : List T) → p ≡ old ++ a → q ≡ p ++ b → q ≡ old ++ (a ++ b)

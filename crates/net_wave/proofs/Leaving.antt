@@ -1,5 +1,5 @@
 -- What is left of a play, clock by clock.
-use Rattle.std.proofs.Common.{◌≡◌, ℕ, zero, suc, ◌+◌, ◌-◌, Bool, true, false, Option, Some, None, List, [], ◌∷◌, ◌++◌, drop, length, map, take, refl, ap, sym, ◌∙◌, subst, arith, append-nil, append_assoc, length-append, Vec, Global}
+use Rattle.std.proofs.Common.{◌≡◌, ℕ, zero, suc, ◌-◌, Bool, true, false, Option, Some, None, List, [], ◌∷◌, ◌++◌, drop, length, map, take, refl, ap, sym, ◌∙◌, subst, arith, append-nil, append_assoc, length-append, Vec, Global}
 use Rattle.std.specs.Prelude.{IfSome, MatchOption}
 use Rattle.std.proofs.lemmas.List.{length-map}
 use Rattle.bench_report.specs.Report.{chip, chip_of}
@@ -21,12 +21,13 @@ use Rattle.tap_machine.specs.declared.Pins.{Pins}
 use Rattle.tap_machine.specs.Play.{no_shift}
 use Rattle.tap_machine.specs.Remaining.{Remaining}
 use Rattle.net_wave.specs.declared.playing.Playing.{Playing}
+use Rattle.net_wave.specs.declared.shown.Shown.{Shown}
 use Rattle.net_wave.specs.declared.var.Var.{Var}
 use Rattle.net_wave.specs.declared.var.Window.{Window}
+use Rattle.net_wave.specs.Changes.{WasTold, shown_at}
 use Rattle.net_wave.specs.Left.{IsPlaying, after_text, clock_text, falling_text, left_text, models_of, skipped_text, text_from, told_of, values_at}
-use Rattle.net_wave.specs.Moments.{falling, moment_text, moments_from, moments_text, next_clock, nothing, rising, untold}
+use Rattle.net_wave.specs.Moments.{moment_text, moments_from, moments_text, next_clock, nothing, rising, untold}
 use Rattle.net_wave.specs.Values.{value, values}
-use Rattle.net_wave.specs.Vars.{up_to}
 use Rattle.net_wave.specs.Wave.{moments_of}
 
 pub next_taken : (r : Option Pins) (n : ℕ) (ps qs : List Pins) → (n ≡ 0 → ⊥) → MatchOption r (ps ≡ []) (λ p. ps ≡ p ∷ qs) → IfSome r (λ p. take n ps ≡ p ∷ take (n - 1) qs)
@@ -92,9 +93,10 @@ skipped_all p n none = ap (λ (k : ℕ). skipped_text k p) (sym none)
 
 -- ---- clocks that are written
 
-pub played : (p : Playing) (b : SeenBench) (player : Remaining) (stages : Holds) (told : Vec (Listed ℕ) Global) (first : Bool) (k : ℕ) (t : State Counts) → IsPlaying p → b ≡ record p.bench { state = t } → AreHolds p.bench.net stages → stages ≡ b.state.stages → length told.items ≡ length p.vars.items
-    → IsPlaying (record p { bench = b; player = player; stages = stages; told = told; first = first; clock = k })
-played p b player stages told first k t is e shape same count =
+pub played : (p : Playing) (b : SeenBench) (player : Remaining) (stages : Holds) (told : Vec (Listed ℕ) Global) (scratch : Listed ℕ) (last : Shown) (first : Bool) (k : ℕ) (t : State Counts) → IsPlaying p → b ≡ record p.bench { state = t } → AreHolds p.bench.net stages → (p.shifts ≡ true → stages ≡ b.state.stages) → length told.items ≡ length p.vars.items
+    → (first ≡ false → WasTold (chip_of b) (models_of p) p.vars.items (told_of told.items) last b.state)
+    → IsPlaying (record p { bench = b; player = player; stages = stages; told = told; scratch = scratch; last = last; first = first; clock = k })
+played p b player stages told scratch last first k t is e shape same count known =
     record {
       well_formed = is.well_formed;
       models = is.models;
@@ -104,6 +106,10 @@ played p b player stages told first k t is e shape same count =
       stages = same;
       vars = is.vars;
       told = count;
+      few = is.few;
+      pins = is.pins;
+      shifts = is.shifts;
+      known = known;
     }
 
 -- the player and the count of a play are further
@@ -113,7 +119,7 @@ taken p player n = record p { player = player; left = n }
 pub still_playing : (p q : Playing) → q ≡ taken p q.player q.left → IsPlaying p → IsPlaying q
 still_playing p q same is =
     subst IsPlaying (sym same)
-    (record { well_formed = is.well_formed; models = is.models; net = is.net; same_models = is.same_models; shape = is.shape; stages = is.stages; vars = is.vars; told = is.told })
+    (record { well_formed = is.well_formed; models = is.models; net = is.net; same_models = is.same_models; shape = is.shape; stages = is.stages; vars = is.vars; told = is.told; few = is.few; pins = is.pins; shifts = is.shifts; known = is.known })
 
 abbrev pub rest : Pins
 rest = no_shift false
@@ -154,7 +160,7 @@ told_as_many p x told is =
 
 -- ---- the same play, with other digits that were told
 
-module _ (p q : Playing) (same : q ≡ record p { told = q.told }) where
+module _ (p q : Playing) (same : q ≡ record p { told = q.told; scratch = q.scratch; last = q.last }) where
   pub same_values : (x : Pins) → values_at q x ≡ values_at p x
   unfolding values_at
   same_values x = ap (λ (y : Playing). values_at y x) same
@@ -167,7 +173,30 @@ module _ (p q : Playing) (same : q ≡ record p { told = q.told }) where
       → left_text (record q { bench = b; stages = stages; first = false; clock = k }) ≡ after_text p x
   same_left x b stages k e is next = clock_left q x b stages q.told k e (is ∙ sym (same_values x)) next ∙ same_after x
 
-  pub told_playing : (x : Pins) → IsPlaying p → told_of q.told.items ≡ values_at p x → IsPlaying q
-  told_playing x is told =
-      subst IsPlaying (sym same)
-      (record { well_formed = is.well_formed; models = is.models; net = is.net; same_models = is.same_models; shape = is.shape; stages = is.stages; vars = is.vars; told = told_as_many p x q.told.items told })
+  -- after a clock its values are what was told
+  module _ (x : Pins) (b : SeenBench) (e : b ≡ record q.bench { state = clock (chip_of q.bench) x.tms x.tdi q.bench.state }) where
+    further : b ≡ record p.bench { state = clock (chip_of p.bench) x.tms x.tdi p.bench.state }
+    further =
+        e ∙ ap (λ (y : Playing). record y.bench { state = clock (chip_of y.bench) x.tms x.tdi y.bench.state }) same
+
+    was_told : q.last ≡ shown_at (chip_of p.bench) x p.bench.state → told_of q.told.items ≡ values_at p x → WasTold (chip_of b) (models_of p) p.vars.items (told_of q.told.items) q.last b.state
+    unfolding values_at
+    was_told last is =
+        let c = chip_of p.bench in
+        let s = p.bench.state in
+        let models = models_of p in
+        let base : WasTold c models p.vars.items (told_of q.told.items) q.last b.state =
+        record {
+          before = s;
+          all = is ∙ ap (λ (l : Shown). values c models p.vars.items l.pins s) (sym last);
+          shown = last ∙ ap (λ (l : Shown). shown_at c l.pins s) (sym last);
+          next = ap (λ (y : SeenBench). y.state) further ∙ ap (λ (l : Shown). clock c l.pins.tms l.pins.tdi s) (sym last);
+        } in
+        subst (λ (ch : Chip Counts). WasTold ch models p.vars.items (told_of q.told.items) q.last b.state) (sym (ap chip_of further)) base
+
+    pub clock_played : (stages : Holds) (k : ℕ) → IsPlaying p → q.last ≡ shown_at (chip_of p.bench) x p.bench.state → told_of q.told.items ≡ values_at p x → AreHolds q.bench.net stages → (q.shifts ≡ true → stages ≡ b.state.stages)
+        → IsPlaying (record q { bench = b; stages = stages; first = false; clock = k })
+    clock_played stages k is last told shape kept =
+        subst (λ (y : Playing). IsPlaying (record y { bench = b; stages = stages; first = false; clock = k })) (sym same)
+        (played p b p.player stages q.told q.scratch q.last false k (clock (chip_of p.bench) x.tms x.tdi p.bench.state) is further
+        (subst (λ (y : Playing). AreHolds y.bench.net stages) same shape) (subst (λ (y : Playing). y.shifts ≡ true → stages ≡ b.state.stages) same kept) (told_as_many p x q.told.items told) (λ none. was_told last told))

@@ -4,9 +4,15 @@ pub mod CodeSteps
 pub mod Modelled
 pub mod Joined
 pub mod Staging
+pub mod Staying
+pub mod Quiet
 pub mod There
 pub mod PieceTexts
 pub mod Replay
 pub mod Apart
+pub mod Reading
+pub mod Read
 pub mod Leaving
 pub mod Changing
+pub mod Counted
+pub mod Wholeness

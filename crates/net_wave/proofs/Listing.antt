@@ -1,5 +1,5 @@
 -- Lists that grow by what belongs to one number more.
-use Rattle.std.proofs.Common.{◌≡◌, ℕ, zero, suc, ◌+◌, ◌<◌, Bool, List, [], ◌∷◌, ◌++◌, length, map, take, drop, refl, ap, sym, ◌∙◌, append_assoc, add-one, arith}
+use Rattle.std.proofs.Common.{◌≡◌, ℕ, ◌+◌, List, ◌++◌, ap, sym, ◌∙◌, append_assoc, add-one}
 use Rattle.net_wave.specs.Vars.{up_to}
 
 pub up_to_next : {T : Type 0} (f : ℕ → List T) (old xs ys : List T) (n : ℕ) → xs ≡ old ++ up_to f n → ys ≡ xs ++ f n → ys ≡ old ++ up_to f (n + 1)

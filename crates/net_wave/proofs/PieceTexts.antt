@@ -1,5 +1,5 @@
 -- The text in the file, moment by moment.
-use Rattle.std.proofs.Common.{◌≡◌, ℕ, Option, Some, List, [], ◌∷◌, ◌++◌, map, refl, ap, sym, ◌∙◌, subst}
+use Rattle.std.proofs.Common.{◌≡◌, ℕ, Option, Some, List, [], ◌++◌, refl, ap, sym, subst}
 use Rattle.std.specs.Option.{option_map}
 use Rattle.std.specs.Prelude.{Result, Ok, Err, OnOk}
 use Rattle.ij_io.specs.Bytes.{Adds, AddsPart}

@@ -1,5 +1,5 @@
 -- Changes, replayed.
-use Rattle.std.proofs.Common.{◌≡◌, ℕ, zero, suc, ◌+◌, ◌-◌, ◌*◌, ◌<◌, ◌≤◌, Bool, true, false, not, cond, List, [], ◌∷◌, ◌++◌, length, map, take, get_or, refl, ap, sym, ◌∙◌, arith, add-one}
+use Rattle.std.proofs.Common.{◌≡◌, ℕ, zero, suc, ◌+◌, ◌-◌, ◌*◌, ◌<◌, ◌≤◌, Bool, true, false, not, cond, List, [], ◌∷◌, ◌++◌, length, take, get_or, refl, ap, ◌∙◌, arith, add-one}
 use Rattle.std.specs.Prelude.{◌==◌, ◌||◌}
 use Rattle.std.specs.List.{flat_map}
 use Rattle.std.specs.Str.{bytes_eq}
@@ -14,13 +14,17 @@ use Rattle.tap_machine.specs.declared.Pins.{Pins}
 use Rattle.tap_machine.specs.Play.{no_shift}
 use Rattle.net_wave.specs.declared.var.Var.{Var}
 use Rattle.net_wave.specs.Laws.{last_told, replayed}
-use Rattle.net_wave.specs.Moments.{Change, Moment, change_at, change_if, changes, falling, moments_from, next_clock, rising, untold}
+use Rattle.net_wave.specs.Moments.{Change, Moment, change_at, changes, falling, moments_from, next_clock, rising, untold}
 use Rattle.net_wave.specs.Values.{value, values}
 use Rattle.net_wave.specs.Vars.{up_to}
 
 told_both : (n : ℕ) (d : List ℕ) (xs ys : List Change) → last_told n d (xs ++ ys) ≡ last_told n (last_told n d xs) ys
 told_both n d [] ys = refl
 told_both n d (x ∷ xs) ys = told_both n (cond (x.number == n) x.digits d) xs ys
+
+-- TCK is another variable
+pub tck_is_other : (i : ℕ) → (0 == suc i) ≡ false
+tck_is_other i = grind (arith, nat_tests)
 
 module _ (first : Bool) (before now : List (List ℕ)) (i : ℕ) where
   abbrev here : List Change
@@ -71,16 +75,15 @@ module _ (first : Bool) (before now : List (List ℕ)) (i : ℕ) where
       ∙ ap (λ x. last_told (suc i) x (change_at first before now m)) (told_from k m d known refl)
       ∙ others (get_or now i []) m other
 
-  told_all : (d : List ℕ) → (first ≡ false → d ≡ get_or before i []) → i < length now → last_told (suc i) d (changes first before now) ≡ get_or now i []
+  pub told_all : (d : List ℕ) → (first ≡ false → d ≡ get_or before i []) → i < length now → last_told (suc i) d (changes first before now) ≡ get_or now i []
   told_all d known h = told_from (length now - suc i) (length now) d known (omega (arith, h))
 
 module _ (chip : Chip Counts) (models : List SeenModel) (vars : List Var) (i : ℕ) (within : i < length vars) where
   abbrev told : List ℕ → List Moment → List ℕ
   told d ms = last_told (suc i) d (flat_map (λ m. m.changes) ms)
 
-  -- TCK is another variable
   tck : (0 == suc i) ≡ false
-  tck = grind (arith, nat_tests)
+  tck = tck_is_other i
 
   -- the moment at which a clock begins tells the value of the clock
   fallen : (first : Bool) (k : ℕ) (before : List (List ℕ)) (p : Pins) (s : State Counts) (d : List ℕ) (later : List Moment) → (first ≡ false → d ≡ get_or before i [])

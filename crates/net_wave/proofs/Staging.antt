@@ -1,10 +1,10 @@
 -- Shift stages beside a bench: where a clock changes some, these are on the active path, and the path stays.
-use Rattle.std.proofs.Common.{◌≡◌, ℕ, Bool, true, false, cond, List, [], ◌∷◌, ◌++◌, length, map, refl, ap, sym, ◌∙◌, subst, arith, length-append}
+use Rattle.std.proofs.Common.{◌≡◌, ℕ, Bool, true, false, cond, List, [], ◌∷◌, length, refl, ap, sym, ◌∙◌, subst, arith, length-append}
 use Rattle.instruments.specs.declared.Counts.{Counts}
 use Rattle.instruments.specs.Machine.{Machine, count_log}
 use Rattle.instruments.specs.OnNetwork.{outputs}
 use Rattle.net_graph.specs.declared.net.Net.{Net}
-use Rattle.net_graph.specs.Chain.{IsRoute, captures, chain, put_chain, shift}
+use Rattle.net_graph.specs.Chain.{captures, chain, put_chain, shift}
 use Rattle.net_graph.specs.declared.device.Device.{Device}
 use Rattle.net_graph.specs.Held.{AreHolds}
 use Rattle.net_graph.specs.Nets.{IsNet}
@@ -17,9 +17,10 @@ use Rattle.net_bench.proofs.Wide.{captures_wide}
 use Rattle.net_bench.specs.Bench.{Chip, State, act, capture_bits, clock, dr_bits, enter, fault_free, put_dr, run_from, select_of, update_dr}
 use Rattle.net_bench.specs.Instruction.{Selected, Network, Identity, Bypass}
 use Rattle.tap_machine.specs.declared.TapState.{TapState}
-use Rattle.tap_machine.specs.declared.TapState.TheVariants.{TestLogicReset, RunTestIdle, SelectDrScan, CaptureDr, ShiftDr, Exit1Dr, PauseDr, Exit2Dr, UpdateDr, SelectIrScan, CaptureIr, ShiftIr, Exit1Ir, PauseIr, Exit2Ir, UpdateIr}
+use Rattle.tap_machine.specs.declared.TapState.TheVariants.{TestLogicReset, RunTestIdle, CaptureDr, ShiftDr, UpdateDr, UpdateIr}
 use Rattle.tap_machine.specs.Tap.{next}
-use Rattle.net_wave.specs.Left.{shifts_in}
+use Rattle.std.specs.Prelude.{◌&&◌}
+use Rattle.net_wave.specs.Changes.{shifts_in}
 
 length_shift : (bits : List Bool) (tdi : Bool) → length (shift bits tdi) ≡ length bits
 length_shift [] tdi = refl
@@ -128,3 +129,11 @@ module _ (net : Net) (device : Device) (machines : List Machine) (is : IsNet net
       ∙ ap (λ (x : Holds). cond (shifts_in s.tap) (put_chain (route_of net t.holds) (chain (route_of net t.holds) t.stages) x) x) same
       ∙ kept.1 in
       (subst (λ (x : Holds). AreHolds net x) (sym all) kept.0, all)
+
+  -- the same where they are kept at all
+  pub kept_beside : (tms tdi : Bool) (s t : State Counts) (b : Net) (kept k : Bool) (old new : Holds) → t ≡ clock chip tms tdi s → b ≡ net → k ≡ shifts_in s.tap → (kept ≡ true → old ≡ s.stages) → AreHolds net old
+      → new ≡ cond (kept && k) (put_chain (route_of b t.holds) (chain (route_of b t.holds) t.stages) old) old → AreHolds net new × (kept ≡ true → new ≡ t.stages)
+  kept_beside tms tdi s t b true k old new e n shifts same h is =
+      let all = stepped tms tdi s t b k old new e n shifts (same refl) h is in (all.0, λ _. all.1)
+  kept_beside tms tdi s t b false k old new e n shifts same h is =
+      (subst (λ (x : Holds). AreHolds net x) (sym is) h, λ never. absurd (cc))

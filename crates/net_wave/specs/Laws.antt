@@ -10,7 +10,8 @@ use Rattle.tap_machine.specs.declared.Pins.{Pins}
 use Rattle.tap_machine.specs.Play.{no_shift}
 use Rattle.net_wave.specs.declared.var.Var.{Var}
 use Rattle.net_wave.specs.Codes.{code}
-use Rattle.net_wave.specs.Moments.{Change, Moment, moments_from, untold}
+use Rattle.net_wave.specs.Moments.{Change, Moment, moments_from, moments_text, untold}
+use Rattle.net_wave.specs.Reader.{read_value}
 use Rattle.net_wave.specs.Values.{values}
 use Rattle.std.specs.Prelude.{false}
 
@@ -29,6 +30,14 @@ abbrev pub MomentsReplay : Type 0
 MomentsReplay =
     (chip : Chip Counts) (models : List SeenModel) (vars : List Var) (ps : List Pins) (s : State Counts) (from i j : ℕ) → i < length vars → j ≤ length ps
     → replayed (i + 1) (take (2 * j + 1) (moments_from chip models vars true from (untold (length vars)) ps s)) ≡ get_or (values chip models vars (get_or ps j (no_shift false)) (after_pins chip (take j ps) s)) i []
+
+-- A reader of the text of these moments finds, under the code of a variable and at the time at which clock j begins, exactly the digits of this
+-- clock, with the zeros that were left out; so at the end of the last clock. Times that 64 bits hold are told apart.
+abbrev pub MomentsAreRead : Type 0
+MomentsAreRead =
+    (chip : Chip Counts) (models : List SeenModel) (vars : List Var) (ps : List Pins) (s : State Counts) (from i j : ℕ) → i < length vars → length vars < 2 ^ 32 → j ≤ length ps → 2 * (from + length ps) + 1 < 2 ^ 64
+    → let here = get_or (values chip models vars (get_or ps j (no_shift false)) (after_pins chip (take j ps) s)) i [] in
+    read_value (moments_text (moments_from chip models vars true from (untold (length vars)) ps s)) (code (i + 1)) (length here) (2 * (from + j)) ≡ here
 
 -- Numbers of 32 bits have codes of their own.
 abbrev pub CodesDiffer : Type 0

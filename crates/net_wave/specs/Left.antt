@@ -1,5 +1,6 @@
 -- What is left of a play that is under way: its moments, as text.
-use Rattle.std.specs.Prelude.{◌≡◌, ℕ, Bool, true, false, List, ◌++◌, drop, length, map, take, All}
+use Rattle.std.specs.Prelude.{◌≡◌, ◌<◌, ◌≤◌, ℕ, Bool, true, false, List, ◌++◌, drop, get_or, length, map, take, All}
+use Rattle.std.specs.List.{list_any}
 use Rattle.ij_bits.specs.Room.{Listed}
 use Rattle.bench_report.specs.Report.{chip_of}
 use Rattle.instruments.specs.declared.Counts.{Counts}
@@ -10,11 +11,12 @@ use Rattle.net_bench.specs.Playing.{after_pins}
 use Rattle.net_graph.specs.Held.{AreHolds}
 use Rattle.net_graph.specs.Nets.{IsNet}
 use Rattle.tap_machine.specs.declared.Pins.{Pins}
-use Rattle.tap_machine.specs.declared.TapState.{TapState}
-use Rattle.tap_machine.specs.declared.TapState.TheVariants.{CaptureDr, ShiftDr}
 use Rattle.net_wave.specs.declared.playing.Playing.{Playing}
 use Rattle.net_wave.specs.declared.scene.Scene.{Scene}
-use Rattle.net_wave.specs.Moments.{Moment, falling, moment_text, moments_from, moments_text, next_clock, rising}
+use Rattle.net_wave.specs.declared.var.Var.TheVariants.{Tms}
+use Rattle.net_wave.specs.Changes.{WasTold, is_shift}
+use Rattle.net_wave.specs.Header.{is_pin}
+use Rattle.net_wave.specs.Moments.{falling, moment_text, moments_from, moments_text, next_clock, rising}
 use Rattle.net_wave.specs.Values.{values}
 use Rattle.net_wave.specs.Vars.{IsVar}
 
@@ -22,34 +24,35 @@ use Rattle.net_wave.specs.Vars.{IsVar}
 abbrev pub told_of : List (Listed ℕ) → List (List ℕ)
 told_of told = map (λ digits. digits.items) told
 
--- whether a clock that begins in a state changes shift stages of the network
-abbrev pub shifts_in : TapState → Bool
-shifts_in CaptureDr = true
-shifts_in ShiftDr = true
-shifts_in _ = false
-
--- the bench is that of the network and the models, and the shift stages beside it are its own
+-- the bench is that of the network and the models, and the shift stages beside it are its own where they are to be shown
 pub record IsScene (s : Scene) : Type 0 where
   pub well_formed : IsNet s.net.now
   pub models : AreModels s.net.now s.models.now.items
   pub net : s.bench.now.net ≡ s.net.now
   pub same_models : s.bench.now.models ≡ s.models.now.items
   pub shape : AreHolds s.net.now s.stages.now
-  pub stages : s.stages.now ≡ s.bench.now.state.stages
+  pub stages : s.shifts ≡ true → s.stages.now ≡ s.bench.now.state.stages
 
+-- the models
+abbrev pub models_of : Playing → List SeenModel
+models_of p = map seen_model p.models.now.items
+
+-- the same of a play; no variable from the place `pins` on is a pin, and after the first clock the values of the clock before were told
 pub record IsPlaying (p : Playing) : Type 0 where
   pub well_formed : IsNet p.net.now
   pub models : AreModels p.net.now p.models.now.items
   pub net : p.bench.net ≡ p.net.now
   pub same_models : p.bench.models ≡ p.models.now.items
   pub shape : AreHolds p.net.now p.stages
-  pub stages : p.stages ≡ p.bench.state.stages
+  pub stages : p.shifts ≡ true → p.stages ≡ p.bench.state.stages
   pub vars : All (IsVar p.net.now (map seen_model p.models.now.items)) p.vars.items
   pub told : length p.told.items ≡ length p.vars.items
+  pub few : p.pins ≤ length p.vars.items
+  pub pins : (k : ℕ) → p.pins ≤ k → k < length p.vars.items → is_pin (get_or p.vars.items k Tms) ≡ false
+  pub shifts : p.shifts ≡ false → list_any is_shift p.vars.items ≡ false
+  pub known : p.first ≡ false → WasTold (chip_of p.bench) (models_of p) p.vars.items (told_of p.told.items) p.last p.bench.state
 
--- the models, and the digits of the variables at a clock with some pins
-abbrev pub models_of : Playing → List SeenModel
-models_of p = map seen_model p.models.now.items
+-- the digits of the variables at a clock with some pins
 
 unfoldable pub values_at : Playing → Pins → List (List ℕ)
 values_at p q = values (chip_of p.bench) (models_of p) p.vars.items q p.bench.state

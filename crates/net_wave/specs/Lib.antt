@@ -4,5 +4,8 @@ pub mod Codes
 pub mod Header
 pub mod Moments
 pub mod Wave
+pub mod Changes
 pub mod Left
+pub mod Reader
 pub mod Laws
+pub mod Whole

@@ -1,6 +1,6 @@
 -- The moments of a wave at which something changes, and what changes there (IEEE 1364-2005, 18.2.1 to 18.2.3: simulation times and value
 -- changes). Clock k is the time 2k, at which TCK falls, and the time 2k + 1, at which it rises.
-use Rattle.std.specs.Prelude.{ℕ, zero, suc, ◌+◌, ◌*◌, ◌-◌, ◌^◌, ◌==◌, ◌||◌, min, not, Bool, true, false, cond, List, [], ◌∷◌, ◌++◌, codes, decimal, get_or, length, map}
+use Rattle.std.specs.Prelude.{ℕ, suc, ◌+◌, ◌*◌, ◌-◌, ◌^◌, ◌==◌, ◌||◌, min, not, Bool, false, cond, List, [], ◌∷◌, ◌++◌, codes, decimal, get_or, length}
 use Rattle.std.specs.List.{flat_map}
 use Rattle.std.specs.Str.{bytes_eq}
 use Rattle.instruments.specs.declared.Counts.{Counts}

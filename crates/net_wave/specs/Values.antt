@@ -1,6 +1,6 @@
 -- What the variables of a wave are at one clock: digits, the highest first (IEEE 1364-2005, 18.2.1; IEEE 1149.1-2013, clause 6: the codes
 -- of the controller's states; IEEE 1687-2014: active scan path, ScanMux, data ports).
-use Rattle.std.specs.Prelude.{ℕ, zero, suc, ◌/◌, ◌%◌, ◌^◌, ◌==◌, not, Bool, true, false, cond, List, [], ◌∷◌, get_or, length, map, Option, Some, None}
+use Rattle.std.specs.Prelude.{ℕ, zero, suc, ◌/◌, ◌%◌, ◌^◌, ◌==◌, not, Bool, false, cond, List, [], ◌∷◌, get_or, length, map, Option, Some, None}
 use Rattle.ij_bits.specs.BitLists.{bit, same_bit}
 use Rattle.instruments.specs.declared.Counts.{Counts}
 use Rattle.instruments.specs.OnNetwork.{inner_at, outputs}

@@ -7,6 +7,7 @@ ghost use Rattle.net_wave.specs.Values as values;
 use crate::texts::add;
 use ij_bits::{Bits, List, OutOfMemory};
 use ij_io::SureSink;
+use tap_machine::TapState;
 
 /// The digit of a bit.
 pub(crate) fn digit(bit: bool) -> u8
@@ -77,6 +78,51 @@ pub(crate) fn binary_length(number: usize) -> u32
         digits += 1;
     }
     digits
+}
+
+/// The digit of what is expected, x where nothing is.
+pub(crate) fn expect_digit(expect: Option<bool>) -> u8
+    ensures { result ≡ values.expect_digit expect }
+{
+    match expect {
+        None => b'x',
+        Some(false) => b'0',
+        Some(true) => b'1',
+    }
+}
+
+/// Whether another bit than this one is expected.
+pub(crate) fn differs(expect: Option<bool>, found: bool) -> bool
+    ensures { result ≡ values.differs expect found }
+{
+    match expect {
+        None => false,
+        Some(expect) => expect != found,
+    }
+}
+
+/// The code of a state of the TAP controller.
+pub(crate) fn tap_code(tap: TapState) -> u64
+    ensures { result ≡ values.tap_code tap }
+{
+    match tap {
+        TapState::TestLogicReset => 15,
+        TapState::RunTestIdle => 12,
+        TapState::SelectDrScan => 7,
+        TapState::CaptureDr => 6,
+        TapState::ShiftDr => 2,
+        TapState::Exit1Dr => 1,
+        TapState::PauseDr => 3,
+        TapState::Exit2Dr => 0,
+        TapState::UpdateDr => 5,
+        TapState::SelectIrScan => 4,
+        TapState::CaptureIr => 14,
+        TapState::ShiftIr => 10,
+        TapState::Exit1Ir => 9,
+        TapState::PauseIr => 11,
+        TapState::Exit2Ir => 8,
+        TapState::UpdateIr => 13,
+    }
 }
 
 /// Digits without zeros at the left.

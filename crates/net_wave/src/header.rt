@@ -10,29 +10,11 @@ use crate::codes::add_code;
 use crate::names::{add_scope_name, add_var_name};
 use crate::shapes::{Range, var_shape};
 use crate::texts::{add, add_words};
-use crate::var::{Item, Scope, Var};
+use crate::var::{Item, Scope, Var, is_pin};
 use ij_bits::{List, OutOfMemory};
 use ij_io::{SureSink, Word};
 use instruments::Model;
 use net_graph::{Device, Net};
-
-/// Whether a variable is a pin, or says what stands there.
-fn is_pin(var: Var) -> bool
-    ensures { result ≡ header.is_pin var }
-{
-    match var {
-        Var::Tms => true,
-        Var::Tdi => true,
-        Var::Tdo => true,
-        Var::Expect => true,
-        Var::Differs => true,
-        Var::Tap => true,
-        Var::Instruction => true,
-        Var::Scan => true,
-        Var::Bit => true,
-        _ => false,
-    }
-}
 
 /// How the line of a variable begins.
 fn kind_text(pin: bool) -> &'static [u8]

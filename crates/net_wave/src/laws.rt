@@ -1,5 +1,6 @@
 // What holds of all waves.
-ghost use Rattle.net_wave.specs.Laws.{CodesDiffer, MomentsReplay};
+ghost use Rattle.net_wave.specs.Laws.{CodesDiffer, MomentsAreRead, MomentsReplay};
+ghost use Rattle.net_wave.specs.Whole.{VarsAreWhole};
 
 /// The changes of a wave, replayed over nothing, are what happens: after the moment at which a clock begins each variable has
 /// the value of that clock (IEEE 1364-2005, 18.2: value changes).
@@ -7,7 +8,20 @@ pub fn moments_replay()
     ensures { MomentsReplay }
 {}
 
+/// A reader of value change dumps, which knows of the text alone, finds the changes of a wave in it: under the code of a
+/// variable and at the time at which a clock begins, the value that the variable has then (IEEE 1364-2005, 18.2: four state
+/// VCD).
+pub fn moments_are_read()
+    ensures { MomentsAreRead }
+{}
+
 /// No two variables have one code (IEEE 1364-2005, 18.2.3.7).
 pub fn codes_differ()
     ensures { CodesDiffer }
+{}
+
+/// The variables of a wave are what its kind shows of the network, each of it once, and no other (IEEE 1687-2014, ICL:
+/// registers, multiplexers and ports; the words are those of the models).
+pub fn vars_are_whole()
+    ensures { VarsAreWhole }
 {}

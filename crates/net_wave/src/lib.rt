@@ -12,10 +12,11 @@ mod names;
 mod playing;
 mod scene;
 mod shapes;
+mod shown;
 mod texts;
 mod var;
 mod wave;
 
-pub use laws::{codes_differ, moments_replay};
+pub use laws::{codes_differ, moments_are_read, moments_replay, vars_are_whole};
 pub use var::{WaveKind, Window};
 pub use wave::put_wave_file;

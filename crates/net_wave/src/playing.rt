@@ -1,5 +1,5 @@
 // A play that is under way, and the moments that are still to come.
-ghost use Rattle.std.specs.Prelude.{◌≡◌, ◌≤◌, ◌<◌, ◌++◌, ◌∷◌, [], cond, false, map, take, true, All, IfOk, IfSome, IsNone, IsSome, OnOk};
+ghost use Rattle.std.specs.Prelude.{◌≡◌, ◌≤◌, ◌<◌, ◌++◌, ◌∷◌, [], cond, false, length, map, take, true, All, IfOk, IfSome, IsNone, IsSome, OnOk};
 ghost use Rattle.bench_report.specs.Report.{chip, chip_of};
 ghost use Rattle.instruments.specs.Runners.{AreModels};
 ghost use Rattle.instruments.specs.Seen.{seen_model};
@@ -8,6 +8,7 @@ ghost use Rattle.net_graph.specs.Chain.{chain as bits_on, put_chain};
 ghost use Rattle.net_graph.specs.Held.{AreHolds};
 ghost use Rattle.net_graph.specs.Nets.{IsNet};
 ghost use Rattle.net_graph.specs.Path.{route_of};
+ghost use Rattle.net_wave.specs.Changes.{Stay, shown_at};
 ghost use Rattle.net_wave.specs.Left as left;
 ghost use Rattle.net_wave.specs.Left.{IsPlaying};
 ghost use Rattle.net_wave.specs.Moments.{moments_text, untold};
@@ -17,7 +18,8 @@ ghost use Rattle.tap_machine.specs.declared.Stable.TheVariants.{Reset as InReset
 ghost use Rattle.tap_machine.specs.Play.{pins, scans_in};
 
 use crate::moments::{add_falling, add_rising};
-use crate::scene::Scene;
+use crate::scene::{Scene, shown};
+use crate::shown::{Shown, after_pins, has_shifts, looked_at, moves_stages};
 use crate::var::{Var, Window};
 use ij_bits::{List, OutOfMemory};
 use ij_io::SureSink;
@@ -37,8 +39,17 @@ const REST: Pins = Pins {
     bit: 0,
 };
 
+/// What stands at the pins before the first clock.
+const NOTHING: Shown = Shown {
+    pins: REST,
+    tdo: false,
+    tap: TapState::TestLogicReset,
+};
+
 /// A play on the bench of a network: its shift stages, its variables with the digits that were told last, whether none was
-/// told yet, the number of the next clock, and how many clocks are still to be written.
+/// told yet, the number of the next clock, and how many clocks are still to be written. `last` is what the clock before
+/// showed at the pins, `pins` a place among the variables from which on there is no pin, `shifts` whether there are shift
+/// stages, which are kept only then.
 #[derive(Drop)]
 pub(crate) struct Playing<'a> {
     pub net: &'a Net,
@@ -48,7 +59,11 @@ pub(crate) struct Playing<'a> {
     pub stages: Holds,
     pub vars: List<Var>,
     pub told: Vec<List<u8>>,
+    pub scratch: List<u8>,
     pub first: bool,
+    pub last: Shown,
+    pub pins: usize,
+    pub shifts: bool,
     pub clock: u64,
     pub left: u64,
 }
@@ -64,17 +79,6 @@ fn nothing_told(alloc: Global, count: usize) -> Result<Vec<List<u8>>, OutOfMemor
     Ok(told)
 }
 
-/// Whether a clock that begins in a state changes shift stages of the network.
-fn shifts_in(tap: TapState) -> bool
-    ensures { result ≡ left.shifts_in tap }
-{
-    match tap {
-        TapState::CaptureDr => true,
-        TapState::ShiftDr => true,
-        _ => false,
-    }
-}
-
 /// Gives the shift stages beside a bench what those of its active path hold, if they changed.
 fn copy_if(changed: bool, bench: &Bench, stages: &mut Holds)
     requires { AreHolds bench.now.net stages.old }
@@ -85,18 +89,18 @@ fn copy_if(changed: bool, bench: &Bench, stages: &mut Holds)
     }
 }
 
-/// One clock of a bench and of the shift stages beside it.
-fn step(bench: &mut Bench, stages: &mut Holds, pins: Pins)
+/// One clock of a bench, and of the shift stages beside it if they are to be kept.
+fn step(bench: &mut Bench, stages: &mut Holds, kept: bool, pins: Pins)
     requires well_formed { IsNet bench.old.net }
     requires shape { AreHolds bench.old.net stages.old }
-    requires stages { stages.old ≡ bench.old.state.stages }
+    requires stages { kept ≡ true → stages.old ≡ bench.old.state.stages }
     ensures bench { bench.new ≡ record bench.old { state = clock (chip_of bench.old) pins.tms pins.tdi bench.old.state } }
     ensures shape { AreHolds bench.old.net stages.new }
-    ensures stages { stages.new ≡ bench.new.state.stages }
+    ensures stages { kept ≡ true → stages.new ≡ bench.new.state.stages }
 {
-    let shifts = shifts_in(bench.tap());
+    let moves = moves_stages(kept, bench.tap());
     let _found = bench.clock(pins.tms, pins.tdi);
-    copy_if(shifts, bench, stages);
+    copy_if(moves, bench, stages);
 }
 
 impl<'a> Playing<'a> {
@@ -115,12 +119,15 @@ impl<'a> Playing<'a> {
         requires scans { scans_in commands.now ≤ 1000000000 }
         requires there { All (IsVar net.now (map seen_model models.now.items)) vars.items }
         ensures playing { IfOk result (λ playing. IsPlaying playing) }
+        ensures first { IfOk result (λ playing. playing.first ≡ true) }
         ensures text { IfOk result (λ playing. left.skipped_text window.from playing ≡ moments_text (moments_of (chip net.now device.now (map seen_model models.now.items)) (map seen_model models.now.items) vars.items (pins InReset 0 commands.now) window)) }
     {
         let bench = Bench::new(alloc, net, device, models)?;
         let player = Player::new(Stable::Reset, 0, commands);
         let stages = Holds::zeros(alloc, net)?;
         let told = nothing_told(alloc, vars.len())?;
+        let pins = after_pins(vars.as_slice());
+        let shifts = has_shifts(vars.as_slice());
         Ok(Playing {
             net,
             models,
@@ -129,7 +136,11 @@ impl<'a> Playing<'a> {
             stages,
             vars,
             told,
+            scratch: List::new(alloc),
             first: true,
+            last: NOTHING,
+            pins,
+            shifts,
             clock: window.from,
             left: window.count,
         })
@@ -137,7 +148,8 @@ impl<'a> Playing<'a> {
 
     /// Plays so many clocks, unless the play ends before, and writes nothing.
     pub(crate) fn skip(&mut self, clocks: u64)
-        requires { IsPlaying self.old }
+        requires playing { IsPlaying self.old }
+        requires first { self.old.first ≡ true }
         ensures playing { IsPlaying self.new }
         ensures text { left.left_text self.new ≡ left.skipped_text clocks self.old }
     {
@@ -145,7 +157,7 @@ impl<'a> Playing<'a> {
             let Some(pins) = self.player.next() else {
                 return;
             };
-            step(&mut self.bench, &mut self.stages, pins);
+            step(&mut self.bench, &mut self.stages, self.shifts, pins);
         }
     }
 
@@ -163,63 +175,76 @@ impl<'a> Playing<'a> {
         self.player.next()
     }
 
+    /// How many variables are to be looked at, from the first on, at a clock that shows something at the pins.
+    fn place(&self, now: &Shown) -> usize
+        requires { IsPlaying self.now }
+        ensures few { result ≤ length self.now.vars.items }
+        ensures all { self.now.first ≡ true → result ≡ length self.now.vars.items }
+        ensures stay { self.now.first ≡ false → Stay self.now.last now.now self.now.vars.items result }
+    {
+        if self.first {
+            return self.vars.len();
+        }
+        looked_at(
+            self.vars.as_slice(),
+            self.pins,
+            self.shifts,
+            &self.last,
+            now,
+        )
+    }
+
     /// Adds the moment at which a clock begins.
-    fn add_falling(
-        &mut self,
-        alloc: Global,
-        pins: Pins,
-        piece: &mut SureSink,
-    ) -> Result<(), OutOfMemory>
+    fn add_falling(&mut self, pins: Pins, piece: &mut SureSink) -> Result<(), OutOfMemory>
         requires { IsPlaying self.old }
-        ensures same { self.new ≡ record self.old { told = self.new.told } }
+        ensures same { self.new ≡ record self.old { told = self.new.told; scratch = self.new.scratch; last = self.new.last } }
+        ensures last { self.new.last ≡ shown_at (chip_of self.old.bench) pins self.old.bench.state }
         ensures told { OnOk result (left.told_of self.new.told.items ≡ left.values_at self.old pins) }
         ensures text { OnOk result (piece.new ≡ piece.old ++ left.falling_text self.old pins) }
     {
+        let now = shown(&self.bench, pins);
+        let place = self.place(&now);
+        let last = self.last;
+        self.last = now;
         let scene = Scene {
             net: self.net,
             models: self.models,
             bench: &self.bench,
             stages: &self.stages,
+            shifts: self.shifts,
             pins,
         };
         add_falling(
-            alloc,
             &scene,
             self.vars.as_slice(),
+            place,
             self.first,
+            &last,
             self.clock,
             &mut self.told,
+            &mut self.scratch,
             piece,
         )
     }
 
     /// Adds the moments of a clock, and goes on to the next.
-    fn add_clock(
-        &mut self,
-        alloc: Global,
-        pins: Pins,
-        piece: &mut SureSink,
-    ) -> Result<(), OutOfMemory>
+    fn add_clock(&mut self, pins: Pins, piece: &mut SureSink) -> Result<(), OutOfMemory>
         requires { IsPlaying self.old }
         ensures playing { OnOk result (IsPlaying self.new) }
         ensures text { OnOk result (piece.new ≡ piece.old ++ left.clock_text self.old pins) }
         ensures left { OnOk result (left.left_text self.new ≡ left.after_text self.old pins) }
         ensures count { OnOk result (self.new.left ≡ self.old.left) }
     {
-        self.add_falling(alloc, pins, piece)?;
+        self.add_falling(pins, piece)?;
         add_rising(self.clock, piece)?;
-        step(&mut self.bench, &mut self.stages, pins);
+        step(&mut self.bench, &mut self.stages, self.shifts, pins);
         self.first = false;
         self.clock = self.clock.saturating_add(1);
         Ok(())
     }
 
     /// Adds the moments of the next clock, or that of the end; answers whether there are more.
-    pub(crate) fn add_next(
-        &mut self,
-        alloc: Global,
-        piece: &mut SureSink,
-    ) -> Result<bool, OutOfMemory>
+    pub(crate) fn add_next(&mut self, piece: &mut SureSink) -> Result<bool, OutOfMemory>
         requires { IsPlaying self.old }
         ensures playing { IfOk result (λ more. more ≡ true → IsPlaying self.new) }
         ensures text { IfOk result (λ more. more ≡ true → left.IsFurther piece.old piece.new (left.left_text self.old) (left.left_text self.new)) }
@@ -228,11 +253,11 @@ impl<'a> Playing<'a> {
     {
         match self.next_pins() {
             None => {
-                self.add_falling(alloc, REST, piece)?;
+                self.add_falling(REST, piece)?;
                 Ok(false)
             }
             Some(pins) => {
-                self.add_clock(alloc, pins, piece)?;
+                self.add_clock(pins, piece)?;
                 Ok(true)
             }
         }

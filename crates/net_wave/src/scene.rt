@@ -1,74 +1,45 @@
 // What the variables are at one clock.
-ghost use Rattle.std.specs.Prelude.{◌≡◌, ◌<◌, ◌≤◌, ◌++◌, length, map, OnOk};
+ghost use Rattle.std.specs.Prelude.{◌≡◌, ◌<◌, ◌≤◌, ◌++◌, false, length, map, OnOk};
 ghost use Rattle.bench_report.specs.Report.{chip_of};
 ghost use Rattle.instruments.specs.OnNetwork.{outputs};
 ghost use Rattle.instruments.specs.Seen.{seen_model};
 ghost use Rattle.net_graph.specs.Path as paths;
+ghost use Rattle.net_wave.specs.Changes.{is_shift, shown_at};
 ghost use Rattle.net_wave.specs.Left.{IsScene};
 ghost use Rattle.net_wave.specs.Values as values;
 ghost use Rattle.net_wave.specs.Vars as vars;
 
-use crate::digits::{add_bits, add_digit, add_number, add_unknown};
+use crate::digits::{
+    add_bits, add_digit, add_number, add_unknown, differs, expect_digit, tap_code,
+};
 use crate::shapes::{input_at, output_at, row_width, word_at};
+use crate::shown::Shown;
 use crate::var::Var;
 use ij_bits::{List, OutOfMemory};
 use instruments::Model;
 use net_bench::Bench;
 use net_graph::{Holds, Net, Sig, row_of};
-use tap_machine::{Pins, TapState};
+use tap_machine::Pins;
 
-/// A bench with its shift stages at a clock that begins with some pins.
+/// A bench at a clock that begins with some pins, and its shift stages if they are to be shown.
 #[derive(Drop)]
 pub(crate) struct Scene<'s, 'a> {
     pub net: &'s Net,
     pub models: &'s List<Model>,
     pub bench: &'s Bench<'a>,
     pub stages: &'s Holds,
+    pub shifts: bool,
     pub pins: Pins,
 }
 
-/// The digit of what is expected, x where nothing is.
-fn expect_digit(expect: Option<bool>) -> u8
-    ensures { result ≡ values.expect_digit expect }
+/// What a clock of a bench with some pins shows at the pins.
+pub(crate) fn shown(bench: &Bench, pins: Pins) -> Shown
+    ensures { result ≡ shown_at (chip_of bench.now) pins bench.now.state }
 {
-    match expect {
-        None => b'x',
-        Some(false) => b'0',
-        Some(true) => b'1',
-    }
-}
-
-/// Whether another bit than this one is expected.
-fn differs(expect: Option<bool>, found: bool) -> bool
-    ensures { result ≡ values.differs expect found }
-{
-    match expect {
-        None => false,
-        Some(expect) => expect != found,
-    }
-}
-
-/// The code of a state of the TAP controller.
-fn tap_code(tap: TapState) -> u64
-    ensures { result ≡ values.tap_code tap }
-{
-    match tap {
-        TapState::TestLogicReset => 15,
-        TapState::RunTestIdle => 12,
-        TapState::SelectDrScan => 7,
-        TapState::CaptureDr => 6,
-        TapState::ShiftDr => 2,
-        TapState::Exit1Dr => 1,
-        TapState::PauseDr => 3,
-        TapState::Exit2Dr => 0,
-        TapState::UpdateDr => 5,
-        TapState::SelectIrScan => 4,
-        TapState::CaptureIr => 14,
-        TapState::ShiftIr => 10,
-        TapState::Exit1Ir => 9,
-        TapState::PauseIr => 11,
-        TapState::Exit2Ir => 8,
-        TapState::UpdateIr => 13,
+    Shown {
+        pins,
+        tdo: bench.tdo(),
+        tap: bench.tap(),
     }
 }
 
@@ -160,6 +131,7 @@ impl<'s, 'a> Scene<'s, 'a> {
     pub(crate) fn add_value(&self, var: Var, into: &mut List<u8>) -> Result<(), OutOfMemory>
         requires scene { IsScene self.now }
         requires there { vars.IsVar self.now.net.now (map seen_model self.now.models.now.items) var }
+        requires kept { self.now.shifts ≡ false → is_shift var ≡ false }
         ensures { OnOk result (into.new.items ≡ into.old.items ++ values.value (chip_of self.now.bench.now) (map seen_model self.now.models.now.items) var self.now.pins self.now.bench.now.state) }
     {
         match var {

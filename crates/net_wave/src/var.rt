@@ -1,4 +1,6 @@
 // What there is in a wave.
+ghost use Rattle.std.specs.Prelude.{◌≡◌};
+ghost use Rattle.net_wave.specs.Header as header;
 
 /// Which variables a wave has.
 #[derive(Clone, Copy, PartialEq, Eq, Debug)]
@@ -80,4 +82,22 @@ pub(crate) enum Item {
     Declare(Var),
     /// The innermost scope ends.
     Close,
+}
+
+/// Whether a variable is a pin, or says what stands there.
+pub(crate) fn is_pin(var: Var) -> bool
+    ensures { result ≡ header.is_pin var }
+{
+    match var {
+        Var::Tms => true,
+        Var::Tdi => true,
+        Var::Tdo => true,
+        Var::Expect => true,
+        Var::Differs => true,
+        Var::Tap => true,
+        Var::Instruction => true,
+        Var::Scan => true,
+        Var::Bit => true,
+        _ => false,
+    }
 }

@@ -46,7 +46,7 @@ fn put_moments<S: Shelf>(
     ensures loads { SameCounts (S.load_faults shelf.old) (S.load_faults shelf.new) }
 {
     let mut piece = piece;
-    while playing.add_next(alloc, &mut piece)? {
+    while playing.add_next(&mut piece)? {
         piece = next_piece(alloc, name, piece, shelf)?;
     }
     put_last_piece(name, &piece, shelf)

@@ -1,4 +1,4 @@
-use Rattle.std.proofs.Common.{◌≡◌, ◌/◌, ◌++◌, Bool, true, false, refl, arith}
+use Rattle.std.proofs.Common.{◌≡◌, ◌/◌, ◌++◌, true, false, refl, arith}
 use Rattle.std.specs.Prelude.{◌==◌}
 use Rattle.net_wave.specs.Codes.{code}
 use Rattle.std.proofs.lemmas.Bool.Decides.{nat_tests}

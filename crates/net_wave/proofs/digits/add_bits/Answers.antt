@@ -1,4 +1,4 @@
-use Rattle.std.proofs.Common.{◌≡◌, ◌++◌, ◌-◌, refl, arith}
+use Rattle.std.proofs.Common.{◌++◌, ◌-◌, refl}
 use Rattle.ij_bits.specs.BitLists.{bit}
 use Rattle.net_wave.specs.Values.{bits_digits}
 use Rattle.net_wave.proofs.DigitSteps.{digits_next}

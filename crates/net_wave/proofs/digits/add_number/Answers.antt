@@ -1,4 +1,4 @@
-use Rattle.std.proofs.Common.{◌≡◌, ◌++◌, ◌-◌, refl, arith}
+use Rattle.std.proofs.Common.{◌++◌, ◌-◌, refl}
 use Rattle.net_wave.specs.Values.{is_odd_at, number_digits}
 use Rattle.net_wave.proofs.DigitSteps.{digits_next}
 use Rattle.net_wave.proofs.digits.add_number.Goals as goal

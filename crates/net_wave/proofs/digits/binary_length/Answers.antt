@@ -1,4 +1,4 @@
-use Rattle.std.proofs.Common.{◌≡◌, arith}
+use Rattle.std.proofs.Common.{arith}
 use Rattle.net_wave.specs.Values.{binary_length}
 use Rattle.net_wave.proofs.DigitSteps.{length_ends, length_next}
 use Rattle.net_wave.proofs.digits.binary_length.Goals as goal

@@ -1,4 +1,4 @@
-use Rattle.std.proofs.Common.{◌≡◌, ◌+◌, ◌-◌, ◌≤◌}
+use Rattle.std.proofs.Common.{◌≡◌, ◌+◌, ◌-◌}
 use Rattle.net_wave.specs.Values.{binary_length}
 use Rattle.net_wave.proofs.digits.binary_length.Given as goal
 

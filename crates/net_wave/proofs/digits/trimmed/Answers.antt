@@ -1,4 +1,4 @@
-use Rattle.std.proofs.Common.{◌≡◌, sym, ◌∙◌}
+use Rattle.std.proofs.Common.{sym, ◌∙◌}
 use Rattle.net_wave.proofs.DigitSteps.{trimmed_short}
 use Rattle.net_wave.proofs.digits.trimmed.Goals as goal
 

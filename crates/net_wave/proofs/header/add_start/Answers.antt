@@ -1,4 +1,3 @@
-use Rattle.std.proofs.Common.{◌≡◌}
 use Rattle.net_wave.proofs.Joined.{three}
 use Rattle.net_wave.proofs.header.add_start.Goals as goal
 

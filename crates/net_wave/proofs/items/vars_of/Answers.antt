@@ -1,4 +1,3 @@
-use Rattle.std.proofs.Common.{◌≡◌}
 use Rattle.net_wave.specs.declared.var.Item.TheVariants.{Open}
 use Rattle.net_wave.specs.declared.var.Scope.TheVariants.{Node}
 use Rattle.net_wave.proofs.There.{vars_next}

@@ -1,5 +1,5 @@
-use Rattle.std.proofs.Common.{◌≡◌, ◌++◌, ℕ, All, List, map, ◌∙◌, ap, sym, subst}
-use Rattle.instruments.specs.Seen.{SeenModel, seen_model}
+use Rattle.std.proofs.Common.{◌++◌, ℕ, All, List, map, ◌∙◌, ap, sym, subst}
+use Rattle.instruments.specs.Seen.{seen_model}
 use Rattle.std.proofs.lemmas.List.{length-map}
 use Rattle.net_wave.specs.declared.var.Item.{Item}
 use Rattle.net_wave.specs.declared.var.Var.{Var}

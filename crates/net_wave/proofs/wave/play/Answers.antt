@@ -1,4 +1,4 @@
-use Rattle.std.proofs.Common.{◌≡◌, ◌∙◌}
+use Rattle.std.proofs.Common.{◌∙◌}
 use Rattle.net_wave.proofs.wave.play.Goals as goal
 
 pub returns-clause-text : goal.returns-clause-text

@@ -1,4 +1,4 @@
-use Rattle.std.proofs.Common.{◌≡◌, ◌++◌, ◌∷◌, [], ℕ, List, Option, ap, sym, ◌∙◌, subst, append-nil}
+use Rattle.std.proofs.Common.{[], ℕ, List, Option, sym, ◌∙◌, subst, append-nil}
 use Rattle.std.proofs.lemmas.Result.{on_err_weaker, on_ok_weaker}
 use Rattle.ij_io.specs.Bytes.{Adds}
 use Rattle.ij_io.proofs.Adding.{at_refusal}

@@ -1,4 +1,4 @@
-use Rattle.std.proofs.Common.{◌≡◌, ◌++◌, ℕ, List, refl, ap, sym, ◌∙◌}
+use Rattle.std.proofs.Common.{◌++◌, ℕ, List, refl, ap, sym, ◌∙◌}
 use Rattle.net_wave.specs.Left.{clock_text}
 use Rattle.net_wave.proofs.Leaving.{end_text, next_text}
 use Rattle.net_wave.proofs.playing.Playing.add_next.Goals as goal

@@ -1,4 +1,9 @@
-use Rattle.std.proofs.Common.{◌≡◌, ap, sym, ◌∙◌, subst, length}
+use Rattle.std.proofs.Common.{◌≡◌, ◌<◌, ◌≤◌, ℕ, List, false, get_or, ap, sym, ◌∙◌, subst, length}
+use Rattle.std.specs.List.{list_any}
+use Rattle.net_wave.specs.declared.var.Var.{Var}
+use Rattle.net_wave.specs.declared.var.Var.TheVariants.{Tms}
+use Rattle.net_wave.specs.Changes.{is_shift}
+use Rattle.net_wave.specs.Header.{is_pin}
 use Rattle.net_bench.specs.Board.{SeenBench}
 use Rattle.net_graph.specs.Held.{AreHolds}
 use Rattle.net_graph.specs.Signals.{Holds}
@@ -16,9 +21,13 @@ returns-clause-playing c =
       net = ap (λ (b : SeenBench). b.net) c.in_ok-bench.ensures;
       same_models = ap (λ (b : SeenBench). b.models) c.in_ok-bench.ensures;
       shape = subst (λ (x : Holds). AreHolds c.args.net.now x) (sym c.in_ok-stages.ensures) (zeros_held c.args.net.now);
-      stages = c.in_ok-stages.ensures ∙ sym (ap (λ (b : SeenBench). b.state.stages) c.in_ok-bench.ensures);
+      stages = λ e. c.in_ok-stages.ensures ∙ sym (ap (λ (b : SeenBench). b.state.stages) c.in_ok-bench.ensures);
       vars = c.requires.there;
       told = told_count c.in_ok-told.told.items (length c.args.vars.items) (c.in_ok-told.ensures ∙ ap untold c.len.ensures);
+      few = subst (λ (l : List Var). c.after_pins-pins.result ≤ length l) c.as_slice.ensures c.after_pins-pins.ensures.few;
+      pins = subst (λ (l : List Var). (k : ℕ) → c.after_pins-pins.result ≤ k → k < length l → is_pin (get_or l k Tms) ≡ false) c.as_slice.ensures c.after_pins-pins.ensures.rest;
+      shifts = λ e. sym (ap (list_any is_shift) c.as_slice-2.ensures) ∙ (sym c.has_shifts-shifts.ensures ∙ e);
+      known = λ e. absurd (cc);
     }
 
 pub returns-clause-text : goal.returns-clause-text

@@ -1,4 +1,3 @@
-use Rattle.std.proofs.Common.{◌≡◌}
 use Rattle.net_wave.proofs.Leaving.{next_taken}
 use Rattle.net_wave.proofs.playing.Playing.next_pins.Goals as goal
 

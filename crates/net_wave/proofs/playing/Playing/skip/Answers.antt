@@ -1,4 +1,4 @@
-use Rattle.std.proofs.Common.{◌≡◌, ◌+◌, ◌-◌, suc, refl, ◌∙◌, arith}
+use Rattle.std.proofs.Common.{◌≡◌, ◌+◌, ◌-◌, suc, true, false, refl, sym, ◌∙◌, arith}
 use Rattle.net_wave.proofs.Leaving.{played, skipped_all, skipped_next, skipped_none}
 use Rattle.net_wave.proofs.playing.Playing.skip.Goals as goal
 
@@ -13,7 +13,8 @@ loop-k-preserved c =
     let n = c.args.clocks - (c.loop-k._k + 1) in
     let more : m ≡ suc n = omega (arith, c.loop-k-test.true) in
     record {
-      playing = played p c.step.new.bench c.next.new.self c.step.new.stages p.told p.first p.clock _ c.loop-k.invariant.playing c.step.ensures.bench c.step.ensures.shape c.step.ensures.stages c.loop-k.invariant.playing.told;
+      playing = played p c.step.new.bench c.next.new.self c.step.new.stages p.told p.scratch p.last p.first p.clock _ c.loop-k.invariant.playing c.step.ensures.bench c.step.ensures.shape c.step.ensures.stages c.loop-k.invariant.playing.told (λ e. absurd (let wrong : true ≡ false = sym c.loop-k.invariant.first ∙ e in cc));
+      first = c.loop-k.invariant.first;
       text = skipped_next p c.step.new.bench c.next.new.self c.step.new.stages m n c.in-Some.pins more c.in-Some.ensures.given c.step.ensures.bench ∙ c.loop-k.invariant.text;
     }
 

@@ -1,4 +1,4 @@
-use Rattle.std.proofs.Common.{◌≡◌, ◌+◌, ◌-◌, ◌<◌, ◌++◌, length, List, refl, ap, sym, ◌∙◌, subst, arith}
+use Rattle.std.proofs.Common.{◌-◌, ◌<◌, ◌++◌, length, List, refl, ap, sym, ◌∙◌, subst, arith}
 use Rattle.bench_report.specs.Report.{chip_of}
 use Rattle.instruments.specs.OnNetwork.{outputs}
 use Rattle.net_graph.specs.declared.net.Net.{Net}

@@ -1,4 +1,4 @@
-use Rattle.std.proofs.Common.{◌≡◌, ◌++◌, ◌-◌, refl}
+use Rattle.std.proofs.Common.{◌++◌, ◌-◌, refl}
 use Rattle.bench_report.specs.Report.{chip_of}
 use Rattle.instruments.specs.OnNetwork.{outputs}
 use Rattle.net_wave.specs.Values.{digits}

@@ -1,4 +1,4 @@
-use Rattle.std.proofs.Common.{◌≡◌, ap, length, arith}
+use Rattle.std.proofs.Common.{ap, length, arith}
 use Rattle.std.proofs.lemmas.List.{length-map}
 use Rattle.instruments.specs.Seen.{seen_model}
 use Rattle.net_wave.proofs.scene.Scene.add_word.Goals as goal

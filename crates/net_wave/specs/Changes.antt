@@ -1,0 +1,79 @@
+-- What may change from one clock to the next: at the pins what stands there, on the chip what a clock between two states of the TAP
+-- controller can move (IEEE 1149.1-2013, clause 6; IEEE 1687-2014, hardware rules: capture, shift, update, reset and instruments).
+use Rattle.std.specs.Prelude.{◌≡◌, ◌<◌, ◌≤◌, ℕ, ◌==◌, ◌||◌, ◌&&◌, not, Bool, true, false, List, get_or, length}
+use Rattle.ij_bits.specs.BitLists.{same_bit}
+use Rattle.instruments.specs.declared.Counts.{Counts}
+use Rattle.instruments.specs.Seen.{SeenModel}
+use Rattle.net_bench.specs.Bench.{Chip, State, clock, tdo}
+use Rattle.tap_machine.specs.declared.Pins.{Pins}
+use Rattle.tap_machine.specs.declared.TapState.{TapState}
+use Rattle.tap_machine.specs.declared.TapState.TheVariants.{TestLogicReset, RunTestIdle, CaptureDr, ShiftDr, UpdateDr, UpdateIr}
+use Rattle.net_wave.specs.declared.shown.Shown.{Shown}
+use Rattle.net_wave.specs.declared.var.Var.{Var}
+use Rattle.net_wave.specs.declared.var.Var.TheVariants.{Tms, Tdi, Tdo, Expect, Differs, Tap, Instruction, Scan, Bit, Update, Shift, OnPath, Row, Input, Output, Word}
+use Rattle.net_wave.specs.Values.{differs, expect_digit, tap_code, values}
+
+-- ---- what a clock moves, by the states in which it begins and ends
+
+abbrev pub shifts_in : TapState → Bool
+shifts_in CaptureDr = true
+shifts_in ShiftDr = true
+shifts_in _ = false
+
+abbrev pub updates : TapState → Bool
+updates UpdateDr = true
+updates TestLogicReset = true
+updates _ = false
+
+abbrev pub loads : TapState → Bool
+loads UpdateIr = true
+loads TestLogicReset = true
+loads _ = false
+
+abbrev pub is_idle : TapState → Bool
+is_idle RunTestIdle = true
+is_idle _ = false
+
+-- instruments have an event at an update, a reset and a run
+abbrev pub runs : TapState → TapState → Bool
+runs before now = updates now || (is_idle before && is_idle now)
+
+-- ---- variables
+
+-- what a clock shows at the pins
+abbrev pub shown_at : Chip Counts → Pins → State Counts → Shown
+shown_at chip p s = record { pins = p; tdo = tdo chip s; tap = s.tap }
+
+-- whether a variable may have another value at a clock than at the one before it
+abbrev pub may_change : Shown → Shown → Var → Bool
+may_change b n Tms = not (same_bit b.pins.tms n.pins.tms)
+may_change b n Tdi = not (same_bit b.pins.tdi n.pins.tdi)
+may_change b n Tdo = not (same_bit b.tdo n.tdo)
+may_change b n Expect = not (expect_digit b.pins.expect == expect_digit n.pins.expect)
+may_change b n Differs = not (same_bit (differs b.pins.expect b.tdo) (differs n.pins.expect n.tdo))
+may_change b n Tap = not (tap_code b.tap == tap_code n.tap)
+may_change b n Instruction = loads n.tap
+may_change b n Scan = not (b.pins.scan == n.pins.scan)
+may_change b n Bit = not (b.pins.bit == n.pins.bit)
+may_change b n (Update r) = updates n.tap
+may_change b n (Shift r) = shifts_in b.tap
+may_change b n (OnPath r) = updates n.tap
+may_change b n (Row m) = updates n.tap
+may_change b n (Input i p) = runs b.tap n.tap
+may_change b n (Output i p) = runs b.tap n.tap
+may_change b n (Word i w) = runs b.tap n.tap
+
+abbrev pub is_shift : Var → Bool
+is_shift (Shift r) = true
+is_shift _ = false
+
+-- the variables from a place on stay from this clock to the next
+abbrev pub Stay : Shown → Shown → List Var → ℕ → Type 0
+Stay before now vars place = (k : ℕ) → place ≤ k → k < length vars → may_change before now (get_or vars k Tms) ≡ false
+
+-- what was told are the values of the clock before, which began in a state with these pins
+pub record WasTold (chip : Chip Counts) (models : List SeenModel) (vars : List Var) (told : List (List ℕ)) (last : Shown) (s : State Counts) : Type 0 where
+  pub before : State Counts
+  pub all : told ≡ values chip models vars last.pins before
+  pub shown : last ≡ shown_at chip last.pins before
+  pub next : s ≡ clock chip last.pins.tms last.pins.tdi before

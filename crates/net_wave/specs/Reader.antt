@@ -1,0 +1,71 @@
+-- A reader of value change dumps (IEEE 1364-2005, 18.2): what a text tells of a variable at a time. It knows of the text alone, and nothing of
+-- what wrote it.
+use Rattle.std.specs.Prelude.{ℕ, zero, suc, ◌+◌, ◌*◌, ◌-◌, ◌==◌, nat_lt, cond, List, [], ◌∷◌, ◌++◌, length, map}
+use Rattle.std.specs.Str.{bytes_eq}
+
+-- ---- lines and words
+
+abbrev pub put_first : ℕ → List (List ℕ) → List (List ℕ)
+put_first x [] = (x ∷ []) ∷ []
+put_first x (l ∷ ls) = (x ∷ l) ∷ ls
+
+-- what stands between the bytes of one value
+abbrev pub split : ℕ → List ℕ → List (List ℕ)
+split at [] = [] ∷ []
+split at (x ∷ xs) = cond (x == at) ([] ∷ split at xs) (put_first x (split at xs))
+
+-- a line feed is 10, a blank 32
+abbrev pub lines : List ℕ → List (List ℕ)
+lines text = split 10 text
+
+abbrev pub words : List ℕ → List (List ℕ)
+words line = split 32 line
+
+-- the number that decimal digits are, after those of another
+abbrev pub number_from : ℕ → List ℕ → ℕ
+number_from n [] = n
+number_from n (d ∷ ds) = number_from (10 * n + (d - 48)) ds
+
+-- ---- what a line tells
+
+-- a time begins; a variable, by its code, has these digits from now on; anything else
+pub data Event : Type 0 where
+  At : ℕ → Event
+  Told : List ℕ → List ℕ → Event
+  Other : Event
+
+-- after b (98): digits and a code
+abbrev pub vector : List (List ℕ) → Event
+vector [] = Other
+vector (digits ∷ []) = Other
+vector (digits ∷ code ∷ []) = Told code digits
+vector (digits ∷ code ∷ _ ∷ _) = Other
+
+-- # (35) begins a time, $ (36) a word of the format, b more bits than one; else the first byte is the bit and the rest the code
+abbrev pub event : List ℕ → Event
+event [] = Other
+event (c ∷ rest) =
+    cond (c == 35) (At (number_from 0 rest)) (cond (c == 36) Other (cond (c == 98) (vector (words rest)) (Told rest (c ∷ []))))
+
+abbrev pub events : List ℕ → List Event
+events text = map event (lines text)
+
+-- ---- what a variable is at a time
+
+-- the digits that the variable of a code was told last, up to a time: those before the first time after it
+abbrev pub told_at : ℕ → List ℕ → List ℕ → List Event → List ℕ
+told_at time code last [] = last
+told_at time code last (At t ∷ es) = cond (nat_lt time t) last (told_at time code last es)
+told_at time code last (Told c digits ∷ es) = told_at time code (cond (bytes_eq c code) digits last) es
+told_at time code last (Other ∷ es) = told_at time code last es
+
+-- with zeros (48) at the left, up to the width of the variable
+abbrev pub zeros : ℕ → List ℕ
+zeros zero = []
+zeros (suc n) = 48 ∷ zeros n
+
+abbrev pub padded : ℕ → List ℕ → List ℕ
+padded width digits = zeros (width - length digits) ++ digits
+
+abbrev pub read_value : List ℕ → List ℕ → ℕ → ℕ → List ℕ
+read_value text code width time = padded width (told_at time code [] (events text))
