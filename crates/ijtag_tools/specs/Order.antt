@@ -205,7 +205,7 @@ tighten t = record {
   leaves = tightened t.svf;
 }
 
--- ---- wave: the file has the waves of a play, of all its clocks or of some, and it is told whether a compare of the play differs
+-- ---- wave: the file has the waves of a play, of all its clocks or of some, and it is reported whether a compare of the play differs
 
 -- no more clocks are written than a procedure may run
 abbrev pub within_if : Bool → Window → Part Window

@@ -71,7 +71,7 @@ is_shift _ = false
 abbrev pub Stay : Shown → Shown → List Var → ℕ → Type 0
 Stay before now vars place = (k : ℕ) → place ≤ k → k < length vars → may_change before now (get_or vars k Tms) ≡ false
 
--- what was told are the values of the clock before, which began in a state with these pins
+-- what was written are the values of the clock before, which began in a state with these pins
 pub record WasTold (chip : Chip Counts) (models : List SeenModel) (vars : List Var) (told : List (List ℕ)) (last : Shown) (s : State Counts) : Type 0 where
   pub before : State Counts
   pub all : told ≡ values chip models vars last.pins before

@@ -1,4 +1,4 @@
--- The identifier codes of variables (IEEE 1364-2005, 18.2.3.7: printable bytes), by their numbers: TCK has 0, the others count from 1.
+-- The identifier codes of variables (IEEE 1364-2005, 18.2.3: printable bytes), by their numbers: TCK has 0, the others count from 1.
 use Rattle.std.specs.Prelude.{ℕ, zero, suc, ◌+◌, ◌-◌, ◌/◌, ◌%◌, ◌==◌, cond, List, [], ◌∷◌}
 
 -- at most so many digits in base 94, the lowest first; 33 is the first printable byte. In bijective base a longer code begins where

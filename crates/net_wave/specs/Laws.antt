@@ -15,7 +15,7 @@ use Rattle.net_wave.specs.Reader.{read_value}
 use Rattle.net_wave.specs.Values.{values}
 use Rattle.std.specs.Prelude.{false}
 
--- the digits that a variable was told last, and those that it had before where it was told none
+-- the digits that a variable was written last, and those that it had before where it was written none
 abbrev pub last_told : ℕ → List ℕ → List Change → List ℕ
 last_told n digits [] = digits
 last_told n digits (c ∷ cs) = last_told n (cond (c.number == n) c.digits digits) cs
@@ -32,7 +32,7 @@ MomentsReplay =
     → replayed (i + 1) (take (2 * j + 1) (moments_from chip models vars true from (untold (length vars)) ps s)) ≡ get_or (values chip models vars (get_or ps j (no_shift false)) (after_pins chip (take j ps) s)) i []
 
 -- A reader of the text of these moments finds, under the code of a variable and at the time at which clock j begins, exactly the digits of this
--- clock, with the zeros that were left out; so at the end of the last clock. Times that 64 bits hold are told apart.
+-- clock, with the zeros that were left out; so at the end of the last clock. Times that 64 bits hold are kept apart.
 abbrev pub MomentsAreRead : Type 0
 MomentsAreRead =
     (chip : Chip Counts) (models : List SeenModel) (vars : List Var) (ps : List Pins) (s : State Counts) (from i j : ℕ) → i < length vars → length vars < 2 ^ 32 → j ≤ length ps → 2 * (from + length ps) + 1 < 2 ^ 64

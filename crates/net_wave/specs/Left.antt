@@ -20,7 +20,7 @@ use Rattle.net_wave.specs.Moments.{falling, moment_text, moments_from, moments_t
 use Rattle.net_wave.specs.Values.{values}
 use Rattle.net_wave.specs.Vars.{IsVar}
 
--- the digits that were told last
+-- the digits that were written last
 abbrev pub told_of : List (Listed ℕ) → List (List ℕ)
 told_of told = map (λ digits. digits.items) told
 
@@ -37,7 +37,7 @@ pub record IsScene (s : Scene) : Type 0 where
 abbrev pub models_of : Playing → List SeenModel
 models_of p = map seen_model p.models.now.items
 
--- the same of a play; no variable from the place `pins` on is a pin, and after the first clock the values of the clock before were told
+-- the same of a play; no variable from the place `pins` on is a pin, and after the first clock the values of the clock before were written
 pub record IsPlaying (p : Playing) : Type 0 where
   pub well_formed : IsNet p.net.now
   pub models : AreModels p.net.now p.models.now.items

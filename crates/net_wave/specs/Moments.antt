@@ -33,7 +33,7 @@ falls = record { number = 0; digits = 48 ∷ [] }
 abbrev pub rises : Change
 rises = record { number = 0; digits = 49 ∷ [] }
 
--- a variable, where it is told first or has other digits than before
+-- a variable, where it is written first or has other digits than before
 abbrev pub change_if : Bool → ℕ → List ℕ → List ℕ → List Change
 change_if first number before now =
     cond (first || not (bytes_eq before now)) (record { number = number; digits = now } ∷ []) []
@@ -45,7 +45,7 @@ change_at first before now i = change_if first (suc i) (get_or before i []) (get
 abbrev pub changes : Bool → List (List ℕ) → List (List ℕ) → List Change
 changes first before now = up_to (change_at first before now) (length now)
 
--- before the first moment nothing is told of any variable
+-- before the first moment nothing is written of any variable
 abbrev pub nothing : ℕ → List (List ℕ)
 nothing i = [] ∷ []
 

@@ -6,7 +6,7 @@ use crate::texts::add;
 use ij_bits::OutOfMemory;
 use ij_io::SureSink;
 
-/// Adds the identifier code of a variable, by its number (IEEE 1364-2005, 18.2.3.7).
+/// Adds the identifier code of a variable, by its number (IEEE 1364-2005, 18.2.3).
 pub(crate) fn add_code(number: u64, piece: &mut SureSink) -> Result<(), OutOfMemory>
     ensures { OnOk result (piece.new ≡ piece.old ++ code number) }
 {

@@ -15,7 +15,7 @@ pub fn moments_are_read()
     ensures { MomentsAreRead }
 {}
 
-/// No two variables have one code (IEEE 1364-2005, 18.2.3.7).
+/// No two variables have one code (IEEE 1364-2005, 18.2.3).
 pub fn codes_differ()
     ensures { CodesDiffer }
 {}

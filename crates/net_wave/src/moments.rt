@@ -40,7 +40,7 @@ fn add_change(number: u64, digits: &[u8], piece: &mut SureSink) -> Result<(), Ou
     Ok(())
 }
 
-/// Adds the digits of a variable, if they are told first or are others than were told last, and keeps them as told.
+/// Adds the digits of a variable, if they are written first or are others than were written last, and keeps them as written.
 fn add_if_new(
     number: u64,
     first: bool,
@@ -58,7 +58,7 @@ fn add_if_new(
     Ok(())
 }
 
-/// Adds a variable, by its number, if it is told first or has changed, and keeps what is told. What it is now is found in
+/// Adds a variable, by its number, if it is written first or has changed, and keeps what is written. What it is now is found in
 /// `scratch`.
 fn add_var(
     scene: &Scene,
@@ -86,7 +86,7 @@ fn add_var(
     Ok(())
 }
 
-/// Adds the variables that are new at a clock, and keeps what is told. Those from `place` on stay.
+/// Adds the variables that are new at a clock, and keeps what is written. Those from `place` on stay.
 pub(crate) fn add_changes(
     scene: &Scene,
     vars: &[Var],

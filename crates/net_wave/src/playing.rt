@@ -46,8 +46,8 @@ const NOTHING: Shown = Shown {
     tap: TapState::TestLogicReset,
 };
 
-/// A play on the bench of a network: its shift stages, its variables with the digits that were told last, whether none was
-/// told yet, the number of the next clock, and how many clocks are still to be written. `last` is what the clock before
+/// A play on the bench of a network: its shift stages, its variables with the digits that were written last, whether none was
+/// written yet, the number of the next clock, and how many clocks are still to be written. `last` is what the clock before
 /// showed at the pins, `pins` a place among the variables from which on there is no pin, `shifts` whether there are shift
 /// stages, which are kept only then.
 #[derive(Drop)]

@@ -21,7 +21,7 @@ pub(crate) struct Range {
     pub right: u32,
 }
 
-/// How many bits a variable has, and their indexes where these are told.
+/// How many bits a variable has, and their indexes where these are written.
 #[derive(Clone, Copy, Drop)]
 pub(crate) struct Shape {
     pub width: u32,

@@ -23,7 +23,7 @@ pub struct Window {
     pub count: u64,
 }
 
-/// A variable (IEEE 1364-2005, 18.2.3.7). TCK isn't among them: it toggles at each half clock.
+/// A variable (IEEE 1364-2005, 18.2.3). TCK isn't among them: it toggles at each half clock.
 #[derive(Clone, Copy, Drop)]
 pub(crate) enum Var {
     /// TMS.
