@@ -15,7 +15,7 @@ use Rattle.net_wave.specs.Reader.{read_value}
 use Rattle.net_wave.specs.Values.{values}
 use Rattle.std.specs.Prelude.{false}
 
--- the digits that a variable was written last, and those that it had before where it was written none
+-- the digits that were written last of a variable, and those that it had before where none were
 abbrev pub last_told : ℕ → List ℕ → List Change → List ℕ
 last_told n digits [] = digits
 last_told n digits (c ∷ cs) = last_told n (cond (c.number == n) c.digits digits) cs

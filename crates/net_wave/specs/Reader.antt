@@ -52,7 +52,7 @@ events text = map event (lines text)
 
 -- ---- what a variable is at a time
 
--- the digits that the variable of a code was written last, up to a time: those before the first time after it
+-- the digits that were written last of the variable of a code, up to a time: those before the first time after it
 abbrev pub told_at : ℕ → List ℕ → List ℕ → List Event → List ℕ
 told_at time code last [] = last
 told_at time code last (At t ∷ es) = cond (nat_lt time t) last (told_at time code last es)
