@@ -17,9 +17,7 @@ use ijtag_core::{Effect, SVF_LIMIT};
 use ijtag_stages::{Stage, StageFault, refused};
 use ijtag_work::{Accepted, Stop, Texts, Verdict};
 use std::alloc::Global;
-use svf_notes::{
-    explained_commands_stay, explained_len, explained_most, put_explained_file,
-};
+use svf_notes::{explained_commands_stay, explained_len, explained_most, put_explained_file};
 
 /// Refuses a text with notes that is too long to be read again. It is played only where the lengths of its scans don't tell that
 /// it is short.
