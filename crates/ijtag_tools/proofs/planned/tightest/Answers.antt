@@ -11,7 +11,7 @@ pub returns-then-is_within : goal.returns-then-is_within
 returns-then-is_within c =
     let it : SeenAccepted = seen_accepted c.args.it.now in
     let sound : IsSound it c.in-Some.planned = subst (λ (found : Option Planned). IfSome found (IsSound it)) c.in-Some.is c.in_ok-planned.ensures in
-    other it c.in_ok-compiled.compiled c.in-Some.planned c.in_ok-least.least c.in_ok-least.ensures c.in_ok-compiled.ensures sound (c.is_within.ensures c.if-is_within.true).0 (c.is_within.ensures c.if-is_within.true).1
+    other it c.in_ok-compiled.compiled c.in-Some.planned c.in_ok-least.least c.in_ok-least.ensures c.in_ok-compiled.ensures sound (c.is_within.ensures.0 c.if-is_within.true).0 (c.is_within.ensures.0 c.if-is_within.true).1
 
 pub returns : goal.returns
 returns c =
