@@ -299,12 +299,12 @@ module _ (plan : Plan) where
         (sym (picked_both area_of areas_of_things (row_wire on from f ∷ drawn plan on start items) (rows_drawn plan active row from (suc q) next rest) mine others (picked_row area_of areas_of_things on from f (drawn plan on start items)) refl))
         (row_fits f (fan_after plan next rest) p mine others h fit (rows_fit active row from (suc q) next rest (next_fan f p mine h fit)))
 
-  pub form_apart : (form : Items) → AreApart (areas_in (drawing_by plan form).shapes) × All (IsWithin (drawing_by plan form).width (drawing_by plan form).height) (areas_in (drawing_by plan form).shapes)
-  form_apart form =
+  pub form_apart : (on : Bool) (form : Items) → AreApart (areas_in (drawing_by on plan form).shapes) × All (IsWithin (drawing_by on plan form).width (drawing_by on plan form).height) (areas_in (drawing_by on plan form).shapes)
+  form_apart on form =
       let p : Pen = pen_after plan first_pen form in
-      let mine : List Area = areas_in (drawn plan true first_pen form) in
+      let mine : List Area = areas_in (drawn plan on first_pen form) in
       let start : IsPen first_pen = record { below = omega arith; line = omega arith; within = omega arith; deep = omega arith } in
-      let fit : Fits first_pen p mine = items_fit true first_pen form start in
-      let all : areas_in (shapes_of plan form) ≡ mine = picked_both area_of areas_of_things (drawn plan true first_pen form) (Wire p.x p.y p.x (p.x + 18) p.y true ∷ []) mine [] refl refl ∙ append-nil mine in
+      let fit : Fits first_pen p mine = items_fit on first_pen form start in
+      let all : areas_in (shapes_of on plan form) ≡ mine = picked_both area_of areas_of_things (drawn plan on first_pen form) (Wire p.x p.y p.x (p.x + 18) p.y on ∷ []) mine [] refl refl ∙ append-nil mine in
       let inside : (a : Area) → EndsAt p a → IsWithin (p.right + 66) (p.bottom + 20) a = λ a e. record { whole = e.whole; right = omega (arith, e.right); bottom = omega (arith, e.bottom) } in
       (subst AreApart (sym all) fit.apart, subst (All (IsWithin (p.right + 66) (p.bottom + 20))) (sym all) (All-weaker (EndsAt p) (IsWithin (p.right + 66) (p.bottom + 20)) inside mine fit.ends))

@@ -26,7 +26,7 @@ use Rattle.net_picture.specs.Layout.{drawn, pen_after, fan_after, row_ends, rows
 use Rattle.net_picture.specs.Line.{Lead, lead_of, leads_in, IsLine}
 use Rattle.net_picture.specs.Pens.{start_at, is_full, next_line, ready, after_register, after_row, fan_at, funnel_at}
 use Rattle.net_picture.specs.Plan.{Plan, box_of, mux_of, plan_of}
-use Rattle.net_picture.proofs.Marking.{other_row, row_known}
+use Rattle.net_picture.proofs.Marking.{other_row, row_known, path_there}
 
 -- two lines, one after the other
 line_then : (x y u v to_x to_y : ℕ) (ls ks : List Lead) → IsLine x y ls u v → IsLine u v ks to_x to_y → IsLine x y (ls ++ ks) to_x to_y
@@ -273,7 +273,7 @@ module _ (net : Net) (holds : Holds) (plan : Plan) (listed : AreListed net holds
         let ms = muxes_in items in
         (has_rows p items w.1 (IsRoute-front (length net.muxes.items) ms (muxes_in_rows rest) r), rows_have p rs rest w.2 (IsRoute-back (length net.muxes.items) ms (muxes_in_rows rest) r))
 
-  pub form_leads : (form : Items) → Describes net form → IsLine 48 36 (leads_in (drawing_by plan form).shapes) (drawing_by plan form).x (drawing_by plan form).y
+  pub form_leads : (form : Items) → Describes net form → IsLine 48 36 (leads_in (drawing_by true plan form).shapes) (drawing_by true plan form).x (drawing_by true plan form).y
   form_leads form d =
       let p : Pen = pen_after plan first_pen form in
       leads_then 48 36 p.x p.y (p.x + 18) p.y (drawn plan true first_pen form) (Wire p.x p.y p.x (p.x + 18) p.y true ∷ [])
@@ -281,4 +281,6 @@ module _ (net : Net) (holds : Holds) (plan : Plan) (listed : AreListed net holds
 
 pub lines : (net : Net) (form : Items) (holds : Holds) → Describes net form → AreListed net holds → IsLine 48 36 (leads_in (drawing_of net holds form).shapes) (drawing_of net holds form).x (drawing_of net holds form).y
 lines net form holds d listed =
-    form_leads net holds (plan_of net holds) listed (row_known net holds) form d
+    let plan = plan_of net holds in
+    subst (λ (b : Bool). IsLine 48 36 (leads_in (drawing_by b plan form).shapes) (drawing_by b plan form).x (drawing_by b plan form).y) (sym (path_there net form holds d listed))
+    (form_leads net holds plan listed (row_known net holds) form d)

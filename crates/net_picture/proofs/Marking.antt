@@ -1,6 +1,7 @@
 -- The boxes in colour are those that a walk through the form meets.
 use Rattle.std.proofs.Common.{◌≡◌, ℕ, suc, ◌+◌, ◌<◌, ◌≤◌, Bool, true, false, List, [], ◌∷◌, ◌++◌, Option, Some, None, ⊎_elim, length, refl, sym, ap, ◌∙◌, arith, append_assoc, append-nil}
 use Rattle.std.specs.Prelude.{reverse, option_map}
+use Rattle.std.specs.Option.{is_some}
 use Rattle.std.proofs.lemmas.Bool.{ne_eqb}
 use Rattle.std.proofs.lemmas.Bool.Decides.{eqb_tells}
 use Rattle.std.proofs.lemmas.List.{reverse-append, reverse-reverse}
@@ -18,7 +19,7 @@ use Rattle.net_picture.specs.declared.plan.MuxPlan.{MuxPlan}
 use Rattle.net_picture.specs.declared.pen.Pen.{Pen}
 use Rattle.net_picture.specs.declared.pen.Fan.{Fan}
 use Rattle.net_picture.specs.declared.shape.Shape.TheVariants.{Wire}
-use Rattle.net_picture.specs.Drawing.{first_pen, shapes_of, drawing_of}
+use Rattle.net_picture.specs.Drawing.{first_pen, shapes_of, drawing_of, has_path}
 use Rattle.net_picture.specs.Layout.{drawn, pen_after, rows_drawn, register_drawn, mux_drawn, pen_past, row_wire, is_row}
 use Rattle.net_picture.specs.Marked.{active_box_of, active_boxes_in}
 use Rattle.net_picture.specs.Pens.{start_at, ready, after_register, after_row, fan_at}
@@ -168,12 +169,18 @@ row_known net holds m there =
     let at : 0 + m ≡ m = omega arith in
     ap (λ (x : MuxPlan). x.row) (get_or-map-range_with_len (mux_plan net holds) 0 (length net.muxes.items) m m (record { values = 0; name = 0; row = None }) there at)
 
+-- where each multiplexer is in one of its rows there is a path
+pub path_there : (net : Net) (form : Items) (holds : Holds) → Describes net form → AreListed net holds → has_path net holds ≡ true
+path_there net form holds d listed =
+    ap is_some (has_walk net holds form d (λ m l. some_of (mux_source net holds m) (listed m l))).traced
+
 pub marked : (net : Net) (form : Items) (holds : Holds) → Describes net form → AreListed net holds → path net holds ≡ Some (active_boxes_in (drawing_of net holds form).shapes)
 marked net form holds d listed =
     let plan = plan_of net holds in
     let w = has_walk net holds form d (λ m l. some_of (mux_source net holds m) (listed m l)) in
     let p = pen_after plan first_pen form in
     let mine : List ℕ = active_boxes_in (drawn plan true first_pen form) in
-    let all : active_boxes_in (shapes_of plan form) ≡ mine = picked_both active_box_of of_boxes (drawn plan true first_pen form) (Wire p.x p.y p.x (p.x + 18) p.y true ∷ []) mine [] refl refl ∙ append-nil mine in
+    let all : active_boxes_in (shapes_of true plan form) ≡ mine = picked_both active_box_of of_boxes (drawn plan true first_pen form) (Wire p.x p.y p.x (p.x + 18) p.y true ∷ []) mine [] refl refl ∙ append-nil mine in
     let meets : w.path ≡ reverse mine = on plan net holds (row_known net holds) first_pen form [] w.path d.muxes.different w.walked ∙ append-nil (reverse mine) in
     ap (option_map reverse) w.traced ∙ ap (λ (xs : List ℕ). Some (reverse xs)) meets ∙ ap Some (reverse-reverse mine) ∙ ap Some (sym all)
+    ∙ ap (λ (b : Bool). Some (active_boxes_in (shapes_of b plan form))) (sym (path_there net form holds d listed))

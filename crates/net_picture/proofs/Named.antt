@@ -13,7 +13,7 @@ use Rattle.net_picture.specs.declared.pen.Fan.{Fan}
 use Rattle.net_picture.specs.declared.shape.Shape.{Shape}
 use Rattle.net_picture.specs.declared.shape.Shape.TheVariants.{Register, Mux, Values, Wire}
 use Rattle.net_picture.specs.declared.shape.RowEnd.{RowEnd}
-use Rattle.net_picture.specs.Drawing.{Drawing, first_pen, shapes_of, drawing_by, drawing_of}
+use Rattle.net_picture.specs.Drawing.{Drawing, first_pen, shapes_of, drawing_by, drawing_of, has_path}
 use Rattle.net_picture.specs.Layout.{drawn, pen_after, fan_after, row_ends, rows_drawn, register_drawn, mux_drawn, mux_close, pen_past, turn_back, wire_to, row_wire, row_shown, row_close, row_closes, is_row}
 use Rattle.net_picture.specs.Pens.{start_at, is_full, ready, after_register, after_row, fan_at, funnel_at}
 use Rattle.net_picture.specs.Plan.{Plan, box_of, mux_of, plan_of}
@@ -95,27 +95,28 @@ module _ (net : Net) where
           (items_there on start items (IsRoute-front (length net.regs.items) rs (registers_in_rows rest) regs) (IsRoute-front (length net.muxes.items) ms (muxes_in_rows rest) muxes)))
           (rows_there active row p (suc q) next rest (IsRoute-back (length net.regs.items) rs (registers_in_rows rest) regs) (IsRoute-back (length net.muxes.items) ms (muxes_in_rows rest) muxes))
 
-    pub form_there : (form : Items) → Describes net form → All P (shapes_of plan form)
-    form_there form d =
+    pub form_there : (on : Bool) (form : Items) → Describes net form → All P (shapes_of on plan form)
+    form_there on form d =
         let p = pen_after plan first_pen form in
-        All-append P (drawn plan true first_pen form) (Wire p.x p.y p.x (p.x + 18) p.y true ∷ []) (items_there true first_pen form d.registers.different d.muxes.different)
-        (one_wire p.x p.y p.x (p.x + 18) p.y true)
+        All-append P (drawn plan on first_pen form) (Wire p.x p.y p.x (p.x + 18) p.y on ∷ []) (items_there on first_pen form d.registers.different d.muxes.different)
+        (one_wire p.x p.y p.x (p.x + 18) p.y on)
 
 -- a drawing, from its shapes but the last wire and from where they end
-abbrev made : Pen → List Shape → Drawing
-made p shapes =
-    record { shapes = shapes ++ Wire p.x p.y p.x (p.x + 18) p.y true ∷ []; width = p.right + 66; height = p.bottom + 20; x = p.x + 18; y = p.y }
+abbrev made : Bool → Pen → List Shape → Drawing
+made on p shapes =
+    record { shapes = shapes ++ Wire p.x p.y p.x (p.x + 18) p.y on ∷ []; width = p.right + 66; height = p.bottom + 20; x = p.x + 18; y = p.y }
 
-pub drawing_is : (net : Net) (holds : Holds) (form : Items) (plan : Plan) (start end : Pen) (none shapes all : List Shape) (x width height : ℕ)
-    → plan ≡ plan_of net holds → start ≡ start_at 48 36 → end ≡ pen_after plan start form → none ≡ [] → shapes ≡ none ++ drawn plan true start form
-    → all ≡ shapes ++ Wire end.x end.y end.x x end.y true ∷ [] → x ≡ end.x + 18 → width ≡ end.right + 66 → height ≡ end.bottom + 20
+pub drawing_is : (net : Net) (holds : Holds) (form : Items) (on : Bool) (plan : Plan) (start end : Pen) (none shapes all : List Shape) (x width height : ℕ)
+    → on ≡ has_path net holds → plan ≡ plan_of net holds → start ≡ start_at 48 36 → end ≡ pen_after plan start form → none ≡ [] → shapes ≡ none ++ drawn plan on start form
+    → all ≡ shapes ++ Wire end.x end.y end.x x end.y on ∷ [] → x ≡ end.x + 18 → width ≡ end.right + 66 → height ≡ end.bottom + 20
     → ◌≡◌ {A = Drawing} (record { shapes = all; width = width; height = height; x = x; y = end.y }) (drawing_of net holds form)
-drawing_is net holds form plan start end none shapes all x width height pi si ei ni di ai xi wi hi =
+drawing_is net holds form on plan start end none shapes all x width height oi pi si ei ni di ai xi wi hi =
     let last : end ≡ pen_after plan first_pen form = ei ∙ ap (λ (p : Pen). pen_after plan p form) si in
-    let drew : shapes ≡ drawn plan true first_pen form = di ∙ ap (λ (xs : List Shape). xs ++ drawn plan true start form) ni ∙ ap (λ (p : Pen). drawn plan true p form) si in
-    let more : all ≡ shapes ++ Wire end.x end.y end.x (end.x + 18) end.y true ∷ [] = ai ∙ ap (λ (n : ℕ). shapes ++ Wire end.x end.y end.x n end.y true ∷ []) xi in
+    let drew : shapes ≡ drawn plan on first_pen form = di ∙ ap (λ (xs : List Shape). xs ++ drawn plan on start form) ni ∙ ap (λ (p : Pen). drawn plan on p form) si in
+    let more : all ≡ shapes ++ Wire end.x end.y end.x (end.x + 18) end.y on ∷ [] = ai ∙ ap (λ (n : ℕ). shapes ++ Wire end.x end.y end.x n end.y on ∷ []) xi in
     let of : List Shape → ℕ → ℕ → ℕ → Drawing = λ s n m k. record { shapes = s; width = n; height = m; x = k; y = end.y } in
-    let shaped : of all width height x ≡ of (shapes ++ Wire end.x end.y end.x (end.x + 18) end.y true ∷ []) width height x = ap (λ (s : List Shape). of s width height x) more in
-    let s : List Shape = shapes ++ Wire end.x end.y end.x (end.x + 18) end.y true ∷ [] in
+    let shaped : of all width height x ≡ of (shapes ++ Wire end.x end.y end.x (end.x + 18) end.y on ∷ []) width height x = ap (λ (s : List Shape). of s width height x) more in
+    let s : List Shape = shapes ++ Wire end.x end.y end.x (end.x + 18) end.y on ∷ [] in
     shaped ∙ ap (λ (n : ℕ). of s n height x) wi ∙ ap (λ (m : ℕ). of s (end.right + 66) m x) hi ∙ ap (λ (k : ℕ). of s (end.right + 66) (end.bottom + 20) k) xi
-    ∙ ap (λ (p : Pen). made p shapes) last ∙ ap (made (pen_after plan first_pen form)) drew ∙ ap (λ (q : Plan). drawing_by q form) pi
+    ∙ ap (λ (p : Pen). made on p shapes) last ∙ ap (made on (pen_after plan first_pen form)) drew ∙ ap (λ (q : Plan). drawing_by on q form) pi
+    ∙ ap (λ (b : Bool). drawing_by b (plan_of net holds) form) oi

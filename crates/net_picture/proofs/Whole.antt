@@ -11,7 +11,7 @@ use Rattle.net_picture.specs.declared.pen.Pen.{Pen}
 use Rattle.net_picture.specs.declared.pen.Fan.{Fan}
 use Rattle.net_picture.specs.declared.shape.Shape.{Shape}
 use Rattle.net_picture.specs.declared.shape.Shape.TheVariants.{Register, Mux, Wire}
-use Rattle.net_picture.specs.Drawing.{shapes_of, first_pen, drawing_of}
+use Rattle.net_picture.specs.Drawing.{shapes_of, first_pen, drawing_of, has_path}
 use Rattle.net_picture.specs.Layout.{drawn, pen_after, fan_after, rows_drawn, register_drawn, mux_drawn, pen_past, row_wire, is_row}
 use Rattle.net_picture.specs.Pens.{start_at, ready, after_register, after_row, fan_at, funnel_at}
 use Rattle.net_picture.specs.Plan.{Plan, box_of, mux_of, plan_of}
@@ -71,11 +71,11 @@ module _ (f : Shape → List ℕ) (reg mux : ℕ → List ℕ) (k : Picks f reg 
         (gathered_rows active row p (suc q) next rest)
 
   -- the last wire gives nothing
-  whole_form : (form : Items) → flat_map f (shapes_of plan form) ≡ gather reg mux form
-  whole_form form =
+  whole_form : (on : Bool) (form : Items) → flat_map f (shapes_of on plan form) ≡ gather reg mux form
+  whole_form on form =
       let p : Pen = pen_after plan first_pen form in
-      picked_both f k.of_things (drawn plan true first_pen form) (Wire p.x p.y p.x (p.x + 18) p.y true ∷ []) (gather reg mux form) [] (gathered true first_pen form)
-      (ap (λ (xs : List ℕ). xs ++ []) (k.of_things.wire p.x p.y p.x (p.x + 18) p.y true))
+      picked_both f k.of_things (drawn plan on first_pen form) (Wire p.x p.y p.x (p.x + 18) p.y on ∷ []) (gather reg mux form) [] (gathered on first_pen form)
+      (ap (λ (xs : List ℕ). xs ++ []) (k.of_things.wire p.x p.y p.x (p.x + 18) p.y on))
       ∙ append-nil (gather reg mux form)
 
 mutual
@@ -180,8 +180,8 @@ pub whole : (net : Net) (form : Items) (holds : Holds) → Describes net form
     → IsEachOnce (length net.regs.items) (boxes_in (drawing_of net holds form).shapes) × IsEachOnce (length net.muxes.items) (funnels_in (drawing_of net holds form).shapes)
 whole net form holds d =
     let plan = plan_of net holds in
-    let boxes : registers_in form ≡ boxes_in (drawing_of net holds form).shapes = sym (whole_form box_of_shape one none boxes_pick plan form ∙ boxes_are form) in
-    let funnels : after form ≡ funnels_in (drawing_of net holds form).shapes = sym (whole_form funnel_of_shape none one funnels_pick plan form) in (
+    let boxes : registers_in form ≡ boxes_in (drawing_of net holds form).shapes = sym (whole_form box_of_shape one none boxes_pick plan (has_path net holds) form ∙ boxes_are form) in
+    let funnels : after form ≡ funnels_in (drawing_of net holds form).shapes = sym (whole_form funnel_of_shape none one funnels_pick plan (has_path net holds) form) in (
       subst (IsEachOnce (length net.regs.items)) boxes d.registers,
       subst (IsEachOnce (length net.muxes.items)) funnels (record { different = route (length net.muxes.items) form d.muxes.different; count = count form ∙ d.muxes.count }),
     )

@@ -1,6 +1,8 @@
 -- The drawing of a network in a state.
-use Rattle.std.specs.Prelude.{ℕ, ◌+◌, true, List, [], ◌∷◌, ◌++◌}
+use Rattle.std.specs.Prelude.{ℕ, ◌+◌, Bool, List, [], ◌∷◌, ◌++◌}
+use Rattle.std.specs.Option.{is_some}
 use Rattle.net_graph.specs.declared.net.Net.{Net}
+use Rattle.net_graph.specs.Path.{active}
 use Rattle.net_graph.specs.Signals.{Holds}
 use Rattle.net_tree.specs.Form.{Items}
 use Rattle.net_picture.specs.declared.drawing.Drawing.{Drawing as Drawn}
@@ -23,19 +25,23 @@ pub record Drawing : Type 0 where
 abbrev pub first_pen : Pen
 first_pen = start_at 48 36
 
--- the items, and the wire to TDO
-abbrev pub shapes_of : Plan → Items → List Shape
-shapes_of plan form =
-    let p = pen_after plan first_pen form in
-    drawn plan true first_pen form ++ Wire p.x p.y p.x (p.x + 18) p.y true ∷ []
+-- whether there is an active path
+abbrev pub has_path : Net → Holds → Bool
+has_path net holds = is_some (active net holds)
 
-abbrev pub drawing_by : Plan → Items → Drawing
-drawing_by plan form =
+-- the items, and the wire to TDO; in colour only where there is an active path
+abbrev pub shapes_of : Bool → Plan → Items → List Shape
+shapes_of on plan form =
     let p = pen_after plan first_pen form in
-    record { shapes = shapes_of plan form; width = p.right + 66; height = p.bottom + 20; x = p.x + 18; y = p.y }
+    drawn plan on first_pen form ++ Wire p.x p.y p.x (p.x + 18) p.y on ∷ []
+
+abbrev pub drawing_by : Bool → Plan → Items → Drawing
+drawing_by on plan form =
+    let p = pen_after plan first_pen form in
+    record { shapes = shapes_of on plan form; width = p.right + 66; height = p.bottom + 20; x = p.x + 18; y = p.y }
 
 abbrev pub drawing_of : Net → Holds → Items → Drawing
-drawing_of net holds form = drawing_by (plan_of net holds) form
+drawing_of net holds form = drawing_by (has_path net holds) (plan_of net holds) form
 
 abbrev pub seen_drawing : Drawn → Drawing
 seen_drawing d =

@@ -3,7 +3,7 @@ ghost use Rattle.std.specs.Prelude.{◌≡◌, All, IfOk};
 ghost use Rattle.net_graph.specs.Held.{AreHolds};
 ghost use Rattle.net_graph.specs.Nets.{IsNet};
 ghost use Rattle.net_tree.specs.Form.{Describes};
-ghost use Rattle.net_picture.specs.Drawing.{drawing_of, seen_drawing};
+ghost use Rattle.net_picture.specs.Drawing.{drawing_of, has_path, seen_drawing};
 ghost use Rattle.net_picture.specs.There.{IsShapeOf};
 
 use crate::layout::draw_items;
@@ -12,7 +12,7 @@ use crate::pen::Pen;
 use crate::plan::plan_of;
 use crate::shape::Shape;
 use ij_bits::OutOfMemory;
-use net_graph::{Holds, Net};
+use net_graph::{Holds, Net, path};
 use net_tree::Tree;
 use std::alloc::Global;
 
@@ -32,6 +32,21 @@ pub(crate) struct Drawing {
     pub view: View,
 }
 
+/// Whether there is an active path.
+fn has_path(alloc: Global, net: &Net, holds: &Holds) -> Result<bool, OutOfMemory>
+    requires well_formed { IsNet net.now }
+    requires holds { AreHolds net.now holds.now }
+    ensures { IfOk result (λ on. on ≡ has_path net.now holds.now) }
+{
+    match path(alloc, net, holds)? {
+        Some(registers) => {
+            drop(registers);
+            Ok(true)
+        }
+        None => Ok(false),
+    }
+}
+
 /// The drawing of a network in a state.
 pub(crate) fn drawing_of(
     alloc: Global,
@@ -45,10 +60,11 @@ pub(crate) fn drawing_of(
     ensures drawing { IfOk result (λ drawing. seen_drawing drawing ≡ drawing_of net.now holds.now tree.now) }
     ensures there { IfOk result (λ drawing. All (IsShapeOf net.now) drawing.shapes.items) }
 {
+    let on = has_path(alloc, net, holds)?;
     let plan = plan_of(alloc, net, holds)?;
     let mut shapes = Vec::new(alloc);
     let start = Pen::start_at(48, 36)?;
-    let end = draw_items(alloc, &plan, true, tree.entries(), start, &mut shapes)?;
+    let end = draw_items(alloc, &plan, on, tree.entries(), start, &mut shapes)?;
     let x = plus(end.x, 18)?;
     let width = plus(end.right, 66)?;
     let height = plus(end.bottom, 20)?;
@@ -58,7 +74,7 @@ pub(crate) fn drawing_of(
         turn: end.x,
         to_x: x,
         to_y: end.y,
-        active: true,
+        active: on,
     })?;
     let view = View {
         width,

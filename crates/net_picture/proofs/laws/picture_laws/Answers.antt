@@ -1,3 +1,4 @@
+use Rattle.net_picture.specs.Drawing.{has_path}
 use Rattle.net_picture.specs.Plan.{plan_of}
 use Rattle.net_picture.proofs.Areas.{form_apart}
 use Rattle.net_picture.proofs.Lining.{lines}
@@ -9,7 +10,7 @@ pub returns-clause-whole : goal.returns-clause-whole
 returns-clause-whole c net form holds d = whole net form holds d
 
 pub returns-clause-apart : goal.returns-clause-apart
-returns-clause-apart c net form holds = form_apart (plan_of net holds) form
+returns-clause-apart c net form holds = form_apart (plan_of net holds) (has_path net holds) form
 
 pub returns-clause-marked : goal.returns-clause-marked
 returns-clause-marked c net form holds d listed = marked net form holds d listed
