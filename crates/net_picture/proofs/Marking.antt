@@ -19,11 +19,11 @@ use Rattle.net_picture.specs.declared.plan.MuxPlan.{MuxPlan}
 use Rattle.net_picture.specs.declared.pen.Pen.{Pen}
 use Rattle.net_picture.specs.declared.pen.Fan.{Fan}
 use Rattle.net_picture.specs.declared.shape.Shape.TheVariants.{Wire}
-use Rattle.net_picture.specs.Drawing.{first_pen, shapes_of, drawing_of, has_path}
+use Rattle.net_picture.specs.Drawing.{first_pen, shapes_of, drawing_of}
 use Rattle.net_picture.specs.Layout.{drawn, pen_after, rows_drawn, register_drawn, mux_drawn, pen_past, row_wire, is_row}
 use Rattle.net_picture.specs.Marked.{active_box_of, active_boxes_in}
 use Rattle.net_picture.specs.Pens.{start_at, ready, after_register, after_row, fan_at}
-use Rattle.net_picture.specs.Plan.{Plan, box_of, mux_of, mux_plan, plan_of}
+use Rattle.net_picture.specs.Plan.{Plan, box_of, mux_of, mux_plan, plan_of, has_path}
 use Rattle.net_picture.proofs.Gathering.{IsOfThings, picked_register, picked_mux, picked_row, picked_both}
 
 of_boxes : IsOfThings active_box_of

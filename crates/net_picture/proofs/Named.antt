@@ -13,10 +13,10 @@ use Rattle.net_picture.specs.declared.pen.Fan.{Fan}
 use Rattle.net_picture.specs.declared.shape.Shape.{Shape}
 use Rattle.net_picture.specs.declared.shape.Shape.TheVariants.{Register, Mux, Values, Wire}
 use Rattle.net_picture.specs.declared.shape.RowEnd.{RowEnd}
-use Rattle.net_picture.specs.Drawing.{Drawing, first_pen, shapes_of, drawing_by, drawing_of, has_path}
+use Rattle.net_picture.specs.Drawing.{Drawing, first_pen, shapes_of, drawing_by, drawing_of}
 use Rattle.net_picture.specs.Layout.{drawn, pen_after, fan_after, row_ends, rows_drawn, register_drawn, mux_drawn, mux_close, pen_past, turn_back, wire_to, row_wire, row_shown, row_close, row_closes, is_row}
 use Rattle.net_picture.specs.Pens.{start_at, is_full, ready, after_register, after_row, fan_at, funnel_at}
-use Rattle.net_picture.specs.Plan.{Plan, box_of, mux_of, plan_of}
+use Rattle.net_picture.specs.Plan.{Plan, box_of, mux_of, plan_of, has_path}
 use Rattle.net_picture.specs.There.{IsShapeOf}
 
 module _ (net : Net) where

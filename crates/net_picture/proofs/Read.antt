@@ -29,6 +29,7 @@ use Rattle.net_list.specs.Forms.{items, tern_digit, tern_digits, tern_text}
 use Rattle.net_list.specs.Listing.{lines_from}
 use Rattle.net_tree.specs.Lawful.{selects_of}
 use Rattle.net_picture.specs.Dot.{dot_head, dot_text, edge_style, graph_text, is_marked, is_met, labelled_edge, met, mux_edges, mux_node, node_letters, node_number, node_style, node_text, output_edge, register_edge, register_node, row_line, row_source, select_edge}
+use Rattle.net_picture.specs.Plan.{has_path}
 use Rattle.net_picture.specs.Edges.{Node, Tdi, Tdo, Register, Multiplexer, Link, Source, Row, Select, Edge, node_of, edge_to_register, edge_of_row, edge_of_select, edges_to_mux, edge_to_scan_out, edges}
 use Rattle.net_picture.specs.Labels.{ends_of, range_if, range_of, range_text, register_label, row_values, short, short_values}
 use Rattle.net_picture.specs.ReadEdges.{read_edges}
@@ -199,11 +200,11 @@ module _ (net : Net) (n : IsNet net) where
       from_point (Reg b.reg) (register_there net b there) 109 (decimal m) text (Multiplexer m) Select (mux_word net m n less) dashed
 
   -- the last edge has the end of the text after it
-  read_output : (p : Point) → IsPointOf net p → Reads (codes "  " ++ (node_letters p ++ (node_number p ++ (codes " -> tdo [" ++ (edge_style true ++ (codes "];\n}\n" ++ [])))))) (record { from = node_of p; to = Tdo; link = Source } ∷ [])
-  read_output p there = cases p there
+  read_output : (on : Bool) (p : Point) → IsPointOf net p → Reads (codes "  " ++ (node_letters p ++ (node_number p ++ (codes " -> tdo [" ++ (edge_style on ++ (codes "];\n}\n" ++ [])))))) (record { from = node_of p; to = Tdo; link = Source } ∷ [])
+  read_output on p there = cases p there
     where
       text : List ℕ
-      text = edge_style true ++ (codes "];\n" ++ [])
+      text = edge_style on ++ (codes "];\n" ++ [])
 
       last : Reads (codes "}\n") []
       last = λ rest. refl
@@ -214,21 +215,27 @@ module _ (net : Net) (n : IsNet net) where
       edge : Node → Edge
       edge from = record { from = from; to = Tdo; link = Source }
 
+      after : List ℕ → List ℕ
+      after t = 32 ∷ 45 ∷ 62 ∷ 32 ∷ 116 ∷ (codes "do" ++ 32 ∷ 91 ∷ t)
+
+      closed : after text ++ codes "}\n" ≡ after (edge_style on ++ (codes "];\n}\n" ++ []))
+      closed = ap after (append_assoc (edge_style on) (codes "];\n" ++ []) (codes "}\n"))
+
       -- letters and digits before it
       numbered : (letter : ℕ) (digits : List ℕ) (from : Node) → Reads (32 ∷ 32 ∷ letter ∷ (digits ++ tail)) (edge from ∷ [])
-          → Reads (32 ∷ 32 ∷ letter ∷ (digits ++ (tail ++ codes "}\n"))) (edge from ∷ [])
+          → Reads (32 ∷ 32 ∷ letter ∷ (digits ++ after (edge_style on ++ (codes "];\n}\n" ++ [])))) (edge from ∷ [])
       numbered letter digits from reads =
-          subst (λ (t : List ℕ). Reads (32 ∷ 32 ∷ letter ∷ t) (edge from ∷ [])) (append_assoc digits tail (codes "}\n"))
+          subst (λ (t : List ℕ). Reads (32 ∷ 32 ∷ letter ∷ t) (edge from ∷ [])) (append_assoc digits tail (codes "}\n") ∙ ap (λ (t : List ℕ). digits ++ t) closed)
           (reads_both (32 ∷ 32 ∷ letter ∷ (digits ++ tail)) (codes "}\n") (edge from ∷ []) [] reads last)
 
-      cases : (p : Point) → IsPointOf net p → Reads (codes "  " ++ (node_letters p ++ (node_number p ++ (codes " -> tdo [" ++ (edge_style true ++ (codes "];\n}\n" ++ [])))))) (edge (node_of p) ∷ [])
-      cases Entry there = numbered 116 (codes "di") Tdi (from_point Entry there 116 (codes "do") text Tdo Source tdo_word (plain_style true))
-      cases (Reg r) there = numbered 114 (decimal r) (Register r) (from_point (Reg r) there 116 (codes "do") text Tdo Source tdo_word (plain_style true))
-      cases (Mux m) there = numbered 109 (decimal m) (Multiplexer m) (from_point (Mux m) there 116 (codes "do") text Tdo Source tdo_word (plain_style true))
+      cases : (p : Point) → IsPointOf net p → Reads (codes "  " ++ (node_letters p ++ (node_number p ++ (codes " -> tdo [" ++ (edge_style on ++ (codes "];\n}\n" ++ [])))))) (edge (node_of p) ∷ [])
+      cases Entry there = numbered 116 (codes "di") Tdi (from_point Entry there 116 (codes "do") text Tdo Source tdo_word (plain_style on))
+      cases (Reg r) there = numbered 114 (decimal r) (Register r) (from_point (Reg r) there 116 (codes "do") text Tdo Source tdo_word (plain_style on))
+      cases (Mux m) there = numbered 109 (decimal m) (Multiplexer m) (from_point (Mux m) there 116 (codes "do") text Tdo Source tdo_word (plain_style on))
 
-  read_output_edge : Reads (output_edge net) (edge_to_scan_out net ∷ [])
+  read_output_edge : (on : Bool) → Reads (output_edge net on) (edge_to_scan_out net ∷ [])
   unfolding output_edge
-  read_output_edge = read_output net.out n.output
+  read_output_edge on = read_output on net.out n.output
 
   -- ---- nodes
 
@@ -299,8 +306,8 @@ module _ (net : Net) (n : IsNet net) where
   unfolding dot_head
   read_head = λ rest. refl
 
-  read_graph : (holds : Holds) (marked : Option Point) (points : List Point) → Reads (graph_text net holds marked points) (edges net)
-  read_graph holds marked points =
+  read_graph : (holds : Holds) (on : Bool) (marked : Option Point) (points : List Point) → Reads (graph_text net holds on marked points) (edges net)
+  read_graph holds on marked points =
       let regs = length net.regs.items in
       let muxes = length net.muxes.items in
       let nodes = lines_from (register_node net marked points) 0 regs in
@@ -310,17 +317,17 @@ module _ (net : Net) (n : IsNet net) where
       let one = map (edge_to_register net) (range_with_len 0 regs) in
       let two = flat_map (edges_to_mux net) (range_with_len 0 muxes) in
       let three = edge_to_scan_out net ∷ [] in
-      reads_both dot_head (nodes ++ (funnels ++ (to_regs ++ (to_muxes ++ output_edge net)))) [] (one ++ (two ++ three)) read_head
-      (reads_both nodes (funnels ++ (to_regs ++ (to_muxes ++ output_edge net))) [] (one ++ (two ++ three))
+      reads_both dot_head (nodes ++ (funnels ++ (to_regs ++ (to_muxes ++ output_edge net on)))) [] (one ++ (two ++ three)) read_head
+      (reads_both nodes (funnels ++ (to_regs ++ (to_muxes ++ output_edge net on))) [] (one ++ (two ++ three))
       (subst (Reads nodes) (none_each (range_with_len 0 regs)) (read_lines (register_node net marked points) none 0 regs (λ r below. read_register_node marked points r)))
-      (reads_both funnels (to_regs ++ (to_muxes ++ output_edge net)) [] (one ++ (two ++ three))
+      (reads_both funnels (to_regs ++ (to_muxes ++ output_edge net on)) [] (one ++ (two ++ three))
       (subst (Reads funnels) (none_each (range_with_len 0 muxes)) (read_lines (mux_node net marked points) none 0 muxes (λ m below. read_mux_node marked points m)))
-      (reads_both to_regs (to_muxes ++ output_edge net) one (two ++ three)
+      (reads_both to_regs (to_muxes ++ output_edge net on) one (two ++ three)
       (subst (Reads to_regs) (one_each (edge_to_register net) (range_with_len 0 regs)) (read_lines (register_edge net points) (λ r. edge_to_register net r ∷ []) 0 regs (λ r below. read_register_edge points r (omega (arith, below)))))
-      (reads_both to_muxes (output_edge net) two three
+      (reads_both to_muxes (output_edge net on) two three
       (read_lines (mux_edges net holds points) (edges_to_mux net) 0 muxes (λ m below. read_mux_edges holds points m (omega (arith, below))))
-      read_output_edge))))
+      (read_output_edge on)))))
 
 pub edges_read : (net : Net) (holds : Holds) (marked : Option Point) → IsNet net → read_edges (dot_text net holds marked) ≡ edges net
 edges_read net holds marked n =
-    ap read_edges (sym (append-nil (dot_text net holds marked))) ∙ read_graph net n holds marked (met net holds) [] ∙ append-nil (edges net)
+    ap read_edges (sym (append-nil (dot_text net holds marked))) ∙ read_graph net n holds (has_path net holds) marked (met net holds) [] ∙ append-nil (edges net)

@@ -11,10 +11,10 @@ use Rattle.net_picture.specs.declared.pen.Pen.{Pen}
 use Rattle.net_picture.specs.declared.pen.Fan.{Fan}
 use Rattle.net_picture.specs.declared.shape.Shape.{Shape}
 use Rattle.net_picture.specs.declared.shape.Shape.TheVariants.{Register, Mux, Wire}
-use Rattle.net_picture.specs.Drawing.{shapes_of, first_pen, drawing_of, has_path}
+use Rattle.net_picture.specs.Drawing.{shapes_of, first_pen, drawing_of}
 use Rattle.net_picture.specs.Layout.{drawn, pen_after, fan_after, rows_drawn, register_drawn, mux_drawn, pen_past, row_wire, is_row}
 use Rattle.net_picture.specs.Pens.{start_at, ready, after_register, after_row, fan_at, funnel_at}
-use Rattle.net_picture.specs.Plan.{Plan, box_of, mux_of, plan_of}
+use Rattle.net_picture.specs.Plan.{Plan, box_of, mux_of, plan_of, has_path}
 use Rattle.net_picture.specs.Whole.{box_of_shape, funnel_of_shape, boxes_in, funnels_in}
 use Rattle.net_picture.proofs.Gathering.{IsOfThings, picked_register, picked_mux, picked_row, picked_both}
 

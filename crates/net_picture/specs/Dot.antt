@@ -14,6 +14,7 @@ use Rattle.net_tree.specs.Lawful.{selects_of}
 use Rattle.net_tree.specs.Places.{same_point}
 use Rattle.net_picture.specs.Labels.{register_label, short_values}
 use Rattle.net_picture.specs.Layout.{is_row}
+use Rattle.net_picture.specs.Plan.{has_path}
 
 -- what stands before a point on the active path; nothing before scan-in, or before a multiplexer that is in none of its rows
 abbrev pub before : Net → Holds → Point → Option Point
@@ -27,8 +28,12 @@ met_from net holds zero p = []
 met_from net holds (suc n) None = []
 met_from net holds (suc n) (Some p) = p ∷ met_from net holds n (before net holds p)
 
+abbrev pub met_back : Net → Holds → List Point
+met_back net holds = met_from net holds (length net.regs.items + length net.muxes.items) (Some net.out)
+
+-- the same where there is an active path, and else nothing
 abbrev pub met : Net → Holds → List Point
-met net holds = met_from net holds (length net.regs.items + length net.muxes.items) (Some net.out)
+met net holds = cond (has_path net holds) (met_back net holds) []
 
 abbrev pub is_met : List Point → Point → Bool
 is_met points p = list_any (same_point p) points
@@ -101,18 +106,18 @@ abbrev pub mux_edges : Net → Holds → List Point → ℕ → List ℕ
 mux_edges net holds points m =
     lines_from (row_line net (is_met points (Mux m)) (row_of net holds m) m) 0 (length (rows_of net m)) ++ flat_map (select_edge m) (selects_of net m)
 
-unfoldable pub output_edge : Net → List ℕ
-output_edge net =
-    codes "  " ++ (node_letters net.out ++ (node_number net.out ++ (codes " -> tdo [" ++ (edge_style true ++ (codes "];\n}\n" ++ [])))))
+unfoldable pub output_edge : Net → Bool → List ℕ
+output_edge net active =
+    codes "  " ++ (node_letters net.out ++ (node_number net.out ++ (codes " -> tdo [" ++ (edge_style active ++ (codes "];\n}\n" ++ [])))))
 
 unfoldable pub dot_head : List ℕ
 dot_head =
     codes "digraph net {\n  rankdir=LR;\n  node [shape=box, fontname=\"monospace\", fontsize=10];\n  edge [fontname=\"monospace\", fontsize=9];\n  tdi [label=\"TDI\", shape=cds];\n  tdo [label=\"TDO\", shape=cds];\n"
 
-abbrev pub graph_text : Net → Holds → Option Point → List Point → List ℕ
-graph_text net holds marked points =
-    dot_head ++ (lines_from (register_node net marked points) 0 (length net.regs.items) ++ (lines_from (mux_node net marked points) 0 (length net.muxes.items) ++ (lines_from (register_edge net points) 0 (length net.regs.items) ++ (lines_from (mux_edges net holds points) 0 (length net.muxes.items) ++ output_edge net))))
+abbrev pub graph_text : Net → Holds → Bool → Option Point → List Point → List ℕ
+graph_text net holds on marked points =
+    dot_head ++ (lines_from (register_node net marked points) 0 (length net.regs.items) ++ (lines_from (mux_node net marked points) 0 (length net.muxes.items) ++ (lines_from (register_edge net points) 0 (length net.regs.items) ++ (lines_from (mux_edges net holds points) 0 (length net.muxes.items) ++ output_edge net on))))
 
 -- the network, with what is on the active path of a state, and one thing that is marked
 abbrev pub dot_text : Net → Holds → Option Point → List ℕ
-dot_text net holds marked = graph_text net holds marked (met net holds)
+dot_text net holds marked = graph_text net holds (has_path net holds) marked (met net holds)

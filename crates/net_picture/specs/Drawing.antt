@@ -1,8 +1,6 @@
 -- The drawing of a network in a state.
 use Rattle.std.specs.Prelude.{ℕ, ◌+◌, Bool, List, [], ◌∷◌, ◌++◌}
-use Rattle.std.specs.Option.{is_some}
 use Rattle.net_graph.specs.declared.net.Net.{Net}
-use Rattle.net_graph.specs.Path.{active}
 use Rattle.net_graph.specs.Signals.{Holds}
 use Rattle.net_tree.specs.Form.{Items}
 use Rattle.net_picture.specs.declared.drawing.Drawing.{Drawing as Drawn}
@@ -11,7 +9,7 @@ use Rattle.net_picture.specs.declared.shape.Shape.{Shape}
 use Rattle.net_picture.specs.declared.shape.Shape.TheVariants.{Wire}
 use Rattle.net_picture.specs.Layout.{drawn, pen_after}
 use Rattle.net_picture.specs.Pens.{start_at}
-use Rattle.net_picture.specs.Plan.{Plan, plan_of}
+use Rattle.net_picture.specs.Plan.{Plan, has_path, plan_of}
 
 -- the shapes, the size of the view, and where TDO is written
 pub record Drawing : Type 0 where
@@ -24,10 +22,6 @@ pub record Drawing : Type 0 where
 -- the wire from TDI begins here
 abbrev pub first_pen : Pen
 first_pen = start_at 48 36
-
--- whether there is an active path
-abbrev pub has_path : Net → Holds → Bool
-has_path net holds = is_some (active net holds)
 
 -- the items, and the wire to TDO; in colour only where there is an active path
 abbrev pub shapes_of : Bool → Plan → Items → List Shape

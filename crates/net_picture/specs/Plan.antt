@@ -1,12 +1,17 @@
 -- What has to be known of a network and its state before it is drawn.
-use Rattle.std.specs.Prelude.{ℕ, List, get_or, length, map, None}
+use Rattle.std.specs.Prelude.{ℕ, Bool, List, get_or, length, map, None}
 use Rattle.std.specs.List.{range_with_len}
+use Rattle.std.specs.Option.{is_some}
 use Rattle.net_graph.specs.declared.net.Net.{Net}
-use Rattle.net_graph.specs.Path.{row_of, rows_of}
+use Rattle.net_graph.specs.Path.{active, row_of, rows_of}
 use Rattle.net_graph.specs.Signals.{Holds}
 use Rattle.net_picture.specs.declared.plan.MuxPlan.{MuxPlan}
 use Rattle.net_picture.specs.declared.plan.Plan.{Plan as Tables}
 use Rattle.net_picture.specs.Labels.{box_width, name_room, values_room}
+
+-- whether there is an active path
+abbrev pub has_path : Net → Holds → Bool
+has_path net holds = is_some (active net holds)
 
 -- the width of each register's box, and of each multiplexer the room beside its funnel and the row that it is in
 pub record Plan : Type 0 where

@@ -15,6 +15,7 @@ ghost use Rattle.net_tree.specs.Lawful.{selects_of};
 use crate::labels::{mux_label, register_label};
 use crate::layout::is_row;
 use crate::met::{is_marked, is_met, met};
+use crate::plan::has_path;
 use crate::texts::short_values;
 use ij_io::{Sink, StoreFault, Word, put_words};
 use net_graph::{BitId, Holds, Net, Point, register_count, row_of};
@@ -432,9 +433,9 @@ fn put_all_mux_edges<K: Sink>(
 
 /// Writes the edge to TDO.
 #[tactic(auto, unfolding(crate::specs::Dot::output_edge, ij_io::specs::Words::words_text))]
-fn put_output_edge<K: Sink>(net: &Net, k: &mut K) -> Result<(), StoreFault>
-    ensures whole { OnOk result (Adds (K.taken k.old) (K.taken k.new) (dot.output_edge net.now)) }
-    ensures part { OnErr result (AddsPart (K.taken k.old) (K.taken k.new) (dot.output_edge net.now)) }
+fn put_output_edge<K: Sink>(net: &Net, active: bool, k: &mut K) -> Result<(), StoreFault>
+    ensures whole { OnOk result (Adds (K.taken k.old) (K.taken k.new) (dot.output_edge net.now active)) }
+    ensures part { OnErr result (AddsPart (K.taken k.old) (K.taken k.new) (dot.output_edge net.now active)) }
     ensures cause { HasCause (K.faults k.old) (K.faults k.new) result StoreFault.Failed }
 {
     let words = [
@@ -442,7 +443,7 @@ fn put_output_edge<K: Sink>(net: &Net, k: &mut K) -> Result<(), StoreFault>
         Word::Text(node_letters(net.out)),
         node_number(net.out),
         Word::Text(b" -> tdo ["),
-        Word::Text(edge_style(true)),
+        Word::Text(edge_style(active)),
         Word::Text(b"];\n}\n"),
     ];
     put_words(k, &words)
@@ -460,18 +461,19 @@ fn put_head<K: Sink>(k: &mut K) -> Result<(), StoreFault>
     )
 }
 
-/// Writes a network as a graph, with what is met and what is marked.
+/// Writes a network as a graph, with what is met, whether there is an active path, and what is marked.
 fn put_graph<K: Sink>(
     alloc: Global,
     net: &Net,
     holds: &Holds,
     marks: Marks<'_>,
+    on: bool,
     k: &mut K,
 ) -> Result<(), StoreFault>
     requires well_formed { IsNet net.now }
     requires holds { AreHolds net.now holds.now }
-    ensures whole { OnOk result (Adds (K.taken k.old) (K.taken k.new) (dot.graph_text net.now holds.now marks.entry.marked marks.entry.met.now)) }
-    ensures part { OnErr result (AddsPart (K.taken k.old) (K.taken k.new) (dot.graph_text net.now holds.now marks.entry.marked marks.entry.met.now)) }
+    ensures whole { OnOk result (Adds (K.taken k.old) (K.taken k.new) (dot.graph_text net.now holds.now on marks.entry.marked marks.entry.met.now)) }
+    ensures part { OnErr result (AddsPart (K.taken k.old) (K.taken k.new) (dot.graph_text net.now holds.now on marks.entry.marked marks.entry.met.now)) }
     ensures cause { HasCause (K.faults k.old) (K.faults k.new) result StoreFault.Failed }
 {
     put_head(k)?;
@@ -479,14 +481,14 @@ fn put_graph<K: Sink>(
     put_mux_nodes(alloc, net, marks, k)?;
     put_register_edges(net, marks.met, k)?;
     put_all_mux_edges(alloc, net, holds, marks.met, k)?;
-    put_output_edge(net, k)?;
+    put_output_edge(net, on, k)?;
     Ok(())
 }
 
 /// Writes a network as a graph in the language of Graphviz (DOT): a node for each register and each multiplexer, an edge from each scan
 /// source, with the select values of a row, and a dashed one from each select bit's register (IEEE 1687-2014, ICL: `ScanInSource`,
-/// `ScanMux`, `SelectedBy`). It asks for no nested form. What is on the active path of the state is in colour and thick, from scan-out back
-/// to scan-in, or to a multiplexer that is in none of its rows; what is marked is red.
+/// `ScanMux`, `SelectedBy`). It asks for no nested form. What is on the active path of the state is in colour and thick, and nothing is
+/// where there is none; what is marked is red.
 ///
 /// # Errors
 ///
@@ -504,10 +506,11 @@ pub fn put_dot<K: Sink>(
     ensures part { OnErr result (AddsPart (K.taken k.old) (K.taken k.new) (dot.dot_text net.now holds.now marked)) }
     ensures cause { HasCause (K.faults k.old) (K.faults k.new) result StoreFault.Failed }
 {
-    let points = met(alloc, net, holds)?;
+    let on = has_path(alloc, net, holds)?;
+    let points = met(alloc, net, holds, on)?;
     let marks = Marks {
         met: &points,
         marked,
     };
-    put_graph(alloc, net, holds, marks, k)
+    put_graph(alloc, net, holds, marks, on, k)
 }

@@ -3,16 +3,16 @@ ghost use Rattle.std.specs.Prelude.{◌≡◌, All, IfOk};
 ghost use Rattle.net_graph.specs.Held.{AreHolds};
 ghost use Rattle.net_graph.specs.Nets.{IsNet};
 ghost use Rattle.net_tree.specs.Form.{Describes};
-ghost use Rattle.net_picture.specs.Drawing.{drawing_of, has_path, seen_drawing};
+ghost use Rattle.net_picture.specs.Drawing.{drawing_of, seen_drawing};
 ghost use Rattle.net_picture.specs.There.{IsShapeOf};
 
 use crate::layout::draw_items;
 use crate::numbers::plus;
 use crate::pen::Pen;
-use crate::plan::plan_of;
+use crate::plan::{has_path, plan_of};
 use crate::shape::Shape;
 use ij_bits::OutOfMemory;
-use net_graph::{Holds, Net, path};
+use net_graph::{Holds, Net};
 use net_tree::Tree;
 use std::alloc::Global;
 
@@ -30,21 +30,6 @@ pub(crate) struct View {
 pub(crate) struct Drawing {
     pub shapes: Vec<Shape>,
     pub view: View,
-}
-
-/// Whether there is an active path.
-fn has_path(alloc: Global, net: &Net, holds: &Holds) -> Result<bool, OutOfMemory>
-    requires well_formed { IsNet net.now }
-    requires holds { AreHolds net.now holds.now }
-    ensures { IfOk result (λ on. on ≡ has_path net.now holds.now) }
-{
-    match path(alloc, net, holds)? {
-        Some(registers) => {
-            drop(registers);
-            Ok(true)
-        }
-        None => Ok(false),
-    }
 }
 
 /// The drawing of a network in a state.

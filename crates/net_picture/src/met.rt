@@ -6,6 +6,7 @@ ghost use Rattle.net_graph.specs.Nets.{IsNet};
 ghost use Rattle.net_graph.specs.Path.{mux_source};
 ghost use Rattle.net_graph.specs.declared.net.Point.TheVariants as point;
 ghost use Rattle.net_picture.specs.Dot as dot;
+ghost use Rattle.net_picture.specs.Plan.{has_path};
 
 use ij_bits::{List, OutOfMemory};
 use net_graph::{Holds, Net, Point, Row, register_count, row_of};
@@ -71,11 +72,30 @@ fn before(net: &Net, holds: &Holds, point: Point) -> Option<Point>
     }
 }
 
-/// What is met on the active path from scan-out back to scan-in.
-pub(crate) fn met(alloc: Global, net: &Net, holds: &Holds) -> Result<Vec<Point>, OutOfMemory>
+/// What is met on the active path from scan-out back to scan-in, and nothing where there is none.
+pub(crate) fn met(
+    alloc: Global,
+    net: &Net,
+    holds: &Holds,
+    on: bool,
+) -> Result<Vec<Point>, OutOfMemory>
     requires well_formed { IsNet net.now }
     requires holds { AreHolds net.now holds.now }
+    requires on { on ≡ has_path net.now holds.now }
     ensures { IfOk result (λ points. points.items ≡ dot.met net.now holds.now) }
+{
+    if on {
+        met_back(alloc, net, holds)
+    } else {
+        Ok(Vec::new(alloc))
+    }
+}
+
+/// What is met from scan-out back to scan-in, or to a multiplexer that is in none of its rows.
+fn met_back(alloc: Global, net: &Net, holds: &Holds) -> Result<Vec<Point>, OutOfMemory>
+    requires well_formed { IsNet net.now }
+    requires holds { AreHolds net.now holds.now }
+    ensures { IfOk result (λ points. points.items ≡ dot.met_back net.now holds.now) }
 {
     let mut points = Vec::new(alloc);
     let mut next = Some(net.out);

@@ -6,7 +6,7 @@ ghost use Rattle.net_picture.specs.Plan as plans;
 
 use crate::labels::{box_width, name_room, values_room};
 use ij_bits::OutOfMemory;
-use net_graph::{Holds, Net, register_count, row_of};
+use net_graph::{Holds, Net, path, register_count, row_of};
 use std::alloc::Global;
 
 /// What has to be known of a multiplexer: the room to the left of its funnel, for the select values of its rows, that to the right, for
@@ -48,6 +48,21 @@ impl Plan {
                 row: None,
             },
         }
+    }
+}
+
+/// Whether there is an active path.
+pub(crate) fn has_path(alloc: Global, net: &Net, holds: &Holds) -> Result<bool, OutOfMemory>
+    requires well_formed { IsNet net.now }
+    requires holds { AreHolds net.now holds.now }
+    ensures { IfOk result (λ on. on ≡ plans.has_path net.now holds.now) }
+{
+    match path(alloc, net, holds)? {
+        Some(registers) => {
+            drop(registers);
+            Ok(true)
+        }
+        None => Ok(false),
     }
 }
 

@@ -388,8 +388,8 @@ fn put_drawing<K: Sink>(
 /// path). A box is round at its ends where its register selects.
 ///
 /// Tooltips (`<title>`) have paths, bits, reset values (the left bit first, an x where it has none), select bits and select values, and
-/// the outputs of instruments that a register captures (`CaptureSource`); labels are cut in the middle where they are long. A list of items is broken into lines where it is long. Where a multiplexer on the way is in
-/// none of its rows, no row of it is in colour.
+/// the outputs of instruments that a register captures (`CaptureSource`); labels are cut in the middle where they are long. A list
+/// of items is broken into lines where it is long. Where there is no active path, nothing is in colour.
 ///
 /// # Errors
 ///

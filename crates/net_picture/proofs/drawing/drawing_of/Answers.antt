@@ -1,7 +1,7 @@
 use Rattle.std.proofs.Common.{sym, ap, subst}
 use Rattle.std.specs.Prelude.{All}
-use Rattle.net_picture.specs.Drawing.{Drawing, has_path}
-use Rattle.net_picture.specs.Plan.{plan_of, seen_plan}
+use Rattle.net_picture.specs.Drawing.{Drawing}
+use Rattle.net_picture.specs.Plan.{plan_of, seen_plan, has_path}
 use Rattle.net_picture.specs.There.{IsShapeOf}
 use Rattle.net_picture.proofs.Named.{drawing_is, form_there}
 use Rattle.net_picture.proofs.drawing.drawing_of.Goals as goal

@@ -1,5 +1,4 @@
-use Rattle.net_picture.specs.Drawing.{has_path}
-use Rattle.net_picture.specs.Plan.{plan_of}
+use Rattle.net_picture.specs.Plan.{has_path, plan_of}
 use Rattle.net_picture.proofs.Areas.{form_apart}
 use Rattle.net_picture.proofs.Lining.{lines}
 use Rattle.net_picture.proofs.Marking.{marked}
