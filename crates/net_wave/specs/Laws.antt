@@ -39,6 +39,21 @@ MomentsAreRead =
     → let here = get_or (values chip models vars (get_or ps j (no_shift false)) (after_pins chip (take j ps) s)) i [] in
     read_value (moments_text (moments_from chip models vars true from (untold (length vars)) ps s)) (code (i + 1)) (length here) (2 * (from + j)) ≡ here
 
+-- So it does at the time at which TCK rises within clock j: all but TCK are as where the clock began.
+abbrev pub HalvesAreRead : Type 0
+HalvesAreRead =
+    (chip : Chip Counts) (models : List SeenModel) (vars : List Var) (ps : List Pins) (s : State Counts) (from i j : ℕ) → i < length vars → length vars < 2 ^ 32 → j < length ps → 2 * (from + length ps) + 1 < 2 ^ 64
+    → let here = get_or (values chip models vars (get_or ps j (no_shift false)) (after_pins chip (take j ps) s)) i [] in
+    read_value (moments_text (moments_from chip models vars true from (untold (length vars)) ps s)) (code (i + 1)) (length here) (2 * (from + j) + 1) ≡ here
+
+-- Under the code of TCK it finds 0 (48) where a clock begins, and at the end of the last one, and 1 (49) at the time between.
+abbrev pub TckIsRead : Type 0
+TckIsRead =
+    (chip : Chip Counts) (models : List SeenModel) (vars : List Var) (ps : List Pins) (s : State Counts) (from : ℕ) → length vars < 2 ^ 32 → 2 * (from + length ps) + 1 < 2 ^ 64
+    → let text = moments_text (moments_from chip models vars true from (untold (length vars)) ps s) in
+    ((j : ℕ) → j ≤ length ps → read_value text (code 0) 1 (2 * (from + j)) ≡ 48 ∷ [])
+    × ((j : ℕ) → j < length ps → read_value text (code 0) 1 (2 * (from + j) + 1) ≡ 49 ∷ [])
+
 -- Numbers of 32 bits have codes of their own.
 abbrev pub CodesDiffer : Type 0
 CodesDiffer = (n m : ℕ) → n < 2 ^ 32 → m < 2 ^ 32 → code n ≡ code m → n ≡ m

@@ -1,5 +1,5 @@
 // What holds of all waves.
-ghost use Rattle.net_wave.specs.Laws.{CodesDiffer, MomentsAreRead, MomentsReplay};
+ghost use Rattle.net_wave.specs.Laws.{CodesDiffer, HalvesAreRead, MomentsAreRead, MomentsReplay, TckIsRead};
 ghost use Rattle.net_wave.specs.Whole.{VarsAreWhole};
 
 /// The changes of a wave, replayed over nothing, are what happens: after the moment at which a clock begins each variable has
@@ -13,6 +13,16 @@ pub fn moments_replay()
 /// VCD).
 pub fn moments_are_read()
     ensures { MomentsAreRead }
+{}
+
+/// It finds the same at the time at which TCK rises within the clock.
+pub fn halves_are_read()
+    ensures { HalvesAreRead }
+{}
+
+/// Under the code of TCK it finds 0 at the times at which clocks begin and 1 at those between.
+pub fn tck_is_read()
+    ensures { TckIsRead }
 {}
 
 /// No two variables have one code (IEEE 1364-2005, 18.2.3).
