@@ -12,6 +12,8 @@ pub mod Replay
 pub mod Apart
 pub mod Reading
 pub mod Read
+pub mod Headed
+pub mod Filed
 pub mod Leaving
 pub mod Changing
 pub mod Counted

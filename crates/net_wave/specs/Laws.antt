@@ -1,17 +1,27 @@
 -- What holds of all waves: their changes, replayed, are the values of the clocks, and no two variables have one code (IEEE 1364-2005,
 -- 18.2: value changes, identifier codes).
-use Rattle.std.specs.Prelude.{◌≡◌, ◌<◌, ◌≤◌, ℕ, ◌+◌, ◌*◌, ◌^◌, ◌==◌, cond, true, List, [], ◌∷◌, get_or, length, take}
+use Rattle.std.specs.Prelude.{◌≡◌, ◌<◌, ◌≤◌, ℕ, ◌+◌, ◌*◌, ◌^◌, ◌==◌, cond, true, List, [], ◌∷◌, drop, get_or, length, take}
 use Rattle.std.specs.List.{flat_map}
 use Rattle.instruments.specs.declared.Counts.{Counts}
 use Rattle.instruments.specs.Seen.{SeenModel}
-use Rattle.net_bench.specs.Bench.{Chip, State}
+use Rattle.bench_report.specs.Report.{chip}
+use Rattle.net_bench.specs.Bench.{Chip, State, power_up}
 use Rattle.net_bench.specs.Playing.{after_pins}
 use Rattle.tap_machine.specs.declared.Pins.{Pins}
-use Rattle.tap_machine.specs.Play.{no_shift}
+use Rattle.net_graph.specs.declared.device.Device.{Device}
+use Rattle.net_graph.specs.declared.net.Net.{Net}
+use Rattle.svf_writer.specs.SeenCommands.{SeenCommand}
+use Rattle.tap_machine.specs.declared.Stable.TheVariants.{Reset as InReset}
+use Rattle.tap_machine.specs.Play.{no_shift, pins}
 use Rattle.net_wave.specs.declared.var.Var.{Var}
+use Rattle.net_wave.specs.declared.var.WaveKind.{WaveKind}
+use Rattle.net_wave.specs.declared.var.Window.{Window}
 use Rattle.net_wave.specs.Codes.{code}
 use Rattle.net_wave.specs.Moments.{Change, Moment, moments_from, moments_text, untold}
+use Rattle.net_wave.specs.Names.{NamesWithout}
 use Rattle.net_wave.specs.Reader.{read_value}
+use Rattle.net_wave.specs.Vars.{vars}
+use Rattle.net_wave.specs.Wave.{wave_text}
 use Rattle.net_wave.specs.Values.{values}
 use Rattle.std.specs.Prelude.{false}
 
@@ -53,6 +63,28 @@ TckIsRead =
     → let text = moments_text (moments_from chip models vars true from (untold (length vars)) ps s) in
     ((j : ℕ) → j ≤ length ps → read_value text (code 0) 1 (2 * (from + j)) ≡ 48 ∷ [])
     × ((j : ℕ) → j < length ps → read_value text (code 0) 1 (2 * (from + j) + 1) ≡ 49 ∷ [])
+
+-- what a reader finds in a text: at the times of both halves of a clock each variable, and TCK, and so at the end of the last clock
+pub record Tells (text : List ℕ) (chip : Chip Counts) (models : List SeenModel) (vars : List Var) (ps : List Pins) (s : State Counts) (from : ℕ) : Type 0 where
+  pub starts : (i j : ℕ) → i < length vars → j ≤ length ps
+    → let here = get_or (values chip models vars (get_or ps j (no_shift false)) (after_pins chip (take j ps) s)) i [] in
+    read_value text (code (i + 1)) (length here) (2 * (from + j)) ≡ here
+  pub halves : (i j : ℕ) → i < length vars → j < length ps
+    → let here = get_or (values chip models vars (get_or ps j (no_shift false)) (after_pins chip (take j ps) s)) i [] in
+    read_value text (code (i + 1)) (length here) (2 * (from + j) + 1) ≡ here
+  pub tck_low : (j : ℕ) → j ≤ length ps → read_value text (code 0) 1 (2 * (from + j)) ≡ 48 ∷ []
+  pub tck_high : (j : ℕ) → j < length ps → read_value text (code 0) 1 (2 * (from + j) + 1) ≡ 49 ∷ []
+
+-- All this is found in the text of a file with its declarations, where no name in them has a line feed (10).
+abbrev pub WavesAreRead : Type 0
+WavesAreRead =
+    (kind : WaveKind) (net : Net) (device : Device) (models : List SeenModel) (top : List ℕ) (commands : List SeenCommand) (window : Window) → NamesWithout 10 kind net models top
+    → let it = chip net device models in
+    let seen = vars kind net models in
+    let played = pins InReset 0 commands in
+    let shown = take window.count (drop window.from played) in
+    length seen < 2 ^ 32 → 2 * (window.from + length shown) + 1 < 2 ^ 64
+    → Tells (wave_text kind net device models top commands window) it models seen shown (after_pins it (take window.from played) (power_up it)) window.from
 
 -- Numbers of 32 bits have codes of their own.
 abbrev pub CodesDiffer : Type 0

@@ -1,5 +1,5 @@
 // What holds of all waves.
-ghost use Rattle.net_wave.specs.Laws.{CodesDiffer, HalvesAreRead, MomentsAreRead, MomentsReplay, TckIsRead};
+ghost use Rattle.net_wave.specs.Laws.{CodesDiffer, HalvesAreRead, MomentsAreRead, MomentsReplay, TckIsRead, WavesAreRead};
 ghost use Rattle.net_wave.specs.Whole.{VarsAreWhole};
 
 /// The changes of a wave, replayed over nothing, are what happens: after the moment at which a clock begins each variable has
@@ -23,6 +23,12 @@ pub fn halves_are_read()
 /// Under the code of TCK it finds 0 at the times at which clocks begin and 1 at those between.
 pub fn tck_is_read()
     ensures { TckIsRead }
+{}
+
+/// The reader finds all this in the whole text of a file, whose declarations it passes over, where no name in them has a line
+/// feed: those of the scopes and of the variables that are declared, and that of the top.
+pub fn waves_are_read()
+    ensures { WavesAreRead }
 {}
 
 /// No two variables have one code (IEEE 1364-2005, 18.2.3).
