@@ -20,11 +20,11 @@ use Rattle.net_wave.proofs.Reading.{Lacks, above, code_lacks, lacks_both, line_r
 
 -- ---- bytes that aren't there
 
-abbrev has_no : ℕ → List ℕ → Bool
+abbrev pub has_no : ℕ → List ℕ → Bool
 has_no b [] = true
 has_no b (x ∷ xs) = cond (x == b) false (has_no b xs)
 
-lacks_by : (b : ℕ) (l : List ℕ) → has_no b l ≡ true → Lacks b l
+pub lacks_by : (b : ℕ) (l : List ℕ) → has_no b l ≡ true → Lacks b l
 lacks_by b [] h = tt
 lacks_by b (x ∷ xs) h = by (x == b) refl h (lacks_by b xs)
   where

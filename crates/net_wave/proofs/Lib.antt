@@ -14,6 +14,7 @@ pub mod Reading
 pub mod Read
 pub mod Headed
 pub mod Filed
+pub mod DeclaredRead
 pub mod Leaving
 pub mod Changing
 pub mod Counted

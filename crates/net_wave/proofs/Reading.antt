@@ -26,7 +26,7 @@ above b x h = grind (arith, nat_tests)
 
 -- ---- splitting
 
-split_front : (b : ℕ) (l xs : List ℕ) → Lacks b l → split b (l ++ b ∷ xs) ≡ l ∷ split b xs
+pub split_front : (b : ℕ) (l xs : List ℕ) → Lacks b l → split b (l ++ b ∷ xs) ≡ l ∷ split b xs
 split_front b [] xs h = ap (λ (t : Bool). cond t ([] ∷ split b xs) (put_first b (split b xs))) (is_itself b)
 split_front b (x ∷ l) xs h =
     ap (λ (t : Bool). cond t ([] ∷ split b (l ++ b ∷ xs)) (put_first x (split b (l ++ b ∷ xs)))) h.0 ∙ ap (put_first x) (split_front b l xs h.1)

@@ -1,6 +1,6 @@
 -- What holds of all waves: their changes, replayed, are the values of the clocks, and no two variables have one code (IEEE 1364-2005,
 -- 18.2: value changes, identifier codes).
-use Rattle.std.specs.Prelude.{◌≡◌, ◌<◌, ◌≤◌, ℕ, ◌+◌, ◌*◌, ◌^◌, ◌==◌, cond, true, List, [], ◌∷◌, drop, get_or, length, take}
+use Rattle.std.specs.Prelude.{◌≡◌, ◌<◌, ◌≤◌, ℕ, suc, All, codes, ◌+◌, ◌*◌, ◌^◌, ◌==◌, cond, true, List, [], ◌∷◌, drop, get_or, length, take}
 use Rattle.std.specs.List.{flat_map}
 use Rattle.instruments.specs.declared.Counts.{Counts}
 use Rattle.instruments.specs.Seen.{SeenModel}
@@ -17,9 +17,10 @@ use Rattle.net_wave.specs.declared.var.Var.{Var}
 use Rattle.net_wave.specs.declared.var.WaveKind.{WaveKind}
 use Rattle.net_wave.specs.declared.var.Window.{Window}
 use Rattle.net_wave.specs.Codes.{code}
+use Rattle.net_wave.specs.Header.{shape, var_name}
 use Rattle.net_wave.specs.Moments.{Change, Moment, moments_from, moments_text, untold}
 use Rattle.net_wave.specs.Names.{NamesWithout}
-use Rattle.net_wave.specs.Reader.{read_value}
+use Rattle.net_wave.specs.Reader.{Declared, read_declared, read_value}
 use Rattle.net_wave.specs.Vars.{vars}
 use Rattle.net_wave.specs.Wave.{wave_text}
 use Rattle.net_wave.specs.Values.{values}
@@ -85,6 +86,20 @@ WavesAreRead =
     let shown = take window.count (drop window.from played) in
     length seen < 2 ^ 32 → 2 * (window.from + length shown) + 1 < 2 ^ 64
     → Tells (wave_text kind net device models top commands window) it models seen shown (after_pins it (take window.from played) (power_up it)) window.from
+
+-- variables, as they are declared, by their numbers from one on
+abbrev pub declared_from : Net → Device → List SeenModel → ℕ → List Var → List Declared
+declared_from net device models n [] = []
+declared_from net device models n (v ∷ vs) =
+    record { code = code n; width = (shape net device models v).width; name = var_name net models v } ∷ declared_from net device models (suc n) vs
+
+-- A reader of declarations finds in this text TCK and then each variable, in their order: its code, its width and its name, where no name has
+-- a line feed or a blank (32) and 64 bits hold each width.
+abbrev pub DeclarationsAreRead : Type 0
+DeclarationsAreRead =
+    (kind : WaveKind) (net : Net) (device : Device) (models : List SeenModel) (top : List ℕ) (commands : List SeenCommand) (window : Window) → NamesWithout 10 kind net models top → NamesWithout 32 kind net models top
+    → All (λ v. (shape net device models v).width < 2 ^ 64) (vars kind net models)
+    → read_declared (wave_text kind net device models top commands window) ≡ record { code = code 0; width = 1; name = codes "TCK" } ∷ declared_from net device models 1 (vars kind net models)
 
 -- Numbers of 32 bits have codes of their own.
 abbrev pub CodesDiffer : Type 0

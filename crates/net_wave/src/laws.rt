@@ -1,5 +1,5 @@
 // What holds of all waves.
-ghost use Rattle.net_wave.specs.Laws.{CodesDiffer, HalvesAreRead, MomentsAreRead, MomentsReplay, TckIsRead, WavesAreRead};
+ghost use Rattle.net_wave.specs.Laws.{CodesDiffer, DeclarationsAreRead, HalvesAreRead, MomentsAreRead, MomentsReplay, TckIsRead, WavesAreRead};
 ghost use Rattle.net_wave.specs.Whole.{VarsAreWhole};
 
 /// The changes of a wave, replayed over nothing, are what happens: after the moment at which a clock begins each variable has
@@ -29,6 +29,12 @@ pub fn tck_is_read()
 /// feed: those of the scopes and of the variables that are declared, and that of the top.
 pub fn waves_are_read()
     ensures { WavesAreRead }
+{}
+
+/// A reader of declarations finds in this text TCK and then each variable of the wave, in their order: its code, how many bits
+/// it has and its name, where no name has a line feed or a blank and 64 bits hold each width (IEEE 1364-2005, 18.2.3: $var).
+pub fn declarations_are_read()
+    ensures { DeclarationsAreRead }
 {}
 
 /// No two variables have one code (IEEE 1364-2005, 18.2.3).
