@@ -1,5 +1,5 @@
 -- What a reader of declarations finds.
-use Rattle.std.proofs.Common.{◌≡◌, ℕ, zero, suc, ◌+◌, ◌^◌, ◌<◌, Bool, true, false, cond, Option, Some, None, List, [], ◌∷◌, ◌++◌, length, refl, ap, sym, ◌∙◌, arith, append_assoc}
+use Rattle.std.proofs.Common.{◌≡◌, ℕ, suc, ◌^◌, ◌<◌, Bool, true, false, cond, Option, Some, None, List, [], ◌∷◌, ◌++◌, refl, ap, sym, ◌∙◌, arith, append_assoc}
 use Rattle.std.specs.Prelude.{All, codes, decimal}
 use Rattle.instruments.specs.Seen.{SeenModel}
 use Rattle.net_graph.specs.declared.device.Device.{Device}
@@ -14,7 +14,7 @@ use Rattle.net_wave.specs.Header.{front_text, header, is_pin, item_text, items_t
 use Rattle.net_wave.specs.Laws.{DeclarationsAreRead, declared_from}
 use Rattle.net_wave.specs.Moments.{moments_text}
 use Rattle.net_wave.specs.Names.{NamedWithout}
-use Rattle.net_wave.specs.Reader.{Declared, declared_in, declared_to_end, ends_in, lines, read_declared, words}
+use Rattle.net_wave.specs.Reader.{Declared, declared_in, declared_to_end, ends_in, read_declared, words}
 use Rattle.net_wave.specs.Vars.{items, vars_of}
 use Rattle.net_wave.specs.Wave.{moments, wave_text}
 use Rattle.net_wave.proofs.Headed.{decimal_lacks, lacks_by, lacks_name}

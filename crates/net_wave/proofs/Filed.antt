@@ -5,7 +5,7 @@ use Rattle.net_bench.specs.Bench.{power_up}
 use Rattle.net_bench.specs.Playing.{after_pins}
 use Rattle.tap_machine.specs.declared.Stable.TheVariants.{Reset as InReset}
 use Rattle.tap_machine.specs.Play.{pins}
-use Rattle.net_wave.specs.Laws.{Tells, WavesAreRead}
+use Rattle.net_wave.specs.Laws.{WavesAreRead}
 use Rattle.net_wave.specs.Header.{header}
 use Rattle.net_wave.specs.Moments.{moments_text}
 use Rattle.net_wave.specs.Reader.{padded, read_value}

@@ -1,5 +1,5 @@
 -- The declarations of a wave are lines that begin with $ (36), which a reader of changes passes over.
-use Rattle.std.proofs.Common.{◌≡◌, ◌≢◌, ℕ, zero, suc, ◌+◌, ◌-◌, ◌/◌, ◌%◌, ◌<◌, ◌≤◌, Bool, true, false, cond, Option, Some, None, List, [], ◌∷◌, ◌++◌, length, refl, ap, sym, ◌∙◌, subst, arith, append_assoc}
+use Rattle.std.proofs.Common.{◌≡◌, ◌≢◌, ℕ, zero, suc, ◌+◌, ◌/◌, ◌%◌, ◌<◌, Bool, true, false, cond, Option, Some, None, List, [], ◌∷◌, ◌++◌, refl, ap, sym, ◌∙◌, subst, arith, append_assoc}
 use Rattle.std.specs.Prelude.{◌==◌, nat_lt, All, codes, decimal}
 use Rattle.std.specs.Fmt.{digit_glyph, digits, digits_onto}
 use Rattle.std.proofs.lemmas.Bool.Decides.{nat_tests}
@@ -9,13 +9,10 @@ use Rattle.net_graph.specs.declared.net.Net.{Net}
 use Rattle.net_wave.specs.declared.shapes.Range.{Range}
 use Rattle.net_wave.specs.declared.var.Item.{Item}
 use Rattle.net_wave.specs.declared.var.Item.TheVariants.{Open, Declare, Close}
-use Rattle.net_wave.specs.declared.var.Var.{Var}
-use Rattle.net_wave.specs.declared.var.WaveKind.{WaveKind}
 use Rattle.net_wave.specs.Codes.{code}
-use Rattle.net_wave.specs.Header.{front_text, header, is_pin, item_text, items_text, next_number, range_text, scope_name, scope_text, shape, start_text, var_name, var_text}
-use Rattle.net_wave.specs.Names.{NamedWithout, NamesWithout, Without}
-use Rattle.net_wave.specs.Reader.{events, read_value, told_at}
-use Rattle.net_wave.specs.Vars.{items}
+use Rattle.net_wave.specs.Header.{front_text, header, is_pin, item_text, items_text, next_number, range_text, scope_name, scope_text, shape, start_text, var_name}
+use Rattle.net_wave.specs.Names.{NamedWithout, Without}
+use Rattle.net_wave.specs.Reader.{events, told_at}
 use Rattle.net_wave.proofs.Reading.{Lacks, above, code_lacks, lacks_both, line_read}
 
 -- ---- bytes that aren't there
@@ -51,7 +48,7 @@ onto_lacks b h zero n acc g = g
 onto_lacks b h (suc k) n acc g = by (n / 10 == 0) (onto_lacks b h k (n / 10) (digit_glyph false (n % 10) ∷ acc) (glyph_other b h (n % 10), g))
   where
     by : (t : Bool) → Lacks b (digits_onto k 10 false (n / 10) (digit_glyph false (n % 10) ∷ acc))
-      → Lacks b (cond t (digit_glyph false (n % 10) ∷ acc) (digits_onto k 10 false (n / 10) (digit_glyph false (n % 10) ∷ acc)))
+        → Lacks b (cond t (digit_glyph false (n % 10) ∷ acc) (digits_onto k 10 false (n / 10) (digit_glyph false (n % 10) ∷ acc)))
     by true f = (glyph_other b h (n % 10), g)
     by false f = f
 

@@ -323,6 +323,7 @@ halves_found chip models vars ps s from i j within few h small =
     ∙ padded_again v
 
 pub tck_found : TckIsRead
-tck_found chip models vars ps s from few small =
-    (λ j h. ap (padded 1) (tck_low chip models vars few j ps true from (untold (length vars)) s [] h small)
-    , λ j h. ap (padded 1) (tck_high chip models vars few j ps true from (untold (length vars)) s [] h small))
+tck_found chip models vars ps s from few small = (
+  λ j h. ap (padded 1) (tck_low chip models vars few j ps true from (untold (length vars)) s [] h small),
+  λ j h. ap (padded 1) (tck_high chip models vars few j ps true from (untold (length vars)) s [] h small),
+)

@@ -68,11 +68,11 @@ TckIsRead =
 -- what a reader finds in a text: at the times of both halves of a clock each variable, and TCK, and so at the end of the last clock
 pub record Tells (text : List ℕ) (chip : Chip Counts) (models : List SeenModel) (vars : List Var) (ps : List Pins) (s : State Counts) (from : ℕ) : Type 0 where
   pub starts : (i j : ℕ) → i < length vars → j ≤ length ps
-    → let here = get_or (values chip models vars (get_or ps j (no_shift false)) (after_pins chip (take j ps) s)) i [] in
-    read_value text (code (i + 1)) (length here) (2 * (from + j)) ≡ here
+      → let here = get_or (values chip models vars (get_or ps j (no_shift false)) (after_pins chip (take j ps) s)) i [] in
+      read_value text (code (i + 1)) (length here) (2 * (from + j)) ≡ here
   pub halves : (i j : ℕ) → i < length vars → j < length ps
-    → let here = get_or (values chip models vars (get_or ps j (no_shift false)) (after_pins chip (take j ps) s)) i [] in
-    read_value text (code (i + 1)) (length here) (2 * (from + j) + 1) ≡ here
+      → let here = get_or (values chip models vars (get_or ps j (no_shift false)) (after_pins chip (take j ps) s)) i [] in
+      read_value text (code (i + 1)) (length here) (2 * (from + j) + 1) ≡ here
   pub tck_low : (j : ℕ) → j ≤ length ps → read_value text (code 0) 1 (2 * (from + j)) ≡ 48 ∷ []
   pub tck_high : (j : ℕ) → j < length ps → read_value text (code 0) 1 (2 * (from + j) + 1) ≡ 49 ∷ []
 
