@@ -22,13 +22,13 @@ use Rattle.net_wave.proofs.Reading.{Lacks, code_lacks, lacks_both, numeral, spli
 
 -- ---- lines and their words
 
-record Line (text : List ℕ) (found : List (List ℕ)) : Type 0 where
-  line : List ℕ
-  is : text ≡ line ++ 10 ∷ []
-  lacks : Lacks 10 line
-  has : words line ≡ found
+pub record Line (text : List ℕ) (found : List (List ℕ)) : Type 0 where
+  pub line : List ℕ
+  pub is : text ≡ line ++ 10 ∷ []
+  pub lacks : Lacks 10 line
+  pub has : words line ≡ found
 
-abbrev IsWord : List ℕ → Type 0
+abbrev pub IsWord : List ℕ → Type 0
 IsWord w = Lacks 10 w × Lacks 32 w
 
 word_more : (w text : List ℕ) (found : List (List ℕ)) → IsWord w → Line text found → Line (w ++ 32 ∷ text) (w ∷ found)
@@ -62,22 +62,24 @@ gives_both : (l m : List ℕ) (f g : List Declared) → Gives l f → Gives m g 
 gives_both l m f g h k xs =
     ap read_declared (append_assoc l m xs) ∙ h (m ++ xs) ∙ ap (λ d. f ++ d) (k xs) ∙ sym (append_assoc f g (read_declared xs))
 
-scope_gives : (name : List ℕ) → IsWord name → Gives (scope_text name) []
-scope_gives name h xs =
-    line_read (scope_text name) (codes "$scope" ∷ codes "module" ∷ name ∷ codes "$end" ∷ []) xs
-    (word_more (codes "$scope") (codes "module " ++ (name ++ codes " $end\n")) (codes "module" ∷ name ∷ codes "$end" ∷ []) (lacks_by 10 (codes "$scope") refl, lacks_by 32 (codes "$scope") refl)
+pub scope_line : (name : List ℕ) → IsWord name → Line (scope_text name) (codes "$scope" ∷ codes "module" ∷ name ∷ codes "$end" ∷ [])
+scope_line name h =
+    word_more (codes "$scope") (codes "module " ++ (name ++ codes " $end\n")) (codes "module" ∷ name ∷ codes "$end" ∷ []) (lacks_by 10 (codes "$scope") refl, lacks_by 32 (codes "$scope") refl)
     (word_more (codes "module") (name ++ codes " $end\n") (name ∷ codes "$end" ∷ []) (lacks_by 10 (codes "module") refl, lacks_by 32 (codes "module") refl)
-    (word_more name (codes "$end\n") (codes "$end" ∷ []) h end_line)))
+    (word_more name (codes "$end\n") (codes "$end" ∷ []) h end_line))
+
+scope_gives : (name : List ℕ) → IsWord name → Gives (scope_text name) []
+scope_gives name h xs = line_read (scope_text name) (codes "$scope" ∷ codes "module" ∷ name ∷ codes "$end" ∷ []) xs (scope_line name h)
 
 -- a range, if there is one, and the end
-abbrev range_word : Range → List ℕ
+abbrev pub range_word : Range → List ℕ
 range_word r = codes "[" ++ (decimal r.left ++ (codes ":" ++ (decimal r.right ++ codes "]")))
 
 abbrev tail : Option Range → List ℕ
 tail None = codes "$end\n"
 tail (Some r) = range_word r ++ codes " $end\n"
 
-abbrev tail_words : Option Range → List (List ℕ)
+abbrev pub tail_words : Option Range → List (List ℕ)
 tail_words None = codes "$end" ∷ []
 tail_words (Some r) = range_word r ∷ codes "$end" ∷ []
 
@@ -100,10 +102,10 @@ tail_is None = refl
 tail_is (Some r) = refl
 
 module _ (width n : ℕ) (name : List ℕ) (r : Option Range) (h : IsWord name) where
-  abbrev rest : List ℕ
+  abbrev pub rest : List ℕ
   rest = code n ++ (codes " " ++ (name ++ (range_text r ++ codes " $end\n")))
 
-  abbrev rest_words : List (List ℕ)
+  abbrev pub rest_words : List (List ℕ)
   rest_words = code n ∷ name ∷ tail_words r
 
   rest_line : Line rest rest_words
@@ -118,10 +120,10 @@ module _ (width n : ℕ) (name : List ℕ) (r : Option Range) (h : IsWord name) 
       (word_more sort (decimal width ++ 32 ∷ rest) (decimal width ∷ rest_words) g
       (word_more (decimal width) rest rest_words (decimal_lacks 10 (omega arith) width, decimal_lacks 32 (omega arith) width) rest_line))
 
-  abbrev sort_of : Bool → List ℕ
+  abbrev pub sort_of : Bool → List ℕ
   sort_of pin = cond pin (codes "wire") (codes "reg")
 
-  declared_line : (pin : Bool) → Line (front_text pin width ++ rest) (codes "$var" ∷ sort_of pin ∷ decimal width ∷ rest_words)
+  pub declared_line : (pin : Bool) → Line (front_text pin width ++ rest) (codes "$var" ∷ sort_of pin ∷ decimal width ∷ rest_words)
   declared_line true =
       other_text (codes "$var wire " ++ (decimal width ++ 32 ∷ rest)) (front_text true width ++ rest) (codes "$var" ∷ codes "wire" ∷ decimal width ∷ rest_words)
       (ap (λ t. codes "$var wire " ++ t) (append_assoc (decimal width) (codes " ") rest))
@@ -137,7 +139,7 @@ module _ (width n : ℕ) (name : List ℕ) (r : Option Range) (h : IsWord name) 
       ∙ ap (λ (w : ℕ). record { code = code n; width = w; name = name } ∷ read_declared xs) (numeral width small).0
 
 -- a line of the format alone
-fixed : (l : List ℕ) (found : List (List ℕ)) → Lacks 10 l → words l ≡ found → Line (l ++ 10 ∷ []) found
+pub fixed : (l : List ℕ) (found : List (List ℕ)) → Lacks 10 l → words l ≡ found → Line (l ++ 10 ∷ []) found
 fixed l found h e = record { line = l; is = refl; lacks = h; has = e }
 
 module _ (net : Net) (device : Device) (models : List SeenModel) where

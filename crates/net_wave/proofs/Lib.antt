@@ -15,6 +15,7 @@ pub mod Read
 pub mod Headed
 pub mod Filed
 pub mod DeclaredRead
+pub mod ScopesRead
 pub mod Leaving
 pub mod Changing
 pub mod Counted

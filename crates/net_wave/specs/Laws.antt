@@ -13,15 +13,17 @@ use Rattle.net_graph.specs.declared.net.Net.{Net}
 use Rattle.svf_writer.specs.SeenCommands.{SeenCommand}
 use Rattle.tap_machine.specs.declared.Stable.TheVariants.{Reset as InReset}
 use Rattle.tap_machine.specs.Play.{no_shift, pins}
+use Rattle.net_wave.specs.declared.var.Item.{Item}
+use Rattle.net_wave.specs.declared.var.Item.TheVariants.{Open, Declare, Close}
 use Rattle.net_wave.specs.declared.var.Var.{Var}
 use Rattle.net_wave.specs.declared.var.WaveKind.{WaveKind}
 use Rattle.net_wave.specs.declared.var.Window.{Window}
 use Rattle.net_wave.specs.Codes.{code}
-use Rattle.net_wave.specs.Header.{shape, var_name}
+use Rattle.net_wave.specs.Header.{scope_name, shape, var_name}
 use Rattle.net_wave.specs.Moments.{Change, Moment, moments_from, moments_text, untold}
 use Rattle.net_wave.specs.Names.{NamesWithout}
-use Rattle.net_wave.specs.Reader.{Declared, read_declared, read_value}
-use Rattle.net_wave.specs.Vars.{vars}
+use Rattle.net_wave.specs.Reader.{Declared, read_declared, read_scopes, read_value}
+use Rattle.net_wave.specs.Vars.{items, vars}
 use Rattle.net_wave.specs.Wave.{wave_text}
 use Rattle.net_wave.specs.Values.{values}
 use Rattle.std.specs.Prelude.{false}
@@ -100,6 +102,19 @@ DeclarationsAreRead =
     (kind : WaveKind) (net : Net) (device : Device) (models : List SeenModel) (top : List ℕ) (commands : List SeenCommand) (window : Window) → NamesWithout 10 kind net models top → NamesWithout 32 kind net models top
     → All (λ v. (shape net device models v).width < 2 ^ 64) (vars kind net models)
     → read_declared (wave_text kind net device models top commands window) ≡ record { code = code 0; width = 1; name = codes "TCK" } ∷ declared_from net device models 1 (vars kind net models)
+
+-- the scopes in which some items declare variables, where these are open before, the innermost first
+abbrev pub scopes_from : Net → List (List ℕ) → List Item → List (List (List ℕ))
+scopes_from net scopes [] = []
+scopes_from net scopes (Open s ∷ is) = scopes_from net (scope_name net s ∷ scopes) is
+scopes_from net scopes (Declare v ∷ is) = scopes ∷ scopes_from net scopes is
+scopes_from net scopes (Close ∷ is) = scopes_from net (drop 1 scopes) is
+
+-- A reader of scopes finds each of these variables in those in which the items declare it, and TCK in that of the top.
+abbrev pub ScopesAreRead : Type 0
+ScopesAreRead =
+    (kind : WaveKind) (net : Net) (device : Device) (models : List SeenModel) (top : List ℕ) (commands : List SeenCommand) (window : Window) → NamesWithout 10 kind net models top → NamesWithout 32 kind net models top
+    → read_scopes (wave_text kind net device models top commands window) ≡ (top ∷ []) ∷ scopes_from net (top ∷ []) (items kind net models)
 
 -- Numbers of 32 bits have codes of their own.
 abbrev pub CodesDiffer : Type 0

@@ -1,6 +1,6 @@
 -- A reader of value change dumps (IEEE 1364-2005, 18.2): what a text tells of a variable at a time. It knows of the text alone, and nothing of
 -- what wrote it.
-use Rattle.std.specs.Prelude.{ℕ, zero, suc, ◌+◌, ◌*◌, ◌-◌, ◌==◌, nat_lt, Bool, false, cond, List, [], ◌∷◌, ◌++◌, codes, length, map}
+use Rattle.std.specs.Prelude.{ℕ, zero, suc, ◌+◌, ◌*◌, ◌-◌, ◌==◌, nat_lt, Bool, false, cond, List, [], ◌∷◌, ◌++◌, codes, drop, get_or, length, map}
 use Rattle.std.specs.Str.{bytes_eq}
 
 -- ---- lines and words
@@ -95,3 +95,20 @@ declared_to_end (line ∷ more) = cond (ends_in (words line)) [] (declared_in (w
 
 abbrev pub read_declared : List ℕ → List Declared
 read_declared text = declared_to_end (lines text)
+
+-- ---- scopes
+
+-- the scopes that are open after a line, the innermost first: $scope, the sort and the name open one, and $upscope closes it
+abbrev pub open_after : List (List ℕ) → List (List ℕ) → List (List ℕ)
+open_after scopes [] = scopes
+open_after scopes (word ∷ rest) =
+    cond (bytes_eq word (codes "$scope")) (get_or rest 1 [] ∷ scopes) (cond (bytes_eq word (codes "$upscope")) (drop 1 scopes) scopes)
+
+-- those that are open at each line that declares a variable
+abbrev pub scopes_to_end : List (List ℕ) → List (List ℕ) → List (List (List ℕ))
+scopes_to_end scopes [] = []
+scopes_to_end scopes (line ∷ more) =
+    cond (ends_in (words line)) [] (map (λ it. scopes) (declared_in (words line)) ++ scopes_to_end (open_after scopes (words line)) more)
+
+abbrev pub read_scopes : List ℕ → List (List (List ℕ))
+read_scopes text = scopes_to_end [] (lines text)

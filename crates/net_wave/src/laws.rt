@@ -1,5 +1,5 @@
 // What holds of all waves.
-ghost use Rattle.net_wave.specs.Laws.{CodesDiffer, DeclarationsAreRead, HalvesAreRead, MomentsAreRead, MomentsReplay, TckIsRead, WavesAreRead};
+ghost use Rattle.net_wave.specs.Laws.{CodesDiffer, DeclarationsAreRead, HalvesAreRead, MomentsAreRead, MomentsReplay, ScopesAreRead, TckIsRead, WavesAreRead};
 ghost use Rattle.net_wave.specs.Whole.{VarsAreWhole};
 
 /// The changes of a wave, replayed over nothing, are what happens: after the moment at which a clock begins each variable has
@@ -35,6 +35,12 @@ pub fn waves_are_read()
 /// it has and its name, where no name has a line feed or a blank and 64 bits hold each width (IEEE 1364-2005, 18.2.3: $var).
 pub fn declarations_are_read()
     ensures { DeclarationsAreRead }
+{}
+
+/// A reader of scopes finds each of these variables in the scopes in which it is declared, under the same names (IEEE
+/// 1364-2005, 18.2.3: $scope, $upscope).
+pub fn scopes_are_read()
+    ensures { ScopesAreRead }
 {}
 
 /// No two variables have one code (IEEE 1364-2005, 18.2.3).
