@@ -1,12 +1,12 @@
 -- What a reader of scopes finds.
-use Rattle.std.proofs.Common.{◌≡◌, ℕ, zero, suc, ◌<◌, cond, List, [], ◌∷◌, ◌++◌, drop, map, refl, ap, sym, ◌∙◌, arith, append_assoc}
+use Rattle.std.proofs.Common.{◌≡◌, ℕ, suc, cond, List, [], ◌∷◌, ◌++◌, drop, map, refl, ap, ◌∙◌, arith, append_assoc}
 use Rattle.std.specs.Prelude.{All, codes, decimal}
 use Rattle.instruments.specs.Seen.{SeenModel}
 use Rattle.net_graph.specs.declared.device.Device.{Device}
 use Rattle.net_graph.specs.declared.net.Net.{Net}
 use Rattle.net_wave.specs.declared.var.Item.{Item}
 use Rattle.net_wave.specs.declared.var.Item.TheVariants.{Open, Declare, Close}
-use Rattle.net_wave.specs.Header.{header, is_pin, item_text, items_text, next_number, scope_name, scope_text, shape, start_text, var_name, var_text}
+use Rattle.net_wave.specs.Header.{header, is_pin, items_text, scope_name, scope_text, shape, start_text, var_name, var_text}
 use Rattle.net_wave.specs.Laws.{ScopesAreRead, scopes_from}
 use Rattle.net_wave.specs.Moments.{moments_text}
 use Rattle.net_wave.specs.Names.{NamedWithout}

@@ -1,5 +1,5 @@
--- A reader of value change dumps (IEEE 1364-2005, 18.2): what a text tells of a variable at a time. It knows of the text alone, and nothing of
--- what wrote it.
+-- A reader of value change dumps (IEEE 1364-2005, 18.2): what a text tells of a variable at a time, and what it declares. It knows of the text
+-- alone, and nothing of what wrote it.
 use Rattle.std.specs.Prelude.{ℕ, zero, suc, ◌+◌, ◌*◌, ◌-◌, ◌==◌, nat_lt, Bool, false, cond, List, [], ◌∷◌, ◌++◌, codes, drop, get_or, length, map}
 use Rattle.std.specs.Str.{bytes_eq}
 
