@@ -12,6 +12,10 @@ pub mod Replay
 pub mod Apart
 pub mod Reading
 pub mod Read
+pub mod Headed
+pub mod Filed
+pub mod DeclaredRead
+pub mod ScopesRead
 pub mod Leaving
 pub mod Changing
 pub mod Counted

@@ -14,19 +14,19 @@ abbrev pub Lacks : ℕ → List ℕ → Type 0
 Lacks b [] = Unit {0}
 Lacks b (x ∷ xs) = ((x == b) ≡ false) × Lacks b xs
 
-lacks_both : (b : ℕ) (xs ys : List ℕ) → Lacks b xs → Lacks b ys → Lacks b (xs ++ ys)
+pub lacks_both : (b : ℕ) (xs ys : List ℕ) → Lacks b xs → Lacks b ys → Lacks b (xs ++ ys)
 lacks_both b [] ys h g = g
 lacks_both b (x ∷ xs) ys h g = (h.0, lacks_both b xs ys h.1 g)
 
 is_itself : (b : ℕ) → (b == b) ≡ true
 is_itself b = grind (arith, nat_tests)
 
-above : (b x : ℕ) → b < x → (x == b) ≡ false
+pub above : (b x : ℕ) → b < x → (x == b) ≡ false
 above b x h = grind (arith, nat_tests)
 
 -- ---- splitting
 
-split_front : (b : ℕ) (l xs : List ℕ) → Lacks b l → split b (l ++ b ∷ xs) ≡ l ∷ split b xs
+pub split_front : (b : ℕ) (l xs : List ℕ) → Lacks b l → split b (l ++ b ∷ xs) ≡ l ∷ split b xs
 split_front b [] xs h = ap (λ (t : Bool). cond t ([] ∷ split b xs) (put_first b (split b xs))) (is_itself b)
 split_front b (x ∷ l) xs h =
     ap (λ (t : Bool). cond t ([] ∷ split b (l ++ b ∷ xs)) (put_first x (split b (l ++ b ∷ xs)))) h.0 ∙ ap (put_first x) (split_front b l xs h.1)

@@ -26,6 +26,21 @@ told_both n d (x ∷ xs) ys = told_both n (cond (x.number == n) x.digits d) xs y
 pub tck_is_other : (i : ℕ) → (0 == suc i) ≡ false
 tck_is_other i = grind (arith, nat_tests)
 
+not_tck : (n : ℕ) → (suc n == 0) ≡ false
+not_tck n = grind (arith, nat_tests)
+
+-- the changes of variables say nothing of TCK
+pub tck_alone : (first : Bool) (before now : List (List ℕ)) (d : List ℕ) (n : ℕ) → last_told 0 d (up_to (change_at first before now) n) ≡ d
+tck_alone first before now d zero = refl
+tck_alone first before now d (suc n) =
+    told_both 0 d (up_to (change_at first before now) n) (change_at first before now n)
+    ∙ ap (λ (e : List ℕ). last_told 0 e (change_at first before now n)) (tck_alone first before now d n)
+    ∙ cases (first || not (bytes_eq (get_or before n []) (get_or now n [])))
+  where
+    cases : (b : Bool) → last_told 0 d (cond b (record { number = suc n; digits = get_or now n [] } ∷ []) []) ≡ d
+    cases true = ap (λ (t : Bool). cond t (get_or now n []) d) (not_tck n)
+    cases false = refl
+
 module _ (first : Bool) (before now : List (List ℕ)) (i : ℕ) where
   abbrev here : List Change
   here = change_at first before now i

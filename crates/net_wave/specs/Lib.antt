@@ -7,5 +7,6 @@ pub mod Wave
 pub mod Changes
 pub mod Left
 pub mod Reader
+pub mod Names
 pub mod Laws
 pub mod Whole

@@ -1,6 +1,6 @@
--- A reader of value change dumps (IEEE 1364-2005, 18.2): what a text tells of a variable at a time. It knows of the text alone, and nothing of
--- what wrote it.
-use Rattle.std.specs.Prelude.{ℕ, zero, suc, ◌+◌, ◌*◌, ◌-◌, ◌==◌, nat_lt, cond, List, [], ◌∷◌, ◌++◌, length, map}
+-- A reader of value change dumps (IEEE 1364-2005, 18.2): what a text tells of a variable at a time, and what it declares. It knows of the text
+-- alone, and nothing of what wrote it.
+use Rattle.std.specs.Prelude.{ℕ, zero, suc, ◌+◌, ◌*◌, ◌-◌, ◌==◌, nat_lt, Bool, false, cond, List, [], ◌∷◌, ◌++◌, codes, drop, get_or, length, map}
 use Rattle.std.specs.Str.{bytes_eq}
 
 -- ---- lines and words
@@ -69,3 +69,46 @@ padded width digits = zeros (width - length digits) ++ digits
 
 abbrev pub read_value : List ℕ → List ℕ → ℕ → ℕ → List ℕ
 read_value text code width time = padded width (told_at time code [] (events text))
+
+-- ---- declarations
+
+-- a variable that is declared: its code, how many bits it has, and its name
+pub record Declared : Type 0 where
+  pub code : List ℕ
+  pub width : ℕ
+  pub name : List ℕ
+
+-- the words of a line: $var, the sort, the width, the code and the name, after which a range and the end may come
+abbrev pub declared_in : List (List ℕ) → List Declared
+declared_in (word ∷ sort ∷ width ∷ code ∷ name ∷ rest) =
+    cond (bytes_eq word (codes "$var")) (record { code = code; width = number_from 0 width; name = name } ∷ []) []
+declared_in _ = []
+
+-- the line at which declarations end
+abbrev pub ends_in : List (List ℕ) → Bool
+ends_in [] = false
+ends_in (word ∷ rest) = bytes_eq word (codes "$enddefinitions")
+
+abbrev pub declared_to_end : List (List ℕ) → List Declared
+declared_to_end [] = []
+declared_to_end (line ∷ more) = cond (ends_in (words line)) [] (declared_in (words line) ++ declared_to_end more)
+
+abbrev pub read_declared : List ℕ → List Declared
+read_declared text = declared_to_end (lines text)
+
+-- ---- scopes
+
+-- the scopes that are open after a line, the innermost first: $scope, the sort and the name open one, and $upscope closes it
+abbrev pub open_after : List (List ℕ) → List (List ℕ) → List (List ℕ)
+open_after scopes [] = scopes
+open_after scopes (word ∷ rest) =
+    cond (bytes_eq word (codes "$scope")) (get_or rest 1 [] ∷ scopes) (cond (bytes_eq word (codes "$upscope")) (drop 1 scopes) scopes)
+
+-- those that are open at each line that declares a variable
+abbrev pub scopes_to_end : List (List ℕ) → List (List ℕ) → List (List (List ℕ))
+scopes_to_end scopes [] = []
+scopes_to_end scopes (line ∷ more) =
+    cond (ends_in (words line)) [] (map (λ it. scopes) (declared_in (words line)) ++ scopes_to_end (open_after scopes (words line)) more)
+
+abbrev pub read_scopes : List ℕ → List (List (List ℕ))
+read_scopes text = scopes_to_end [] (lines text)

@@ -1,5 +1,5 @@
 // What holds of all waves.
-ghost use Rattle.net_wave.specs.Laws.{CodesDiffer, MomentsAreRead, MomentsReplay};
+ghost use Rattle.net_wave.specs.Laws.{CodesDiffer, DeclarationsAreRead, HalvesAreRead, MomentsAreRead, MomentsReplay, ScopesAreRead, TckIsRead, WavesAreRead};
 ghost use Rattle.net_wave.specs.Whole.{VarsAreWhole};
 
 /// The changes of a wave, replayed over nothing, are what happens: after the moment at which a clock begins each variable has
@@ -13,6 +13,34 @@ pub fn moments_replay()
 /// VCD).
 pub fn moments_are_read()
     ensures { MomentsAreRead }
+{}
+
+/// It finds the same at the time at which TCK rises within the clock.
+pub fn halves_are_read()
+    ensures { HalvesAreRead }
+{}
+
+/// Under the code of TCK it finds 0 at the times at which clocks begin and 1 at those between.
+pub fn tck_is_read()
+    ensures { TckIsRead }
+{}
+
+/// The reader finds all this in the whole text of a file, whose declarations it passes over, where no name in them has a line
+/// feed: those of the scopes and of the variables that are declared, and that of the top.
+pub fn waves_are_read()
+    ensures { WavesAreRead }
+{}
+
+/// A reader of declarations finds in this text TCK and then each variable of the wave, in their order: its code, how many bits
+/// it has and its name, where no name has a line feed or a blank and 64 bits hold each width (IEEE 1364-2005, 18.2.3: $var).
+pub fn declarations_are_read()
+    ensures { DeclarationsAreRead }
+{}
+
+/// A reader of scopes finds each of these variables in the scopes in which it is declared, under the same names (IEEE
+/// 1364-2005, 18.2.3: $scope, $upscope).
+pub fn scopes_are_read()
+    ensures { ScopesAreRead }
 {}
 
 /// No two variables have one code (IEEE 1364-2005, 18.2.3).

@@ -17,6 +17,9 @@ mod texts;
 mod var;
 mod wave;
 
-pub use laws::{codes_differ, moments_are_read, moments_replay, vars_are_whole};
+pub use laws::{
+    codes_differ, declarations_are_read, halves_are_read, moments_are_read, moments_replay,
+    scopes_are_read, tck_is_read, vars_are_whole, waves_are_read,
+};
 pub use var::{WaveKind, Window};
 pub use wave::put_wave_file;
