@@ -110,7 +110,8 @@ scopes_from net scopes (Open s ∷ is) = scopes_from net (scope_name net s ∷ s
 scopes_from net scopes (Declare v ∷ is) = scopes ∷ scopes_from net scopes is
 scopes_from net scopes (Close ∷ is) = scopes_from net (drop 1 scopes) is
 
--- A reader of scopes finds each of these variables in those in which the items declare it, and TCK in that of the top.
+-- A reader of scopes finds each of these variables in those in which the items declare it, and TCK in that of the top, under the same premise of
+-- names.
 abbrev pub ScopesAreRead : Type 0
 ScopesAreRead =
     (kind : WaveKind) (net : Net) (device : Device) (models : List SeenModel) (top : List ℕ) (commands : List SeenCommand) (window : Window) → NamesWithout 10 kind net models top → NamesWithout 32 kind net models top

@@ -37,8 +37,8 @@ pub fn declarations_are_read()
     ensures { DeclarationsAreRead }
 {}
 
-/// A reader of scopes finds each of these variables in the scopes in which it is declared, under the same names (IEEE
-/// 1364-2005, 18.2.3: $scope, $upscope).
+/// A reader of scopes finds each of these variables in the scopes in which it is declared, by their names, and TCK in that of
+/// the top, where no name has a line feed or a blank (IEEE 1364-2005, 18.2.3: $scope, $upscope).
 pub fn scopes_are_read()
     ensures { ScopesAreRead }
 {}
