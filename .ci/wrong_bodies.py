@@ -65,15 +65,15 @@ def try_edit(crate, path):
     file, pairs = read_edit(path)
     source = crate / file
     before = source.read_text()
-    if not pairs or any(before.count(old) != 1 for old, _ in pairs):
-        return False, "an old text doesn't stand there once"
+    text = before
+    for old, new in pairs:
+        if text.count(old) != 1:
+            return False, "an old text doesn't stand there once"
+        text = text.replace(old, new)
     first = pairs[0][0]
     function = function_at(before, before.index(first) + len(first) - len(first.lstrip()))
     module = source.relative_to(crate / "src").with_suffix("").as_posix().replace("/", "::")
     name = function if module in ("lib", "main") else f"{module}::{function}"
-    text = before
-    for old, new in pairs:
-        text = text.replace(old, new)
     source.write_text(text)
     run = subprocess.run(["rt", "check", "--only", name], cwd=crate, stdout=subprocess.PIPE, stderr=subprocess.STDOUT, text=True)
     source.write_text(before)
