@@ -108,9 +108,22 @@ trimmed_short (d ∷ e ∷ ds) = cases (d == 48) (trimmed_short (e ∷ ds))
 none_padded : (ds : List ℕ) (n : ℕ) → n ≡ 0 → zeros n ++ ds ≡ ds
 none_padded ds n e = ap (λ k. zeros k ++ ds) e
 
+-- what was written is not nothing
+trimmed_some : (d : ℕ) (ds : List ℕ) → 1 ≤ length (trimmed (d ∷ ds))
+trimmed_some d [] = omega arith
+trimmed_some d (e ∷ es) = either (d == 48) (trimmed_some e es)
+  where
+    either : (t : Bool) → 1 ≤ length (trimmed (e ∷ es)) → 1 ≤ length (cond t (trimmed (e ∷ es)) (d ∷ e ∷ es))
+    either true h = h
+    either false h = omega arith
+
+padded_some : (n : ℕ) (l : List ℕ) → 1 ≤ length l → padded n l ≡ zeros (n - length l) ++ l
+padded_some n [] h = absurd (omega (arith, h))
+padded_some n (x ∷ xs) h = refl
+
 -- zeros that were left out are there again
 pub padded_again : (ds : List ℕ) → padded (length ds) (trimmed ds) ≡ ds
-padded_again [] = none_padded [] (0 - 0) (omega arith)
+padded_again [] = refl
 padded_again (d ∷ []) = none_padded (d ∷ []) (1 - 1) (omega arith)
 padded_again (d ∷ e ∷ ds) = cases (d == 48) refl (padded_again (e ∷ ds))
   where
@@ -119,7 +132,9 @@ padded_again (d ∷ e ∷ ds) = cases (d == 48) refl (padded_again (e ∷ ds))
         let m = length (trimmed (e ∷ ds)) in
         let more : length (d ∷ e ∷ ds) - m ≡ suc (length (e ∷ ds) - m) = omega (arith, trimmed_short (e ∷ ds)) in
         let zero_is : d ≡ 48 = grind (arith, nat_tests) in
-        ap (λ k. zeros k ++ trimmed (e ∷ ds)) more ∙ ap (λ l. 48 ∷ l) before ∙ ap (λ x. x ∷ e ∷ ds) (sym zero_is)
+        let some : 1 ≤ length (trimmed (e ∷ ds)) = trimmed_some e ds in
+        padded_some (length (d ∷ e ∷ ds)) (trimmed (e ∷ ds)) some ∙ ap (λ k. zeros k ++ trimmed (e ∷ ds)) more
+        ∙ ap (λ l. 48 ∷ l) (sym (padded_some (length (e ∷ ds)) (trimmed (e ∷ ds)) some) ∙ before) ∙ ap (λ x. x ∷ e ∷ ds) (sym zero_is)
     cases false is before = none_padded (d ∷ e ∷ ds) (length (d ∷ e ∷ ds) - length (d ∷ e ∷ ds)) (omega arith)
 
 -- ---- one change

@@ -65,7 +65,8 @@ zeros zero = []
 zeros (suc n) = 48 ∷ zeros n
 
 abbrev pub padded : ℕ → List ℕ → List ℕ
-padded width digits = zeros (width - length digits) ++ digits
+padded width [] = []
+padded width (d ∷ ds) = zeros (width - length (d ∷ ds)) ++ (d ∷ ds)
 
 abbrev pub read_value : List ℕ → List ℕ → ℕ → ℕ → List ℕ
 read_value text code width time = padded width (told_at time code [] (events text))
