@@ -35,7 +35,7 @@ use std::alloc::Global;
 ///   as a value change dump; with `FROM COUNT` those of so many clocks. KIND is `pins`, `state` or `all`. It ends as `Differs` where a
 ///   compare of the whole play differs.
 /// - `tighten HOW ICL PDL DEVICE TOP PROC NEW` loads the three files in this order, accepts what they hold, plans the whole procedure
-///   for the fewest clocks, in the way `full`, `lean` or `late`, and hands the text to the audit. Only where this says yes, and the text
+///   for few clocks, in the way `full`, `lean` or `late`, and hands the text to the audit. Only where this says yes, and the text
 ///   takes no more scans and clocks than the one that a compile writes, is it written to NEW; else that one is. It prints what it takes
 ///   on `out`, and how many clocks any text takes at least to which the audit says yes.
 ///

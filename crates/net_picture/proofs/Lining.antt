@@ -1,5 +1,5 @@
 -- What is in colour is one line.
-use Rattle.std.proofs.Common.{◌≡◌, ⊎_elim, ℕ, suc, ◌+◌, ◌-◌, ◌<◌, ◌≤◌, Bool, true, false, List, [], ◌∷◌, ◌++◌, Option, Some, length, refl, sym, ap, ◌∙◌, subst, arith}
+use Rattle.std.proofs.Common.{◌≡◌, ⊎_elim, ℕ, suc, ◌+◌, ◌-◌, ◌<◌, ◌≤◌, Bool, true, false, List, [], ◌∷◌, ◌++◌, Option, Some, None, length, refl, sym, ap, ◌∙◌, subst, arith}
 use Rattle.std.specs.Prelude.{cond}
 use Rattle.std.proofs.lemmas.Bool.Decides.{eqb_tells}
 use Rattle.std.proofs.lemmas.Grind.{flat_map-append}
@@ -10,7 +10,7 @@ use Rattle.net_graph.specs.declared.net.Net.{Net}
 use Rattle.net_graph.specs.declared.net.Point.{Point}
 use Rattle.net_graph.specs.declared.net.Point.TheVariants.{Entry, Reg as FromReg, Mux as FromMux}
 use Rattle.net_graph.specs.declared.net.Row.{Row}
-use Rattle.net_graph.specs.Path.{AreListed, mux_source, row_from, row_of, rows_of, select_value}
+use Rattle.net_graph.specs.Path.{AreListed, mux_source, row_from, row_of, rows_of, select_value, path}
 use Rattle.net_graph.specs.Signals.{Holds, row_point, some_matches}
 use Rattle.net_tree.specs.Entries.{row_count}
 use Rattle.net_tree.specs.Form.{Items, Nothing, RegThen, MuxThen, Rows, NoRow, RowThen, muxes_in, muxes_in_rows, IsWired, AreWired, Describes}
@@ -21,12 +21,12 @@ use Rattle.net_picture.specs.declared.pen.Fan.{Fan}
 use Rattle.net_picture.specs.declared.shape.Shape.{Shape}
 use Rattle.net_picture.specs.declared.shape.Shape.TheVariants.{Register, Mux, Wire}
 use Rattle.net_picture.specs.declared.shape.RowEnd.{RowEnd}
-use Rattle.net_picture.specs.Drawing.{first_pen, drawing_by, drawing_of}
+use Rattle.net_picture.specs.Drawing.{first_pen, drawing_by, drawing_of, shapes_of}
 use Rattle.net_picture.specs.Layout.{drawn, pen_after, fan_after, row_ends, rows_drawn, register_drawn, mux_drawn, mux_close, pen_past, turn_back, wire_to, row_wire, row_close, row_closes, is_row}
 use Rattle.net_picture.specs.Line.{Lead, lead_of, leads_in, IsLine}
 use Rattle.net_picture.specs.Pens.{start_at, is_full, next_line, ready, after_register, after_row, fan_at, funnel_at}
 use Rattle.net_picture.specs.Plan.{Plan, box_of, mux_of, plan_of}
-use Rattle.net_picture.proofs.Marking.{other_row, row_known, path_there}
+use Rattle.net_picture.proofs.Marking.{other_row, row_known, path_there, path_gone}
 
 -- two lines, one after the other
 line_then : (x y u v to_x to_y : ℕ) (ls ks : List Lead) → IsLine x y ls u v → IsLine u v ks to_x to_y → IsLine x y (ls ++ ks) to_x to_y
@@ -284,3 +284,10 @@ lines net form holds d listed =
     let plan = plan_of net holds in
     subst (λ (b : Bool). IsLine 48 36 (leads_in (drawing_by b plan form).shapes) (drawing_by b plan form).x (drawing_by b plan form).y) (sym (path_there net form holds d listed))
     (form_leads net holds plan listed (row_known net holds) form d)
+
+pub unlined : (net : Net) (form : Items) (holds : Holds) → path net holds ≡ None → leads_in (drawing_of net holds form).shapes ≡ []
+unlined net form holds e =
+    let plan = plan_of net holds in
+    let p = pen_after plan first_pen form in
+    ap (λ (b : Bool). leads_in (shapes_of b plan form)) (path_gone net holds e)
+    ∙ both_none (drawn plan false first_pen form) (Wire p.x p.y p.x (p.x + 18) p.y false ∷ []) (off plan first_pen form) refl

@@ -11,7 +11,7 @@ use Rattle.ij_bits.proofs.Lists.{then_some, some_of}
 use Rattle.net_graph.specs.Chain.{IsRoute}
 use Rattle.net_graph.specs.declared.net.Net.{Net}
 use Rattle.net_graph.specs.declared.net.Row.{Row}
-use Rattle.net_graph.specs.Path.{AreListed, path, mux_source, row_from, row_of, rows_of, select_value}
+use Rattle.net_graph.specs.Path.{AreListed, active, path, mux_source, row_from, row_of, rows_of, select_value}
 use Rattle.net_graph.specs.Signals.{Holds, some_matches}
 use Rattle.net_tree.specs.Form.{Items, Nothing, RegThen, MuxThen, Rows, NoRow, RowThen, muxes_in, muxes_in_rows, Describes}
 use Rattle.net_tree.proofs.Walks.{walk, walk_rows, has_walk, IsRoute-front, IsRoute-back}
@@ -173,6 +173,20 @@ row_known net holds m there =
 pub path_there : (net : Net) (form : Items) (holds : Holds) → Describes net form → AreListed net holds → has_path net holds ≡ true
 path_there net form holds d listed =
     ap is_some (has_walk net holds form d (λ m l. some_of (mux_source net holds m) (listed m l))).traced
+
+no_path : (o : Option (List ℕ)) → option_map reverse o ≡ None → is_some o ≡ false
+no_path None e = refl
+no_path (Some xs) e = absurd (none-some (reverse xs) (sym e))
+
+pub path_gone : (net : Net) (holds : Holds) → path net holds ≡ None → has_path net holds ≡ false
+path_gone net holds e = no_path (active net holds) e
+
+pub unmarked : (net : Net) (form : Items) (holds : Holds) → path net holds ≡ None → active_boxes_in (drawing_of net holds form).shapes ≡ []
+unmarked net form holds e =
+    let plan = plan_of net holds in
+    let p = pen_after plan first_pen form in
+    ap (λ (b : Bool). active_boxes_in (shapes_of b plan form)) (path_gone net holds e)
+    ∙ picked_both active_box_of of_boxes (drawn plan false first_pen form) (Wire p.x p.y p.x (p.x + 18) p.y false ∷ []) [] [] (off plan first_pen form) refl
 
 pub marked : (net : Net) (form : Items) (holds : Holds) → Describes net form → AreListed net holds → path net holds ≡ Some (active_boxes_in (drawing_of net holds form).shapes)
 marked net form holds d listed =

@@ -1,13 +1,14 @@
 -- What is in colour is one line from TDI to TDO.
-use Rattle.std.specs.Prelude.{◌≡◌, ◌+◌, ℕ, List, [], ◌∷◌, cond}
+use Rattle.std.specs.Prelude.{◌≡◌, ◌+◌, ℕ, List, [], ◌∷◌, cond, None}
 use Rattle.std.specs.List.{flat_map}
 use Rattle.net_graph.specs.declared.net.Net.{Net}
-use Rattle.net_graph.specs.Path.{AreListed}
+use Rattle.net_graph.specs.Path.{AreListed, path}
 use Rattle.net_graph.specs.Signals.{Holds}
 use Rattle.net_tree.specs.Form.{Items, Describes}
 use Rattle.net_picture.specs.declared.shape.Shape.{Shape}
 use Rattle.net_picture.specs.declared.shape.Shape.TheVariants.{Register, Mux, Values, Wire}
 use Rattle.net_picture.specs.Drawing.{drawing_of}
+use Rattle.net_picture.specs.Marked.{active_boxes_in}
 
 -- from one place to another
 pub record Lead : Type 0 where
@@ -40,3 +41,9 @@ abbrev pub DrawingsAreLines : Type 0
 DrawingsAreLines =
     (net : Net) (form : Items) (holds : Holds) → Describes net form → AreListed net holds
     → IsLine 48 36 (leads_in (drawing_of net holds form).shapes) (drawing_of net holds form).x (drawing_of net holds form).y
+
+-- where there is no active path nothing is in colour
+abbrev pub DrawingsWithoutPath : Type 0
+DrawingsWithoutPath =
+    (net : Net) (form : Items) (holds : Holds) → path net holds ≡ None
+    → (active_boxes_in (drawing_of net holds form).shapes ≡ []) × (leads_in (drawing_of net holds form).shapes ≡ [])

@@ -1,7 +1,7 @@
 // What is proved of the definitions.
 ghost use Rattle.net_picture.specs.Apart.{DrawingsAreApart};
 ghost use Rattle.net_picture.specs.Edges.{EdgesAreSources};
-ghost use Rattle.net_picture.specs.Line.{DrawingsAreLines};
+ghost use Rattle.net_picture.specs.Line.{DrawingsAreLines, DrawingsWithoutPath};
 ghost use Rattle.net_picture.specs.Marked.{DrawingsAreMarked};
 ghost use Rattle.net_picture.specs.ReadEdges.{EdgesAreRead};
 ghost use Rattle.net_picture.specs.Whole.{DrawingsAreWhole};
@@ -12,12 +12,13 @@ ghost use Rattle.net_picture.specs.Whole.{DrawingsAreWhole};
 /// share a point, and all lie in the view.
 ///
 /// Where each multiplexer is in one of its rows, the boxes in colour are the registers of the active path, from scan-in to scan-out, and
-/// what is in colour is one line from TDI to TDO (IEEE 1687-2014: active scan path).
+/// what is in colour is one line from TDI to TDO (IEEE 1687-2014: active scan path). Where there is no active path, nothing is in colour.
 pub fn picture_laws()
     ensures whole { DrawingsAreWhole }
     ensures apart { DrawingsAreApart }
     ensures marked { DrawingsAreMarked }
     ensures line { DrawingsAreLines }
+    ensures pathless { DrawingsWithoutPath }
 {}
 
 /// What is proved of every graph: it carries no code, its clauses say what holds of the definitions.

@@ -1,7 +1,7 @@
 use Rattle.net_picture.specs.Plan.{has_path, plan_of}
 use Rattle.net_picture.proofs.Areas.{form_apart}
-use Rattle.net_picture.proofs.Lining.{lines}
-use Rattle.net_picture.proofs.Marking.{marked}
+use Rattle.net_picture.proofs.Lining.{lines, unlined}
+use Rattle.net_picture.proofs.Marking.{marked, unmarked}
 use Rattle.net_picture.proofs.Whole.{whole}
 use Rattle.net_picture.proofs.laws.picture_laws.Goals as goal
 
@@ -16,3 +16,6 @@ returns-clause-marked c net form holds d listed = marked net form holds d listed
 
 pub returns-clause-line : goal.returns-clause-line
 returns-clause-line c net form holds d listed = lines net form holds d listed
+
+pub returns-clause-pathless : goal.returns-clause-pathless
+returns-clause-pathless c net form holds none = (unmarked net form holds none, unlined net form holds none)
