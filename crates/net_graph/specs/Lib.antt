@@ -20,3 +20,4 @@ pub mod Marks
 pub mod MarkLaws
 pub mod MarkedSelects
 pub mod Numbered
+pub mod RowTables
