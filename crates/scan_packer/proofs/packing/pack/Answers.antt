@@ -1,29 +1,32 @@
-use Rattle.std.proofs.Common.{ℕ, ap, ◌∙◌}
+use Rattle.std.proofs.Common.{ℕ, length, refl, sym, ap, ◌∙◌}
+use Rattle.std.specs.Prelude.{reverse}
 use Rattle.ij_bits.specs.Room.{Listed}
+use Rattle.net_graph.specs.Chain.{chain}
+use Rattle.net_graph.specs.Resets.{zero_holds}
+use Rattle.net_graph.proofs.Shapes.{length-chain_same}
 use Rattle.net_tree.specs.ScanPlans.{seen_plan}
-use Rattle.scan_packer.specs.Packed.{tdi_bits, tdo_bits, mask_bits}
-use Rattle.scan_packer.proofs.Routes.{is_route, can_pack, same_bits}
+use Rattle.scan_packer.proofs.Flushing.{as_long}
+use Rattle.scan_packer.proofs.Rooms.{reads_on, zero_shape}
+use Rattle.scan_packer.proofs.Routes.{is_route, can_pack}
 use Rattle.scan_packer.proofs.packing.pack.Goals as goal
 
-pub walk-requires-clause-holds : goal.walk-requires-clause-holds
-walk-requires-clause-holds c = let (path, a, p) = c.requires.plan in p.widths
+pub fill_compared-requires-clause-route : goal.fill_compared-requires-clause-route
+fill_compared-requires-clause-route c =
+    is_route c.args.net.now c.args.holds.now c.pack_tdi.new.route.items c.pack_tdi.ensures.path c.requires.well_formed c.as_slice-path.result.now (c.as_slice-path.ensures ∙ ap (λ (l : Listed ℕ). l.items) c.regs.ensures)
 
-pub pack_path-requires-clause-route : goal.pack_path-requires-clause-route
-pack_path-requires-clause-route c =
-    is_route c.args.net.now c.args.holds.now c.walk.new.route.items c.walk.ensures.path c.requires.well_formed c.as_slice-path.result.now (c.as_slice-path.ensures ∙ ap (λ (l : Listed ℕ). l.items) c.regs.ensures)
+pub fill_compared-requires-clause-count : goal.fill_compared-requires-clause-count
+fill_compared-requires-clause-count c =
+    let net = c.args.net.now in
+    let holds = c.args.holds.now in
+    let route = c.pack_tdi.new.route.items in
+    let path = c.as_slice-path.result.now in
+    let same = c.as_slice-path.ensures ∙ ap (λ (l : Listed ℕ). l.items) c.regs.ensures in
+    let r = is_route net holds route c.pack_tdi.ensures.path c.requires.well_formed path same in
+    let held = can_pack net holds route c.pack_tdi.ensures.path path (seen_plan c.args.plan.now) c.args.plan.now.writes.items c.args.plan.now.reads.items c.requires.plan same refl refl in
+    c.len.ensures ∙ ap length c.pack_tdi.ensures.tdi ∙ as_long net holds route (seen_plan c.args.plan.now)
+    ∙ ap (λ p. length (chain (reverse p) holds)) (sym same)
+    ∙ length-chain_same (reverse path) holds (zero_holds net) (held.widths ∙ sym (zero_shape net (reverse path) c.requires.well_formed r))
 
-pub pack_path-requires-clause-plan : goal.pack_path-requires-clause-plan
-pack_path-requires-clause-plan c =
-    can_pack c.args.net.now c.args.holds.now c.walk.new.route.items c.walk.ensures.path c.as_slice-path.result.now (seen_plan c.args.plan.now) c.as_slice-writes.result.now c.as_slice-reads.result.now c.requires.plan (c.as_slice-path.ensures ∙ ap (λ (l : Listed ℕ). l.items) c.regs.ensures) c.as_slice-writes.ensures c.as_slice-reads.ensures
-
-pub returns-clause-tdi : goal.returns-clause-tdi
-returns-clause-tdi c =
-    c.pack_path.ensures.tdi ∙ same_bits (tdi_bits c.args.holds.now) c.as_slice-path.result.now c.walk.new.route.items (seen_plan c.args.plan.now) c.as_slice-writes.result.now c.as_slice-reads.result.now (c.as_slice-path.ensures ∙ ap (λ (l : Listed ℕ). l.items) c.regs.ensures) c.as_slice-writes.ensures c.as_slice-reads.ensures
-
-pub returns-clause-tdo : goal.returns-clause-tdo
-returns-clause-tdo c =
-    c.pack_path.ensures.tdo ∙ same_bits (tdo_bits c.args.net.now) c.as_slice-path.result.now c.walk.new.route.items (seen_plan c.args.plan.now) c.as_slice-writes.result.now c.as_slice-reads.result.now (c.as_slice-path.ensures ∙ ap (λ (l : Listed ℕ). l.items) c.regs.ensures) c.as_slice-writes.ensures c.as_slice-reads.ensures
-
-pub returns-clause-mask : goal.returns-clause-mask
-returns-clause-mask c =
-    c.pack_path.ensures.mask ∙ same_bits (mask_bits c.args.net.now) c.as_slice-path.result.now c.walk.new.route.items (seen_plan c.args.plan.now) c.as_slice-writes.result.now c.as_slice-reads.result.now (c.as_slice-path.ensures ∙ ap (λ (l : Listed ℕ). l.items) c.regs.ensures) c.as_slice-writes.ensures c.as_slice-reads.ensures
+pub fill_compared-requires-clause-on_path : goal.fill_compared-requires-clause-on_path
+fill_compared-requires-clause-on_path c =
+    reads_on c.args.net.now c.args.holds.now c.as_slice-path.result.now c.args.plan.now.writes.items c.as_slice.result.now (can_pack c.args.net.now c.args.holds.now c.pack_tdi.new.route.items c.pack_tdi.ensures.path c.as_slice-path.result.now (seen_plan c.args.plan.now) c.args.plan.now.writes.items c.as_slice.result.now c.requires.plan (c.as_slice-path.ensures ∙ ap (λ (l : Listed ℕ). l.items) c.regs.ensures) refl c.as_slice.ensures)
