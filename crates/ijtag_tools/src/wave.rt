@@ -13,9 +13,7 @@ ghost use Rattle.ijtag_tools.specs.Words.{seen_wave};
 
 use crate::cost::cost_of;
 use crate::words::WaveWords;
-use bench_report::put_made;
-use ij_bits::OutOfMemory;
-use ij_io::{Shelf, Sink, StoreFault, SureSink};
+use ij_io::{Shelf, Sink, StoreFault};
 use ijtag_core::Effect;
 use ijtag_stages::{Stage, StageFault, refused_number};
 use ijtag_work::{Accepted, Stop, Texts, Verdict};
@@ -68,24 +66,18 @@ fn find_window(alloc: Global, it: &Accepted, asked: Option<Window>) -> Result<Wi
     check_window(alloc, asked, clocks)
 }
 
-/// Whether a compare of the whole play differs.
-fn compare_all(alloc: Global, it: &Accepted) -> Result<Verdict, OutOfMemory>
-    requires usable { IsUsable it.now }
-    requires models { there it.now.models ≡ true }
-    requires commands { there it.now.commands ≡ true }
-    ensures { IfOk result (λ verdict. differing verdict ≡ any_differs (differs_at (seen_accepted it.now) (seen_accepted it.now).commands)) }
+/// How a play ends, by whether a compare differs.
+fn verdict_of(differs: bool) -> Verdict
+    ensures { differing result ≡ differs }
 {
-    let net = &it.network.net;
-    let models = it.models().models();
-    let mut line = SureSink::new(alloc);
-    match put_made(alloc, net, &it.device, models, it.commands(), 0, &mut line) {
-        Ok(0) => Ok(Verdict::Agrees),
-        Ok(_) => Ok(Verdict::Differs),
-        Err(_) => Err(OutOfMemory),
+    if differs {
+        Verdict::Differs
+    } else {
+        Verdict::Agrees
     }
 }
 
-/// Writes the file of the waves, from its front.
+/// Writes the file of the waves, from its front; answers how the whole play ends.
 #[tactic(auto, unfolding(crate::specs::Order::waves_of))]
 fn write_waves<S: Shelf>(
     alloc: Global,
@@ -95,10 +87,11 @@ fn write_waves<S: Shelf>(
     window: Window,
     name: &str,
     shelf: &mut S,
-) -> Result<(), StoreFault>
+) -> Result<Verdict, StoreFault>
     requires usable { IsUsable it.now }
     requires models { there it.now.models ≡ true }
     requires commands { there it.now.commands ≡ true }
+    ensures differs { IfOk result (λ verdict. differing verdict ≡ any_differs (differs_at (seen_accepted it.now) (seen_accepted it.now).commands)) }
     ensures whole { OnOk result (file_at (S.files shelf.new) name.now ≡ option_map (λ _. Some (waves_of kind top.now window (seen_accepted it.now))) (S.files shelf.old)) }
     ensures part { OnErr result (HoldsPart (S.files shelf.old) (S.files shelf.new) name.now (waves_of kind top.now window (seen_accepted it.now))) }
     ensures others { OthersStay (S.files shelf.old) (S.files shelf.new) name.now }
@@ -109,9 +102,10 @@ fn write_waves<S: Shelf>(
     let models = it.models().models();
     let commands = it.commands();
     let top = top.as_bytes();
-    put_wave_file(
+    let differs = put_wave_file(
         alloc, kind, net, &it.device, models, top, commands, window, name, shelf,
-    )
+    )?;
+    Ok(verdict_of(differs))
 }
 
 /// Writes the waves of the play, prints nothing, and ends as a play does where a compare differs.
@@ -149,9 +143,8 @@ impl<'w> Effect for WaveWords<'w> {
         _out: &mut O,
     ) -> Result<Verdict, Stop<'a>> {
         let window = find_window(alloc, it, self.window)?;
-        let verdict = compare_all(alloc, it)?;
         match write_waves(alloc, it, self.kind, self.top, window, self.waves, shelf) {
-            Ok(()) => Ok(verdict),
+            Ok(verdict) => Ok(verdict),
             Err(fault) => Err(Stop::of_file(fault, self.waves)),
         }
     }

@@ -8,8 +8,10 @@ use Rattle.std.proofs.lemmas.Slice.Eq.{bytes_eq-Decides}
 use Rattle.std.proofs.lemmas.List.{get_or-map}
 use Rattle.ij_bits.specs.Room.{Listed}
 use Rattle.net_wave.specs.Left.{told_of}
-use Rattle.net_wave.specs.Moments.{Change, change_at, change_if, change_text, changes}
+use Rattle.net_wave.specs.Changes.{later_at, later_changes}
+use Rattle.net_wave.specs.Moments.{Change, change_if, change_text}
 use Rattle.net_wave.specs.Vars.{up_to}
+use Rattle.net_wave.proofs.PinTexts.{flat_both}
 
 -- one list more is told
 pub told_next : (xs : List (Listed ℕ)) (x : Listed ℕ) (now old : List (List ℕ)) (i : ℕ) → i < length now → length old ≡ length now → told_of xs ≡ take i now ++ drop i old → x.items ≡ get_or now i [] → told_of (set xs i x) ≡ take (suc i) now ++ drop (suc i) old
@@ -50,18 +52,13 @@ told_before xs x now old i h same so_far is =
     ∙ ap (λ (l : List (List ℕ)). get_or l i []) so_far
     ∙ still_old now old i h same
 
-flat_both : (xs ys : List Change) → flat_map change_text (xs ++ ys) ≡ flat_map change_text xs ++ flat_map change_text ys
-flat_both [] ys = refl
-flat_both (x ∷ xs) ys = ap (λ (l : List ℕ). change_text x ++ l) (flat_both xs ys) ∙ sym (append_assoc (change_text x) (flat_map change_text xs) (flat_map change_text ys))
-
-pub text_next : (first : Bool) (before now : List (List ℕ)) (i : ℕ) (old piece new b n : List ℕ) → piece ≡ old ++ flat_map change_text (up_to (change_at first before now) i) → b ≡ get_or before i [] → n ≡ get_or now i []
-    → new ≡ piece ++ flat_map change_text (change_if first (i + 1) b n) → new ≡ old ++ flat_map change_text (up_to (change_at first before now) (i + 1))
+pub text_next : (first : Bool) (before now : List (List ℕ)) (i : ℕ) (old piece new b n : List ℕ) → piece ≡ old ++ flat_map change_text (up_to (later_at first before now) i) → b ≡ get_or before i [] → n ≡ get_or now i []
+    → new ≡ piece ++ flat_map change_text (change_if first (i + 10) b n) → new ≡ old ++ flat_map change_text (up_to (later_at first before now) (i + 1))
 text_next first before now i old piece new b n so_far is at more =
-    let f = change_at first before now in
+    let f = later_at first before now in
     more
-    ∙ ap (λ (k : ℕ). piece ++ flat_map change_text (change_if first k b n)) (add-one i)
-    ∙ ap (λ (x : List ℕ). piece ++ flat_map change_text (change_if first (suc i) x n)) is
-    ∙ ap (λ (x : List ℕ). piece ++ flat_map change_text (change_if first (suc i) (get_or before i []) x)) at
+    ∙ ap (λ (x : List ℕ). piece ++ flat_map change_text (change_if first (i + 10) x n)) is
+    ∙ ap (λ (x : List ℕ). piece ++ flat_map change_text (change_if first (i + 10) (get_or before i []) x)) at
     ∙ ap (λ (x : List ℕ). x ++ flat_map change_text (f i)) so_far
     ∙ append_assoc old (flat_map change_text (up_to f i)) (flat_map change_text (f i))
     ∙ ap (λ (x : List ℕ). old ++ x) (sym (flat_both (up_to f i) (f i)))
@@ -84,18 +81,18 @@ rest_told (x ∷ xs) (o ∷ os) zero same h =
 rest_told (x ∷ xs) (o ∷ os) (suc n) same h =
     ap (λ (l : List (List ℕ)). x ∷ l) (rest_told xs os n (omega (arith, same)) (λ k l m. h (suc k) (omega (arith, l)) (omega (arith, m))))
 
-pub rest_untold : (old now : List (List ℕ)) (n m : ℕ) → n ≤ m → ((k : ℕ) → n ≤ k → k < m → get_or old k [] ≡ get_or now k []) → up_to (change_at false old now) m ≡ up_to (change_at false old now) n
-rest_untold old now n zero h same = let none : n ≡ 0 = omega (arith, h) in ap (up_to (change_at false old now)) (sym none)
+pub rest_untold : (old now : List (List ℕ)) (n m : ℕ) → n ≤ m → ((k : ℕ) → n ≤ k → k < m → get_or old k [] ≡ get_or now k []) → up_to (later_at false old now) m ≡ up_to (later_at false old now) n
+rest_untold old now n zero h same = let none : n ≡ 0 = omega (arith, h) in ap (up_to (later_at false old now)) (sym none)
 rest_untold old now n (suc m) h same = cases (λ l. rest_untold old now n m l (λ k a b. same k a (omega (arith, b)))) (n == suc m) refl
   where
-    cases : (n ≤ m → up_to (change_at false old now) m ≡ up_to (change_at false old now) n) → (b : Bool) → (n == suc m) ≡ b → up_to (change_at false old now) (suc m) ≡ up_to (change_at false old now) n
+    cases : (n ≤ m → up_to (later_at false old now) m ≡ up_to (later_at false old now) n) → (b : Bool) → (n == suc m) ≡ b → up_to (later_at false old now) (suc m) ≡ up_to (later_at false old now) n
     cases high true e =
-        let all : n ≡ suc m = grind (arith, nat_tests) in ap (up_to (change_at false old now)) (sym all)
+        let all : n ≡ suc m = grind (arith, nat_tests) in ap (up_to (later_at false old now)) (sym all)
     cases high false e =
         let other : n ≡ suc m → ⊥ = λ d. grind (arith, nat_tests) in
         let fewer : n ≤ m = omega (arith, h, other) in
-        let here : change_at false old now m ≡ [] = ap (λ (d : List ℕ). change_if false (suc m) d (get_or now m [])) (same m fewer (omega arith)) ∙ told_again (suc m) (get_or now m []) in
-        ap (λ (l : List Change). up_to (change_at false old now) m ++ l) here ∙ append-nil (up_to (change_at false old now) m) ∙ high fewer
+        let here : later_at false old now m ≡ [] = ap (λ (d : List ℕ). change_if false (m + 10) d (get_or now m [])) (same m fewer (omega arith)) ∙ told_again (m + 10) (get_or now m []) in
+        ap (λ (l : List Change). up_to (later_at false old now) m ++ l) here ∙ append-nil (up_to (later_at false old now) m) ∙ high fewer
 
 pub stays_text : (first : Bool) (number : ℕ) (piece before now : List ℕ) → first ≡ false → before ≡ now → piece ≡ piece ++ flat_map change_text (change_if first number before now)
 stays_text first number piece before now later same =
@@ -113,10 +110,10 @@ module _ (first : Bool) (old now : List (List ℕ)) (n : ℕ) (same : length old
   pub all_told : (told : List (List ℕ)) → told ≡ take n now ++ drop n old → told ≡ now
   all_told told is = is ∙ rest_told now old n same (stays first refl)
 
-  untold_is : (b : Bool) → first ≡ b → up_to (change_at b old now) (length now) ≡ up_to (change_at b old now) n
-  untold_is true e = ap (up_to (change_at true old now)) (sym (all e))
+  untold_is : (b : Bool) → first ≡ b → up_to (later_at b old now) (length now) ≡ up_to (later_at b old now) n
+  untold_is true e = ap (up_to (later_at true old now)) (sym (all e))
   untold_is false e = rest_untold old now n (length now) within (stay e)
 
-  pub all_text : (piece new : List ℕ) → new ≡ piece ++ flat_map change_text (up_to (change_at first old now) n) → new ≡ piece ++ flat_map change_text (changes first old now)
+  pub all_text : (piece new : List ℕ) → new ≡ piece ++ flat_map change_text (up_to (later_at first old now) n) → new ≡ piece ++ flat_map change_text (later_changes first old now)
   all_text piece new is =
       is ∙ ap (λ (l : List Change). piece ++ flat_map change_text l) (sym (untold_is first refl))

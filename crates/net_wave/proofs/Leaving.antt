@@ -1,8 +1,9 @@
 -- What is left of a play, clock by clock.
-use Rattle.std.proofs.Common.{◌≡◌, ℕ, zero, suc, ◌-◌, Bool, true, false, Option, Some, None, List, [], ◌∷◌, ◌++◌, drop, length, map, take, refl, ap, sym, ◌∙◌, subst, arith, append-nil, append_assoc, length-append, Vec, Global}
-use Rattle.std.specs.Prelude.{IfSome, MatchOption}
+use Rattle.std.proofs.Common.{◌≡◌, ℕ, zero, suc, ◌+◌, ◌-◌, ◌*◌, ◌^◌, Bool, true, false, Option, Some, None, List, [], ◌∷◌, ◌++◌, decimal, drop, length, map, take, refl, ap, sym, ◌∙◌, subst, arith, not, cond, append-nil, append_assoc, length-append, Vec, Global}
+use Rattle.std.specs.Prelude.{IfSome, MatchOption, ◌<◌, ◌||◌}
 use Rattle.std.proofs.lemmas.List.{length-map}
-use Rattle.bench_report.specs.Report.{chip, chip_of}
+use Rattle.bench_report.specs.Report.{chip, chip_of, differs_of}
+use Rattle.ij_bits.specs.BitLists.{same_bit}
 use Rattle.ij_bits.specs.Room.{Listed}
 use Rattle.instruments.specs.declared.Counts.{Counts}
 use Rattle.instruments.specs.declared.model.Model.{Model}
@@ -10,25 +11,29 @@ use Rattle.instruments.specs.Machine.{Machine, count_log}
 use Rattle.instruments.specs.Runners.{machines_of}
 use Rattle.instruments.specs.Seen.{SeenModel, seen_model}
 use Rattle.instruments.proofs.Machines.{machines_are}
-use Rattle.net_bench.specs.Bench.{Chip, State, clock, fault_free, power_up}
+use Rattle.net_bench.specs.Bench.{Chip, State, clock, fault_free, power_up, tdo}
 use Rattle.net_bench.specs.Board.{SeenBench}
-use Rattle.net_bench.specs.Playing.{after_pins}
+use Rattle.net_bench.specs.Playing.{Compare, after_pins, compare_of, compares, differing}
 use Rattle.net_graph.specs.declared.device.Device.{Device}
 use Rattle.net_graph.specs.declared.net.Net.{Net}
 use Rattle.net_graph.specs.Held.{AreHolds}
+use Rattle.net_graph.specs.Nets.{IsNet}
 use Rattle.net_graph.specs.Signals.{Holds}
 use Rattle.tap_machine.specs.declared.Pins.{Pins}
-use Rattle.tap_machine.specs.Play.{no_shift}
+use Rattle.svf_writer.specs.SeenCommands.{SeenCommand}
+use Rattle.tap_machine.specs.declared.Stable.TheVariants.{Reset as InReset}
+use Rattle.tap_machine.specs.Play.{no_shift, pins}
 use Rattle.tap_machine.specs.Remaining.{Remaining}
 use Rattle.net_wave.specs.declared.playing.Playing.{Playing}
 use Rattle.net_wave.specs.declared.shown.Shown.{Shown}
 use Rattle.net_wave.specs.declared.var.Var.{Var}
 use Rattle.net_wave.specs.declared.var.Window.{Window}
-use Rattle.net_wave.specs.Changes.{WasTold, shown_at}
-use Rattle.net_wave.specs.Left.{IsPlaying, after_text, clock_text, falling_text, left_text, models_of, skipped_text, text_from, told_of, values_at}
-use Rattle.net_wave.specs.Moments.{moment_text, moments_from, moments_text, next_clock, nothing, rising, untold}
-use Rattle.net_wave.specs.Values.{value, values}
-use Rattle.net_wave.specs.Wave.{moments_of}
+use Rattle.net_wave.specs.Changes.{WasTold, pin_digits, pin_vars, shown_at}
+use Rattle.net_wave.specs.Left.{CanStep, IsPlaying, after_text, all_vars, before_of, clock_text, differs_with, falling_text, left_text, models_of, skipped_text, some_differs, text_from, told_of, values_at}
+use Rattle.net_wave.specs.Moments.{change_at, changes, counted, falling, moment_text, moments_from, moments_text, next_clock, nothing, rising, untold}
+use Rattle.net_wave.specs.Values.{differs, value, values}
+use Rattle.net_wave.specs.Wave.{is_any, moments_of}
+use Rattle.net_wave.proofs.PinTexts.{up_alike}
 
 pub next_taken : (r : Option Pins) (n : ℕ) (ps qs : List Pins) → (n ≡ 0 → ⊥) → MatchOption r (ps ≡ []) (λ p. ps ≡ p ∷ qs) → IfSome r (λ p. take n ps ≡ p ∷ take (n - 1) qs)
 next_taken None n ps qs some is = tt
@@ -50,40 +55,53 @@ abbrev text : List SeenModel → List Var → Window → Chip Counts → List Pi
 text models vars window c ps s told =
     moments_text (moments_from c models vars true window.from told (take window.count (drop window.from ps)) (after_pins c (take window.from ps) s))
 
+-- what was told before the first moment isn't looked at
+module _ (c : Chip Counts) (models : List SeenModel) (vars : List Var) where
+  first_falling : (k : ℕ) (told other now : List (List ℕ)) → falling true k told now ≡ falling true k other now
+  first_falling k told other now =
+      ap (λ l. record { time = 2 * k; first = true; changes = record { number = 0; digits = 48 ∷ [] } ∷ l }) (up_alike (change_at true told now) (change_at true other now) (length now) (λ i. refl))
+
+  first_moments : (k : ℕ) (told other : List (List ℕ)) (ps : List Pins) (s : State Counts) → moments_from c models vars true k told ps s ≡ moments_from c models vars true k other ps s
+  first_moments k told other [] s =
+      ap (λ m. m ∷ []) (first_falling k told other (values c models vars (no_shift false) s))
+  first_moments k told other (p ∷ ps) s =
+      ap (λ m. m ∷ rising k ∷ moments_from c models vars false (next_clock k) (values c models vars p s) ps (clock c p.tms p.tdi s)) (first_falling k told other (values c models vars p s))
+
 pub start_text : (net : Net) (device : Device) (models : List Model) (vars : List Var) (window : Window) (b : SeenBench) (ps given : List Pins) (told : List (List ℕ))
-    → b ≡ record { net = net; device = device; models = models; state = power_up (fault_free count_log net device (machines_of models)) } → ps ≡ given → told ≡ untold (length vars)
+    → b ≡ record { net = net; device = device; models = models; state = power_up (fault_free count_log net device (machines_of models)) } → ps ≡ given
     → text (map seen_model models) vars window (chip_of b) ps b.state told ≡ moments_text (moments_of (chip net device (map seen_model models)) (map seen_model models) vars given window)
 unfolding moments_of
-start_text net device models vars window b ps given told is pins none =
+start_text net device models vars window b ps given told is pins =
     let seen = map seen_model models in
+    let c = fault_free count_log net device (machines_of models) in
     ap (λ (x : SeenBench). text seen vars window (chip_of x) ps x.state told) is
-    ∙ ap (λ (x : List Pins). text seen vars window (fault_free count_log net device (machines_of models)) x (power_up (fault_free count_log net device (machines_of models))) told) pins
-    ∙ ap (λ (x : List (List ℕ)). text seen vars window (fault_free count_log net device (machines_of models)) given (power_up (fault_free count_log net device (machines_of models))) x) none
+    ∙ ap (λ (x : List Pins). text seen vars window c x (power_up c) told) pins
+    ∙ ap moments_text (first_moments c seen vars window.from told (untold (length vars)) (take window.count (drop window.from given)) (after_pins c (take window.from given) (power_up c)))
     ∙ ap (λ (ms : List Machine). text seen vars window (fault_free count_log net device ms) given (power_up (fault_free count_log net device ms)) (untold (length vars))) (machines_are models)
 
 -- ---- clocks that are skipped
 
-pub skipped_next : (p : Playing) (b : SeenBench) (player : Remaining) (stages : Holds) (m n : ℕ) (x : Pins) → m ≡ suc n → p.player.pins ≡ x ∷ player.pins → b ≡ record p.bench { state = clock (chip_of p.bench) x.tms x.tdi p.bench.state }
-    → skipped_text n (record p { bench = b; player = player; stages = stages }) ≡ skipped_text m p
+pub skipped_next : (p : Playing) (b : SeenBench) (player : Remaining) (stages : Holds) (some : Bool) (m n : ℕ) (x : Pins) → m ≡ suc n → p.player.pins ≡ x ∷ player.pins → b ≡ record p.bench { state = clock (chip_of p.bench) x.tms x.tdi p.bench.state }
+    → skipped_text n (record p { bench = b; player = player; stages = stages; differs = some }) ≡ skipped_text m p
 unfolding skipped_text text_from
-skipped_next p b player stages m n x more given is =
+skipped_next p b player stages some m n x more given is =
     let models = models_of p in
-    let told = told_of p.told.items in
-    ap (λ (y : SeenBench). moments_text (moments_from (chip_of y) models p.vars.items p.first p.clock told (take p.left (drop n player.pins)) (after_pins (chip_of y) (take n player.pins) y.state))) is
-    ∙ ap (λ (ps : List Pins). moments_text (moments_from (chip_of p.bench) models p.vars.items p.first p.clock told (take p.left (drop (suc n) ps)) (after_pins (chip_of p.bench) (take (suc n) ps) p.bench.state))) (sym given)
-    ∙ ap (λ (k : ℕ). moments_text (moments_from (chip_of p.bench) models p.vars.items p.first p.clock told (take p.left (drop k p.player.pins)) (after_pins (chip_of p.bench) (take k p.player.pins) p.bench.state))) (sym more)
+    let told = before_of p in
+    ap (λ (y : SeenBench). moments_text (moments_from (chip_of y) models (all_vars p) p.first p.clock told (take p.left (drop n player.pins)) (after_pins (chip_of y) (take n player.pins) y.state))) is
+    ∙ ap (λ (ps : List Pins). moments_text (moments_from (chip_of p.bench) models (all_vars p) p.first p.clock told (take p.left (drop (suc n) ps)) (after_pins (chip_of p.bench) (take (suc n) ps) p.bench.state))) (sym given)
+    ∙ ap (λ (k : ℕ). moments_text (moments_from (chip_of p.bench) models (all_vars p) p.first p.clock told (take p.left (drop k p.player.pins)) (after_pins (chip_of p.bench) (take k p.player.pins) p.bench.state))) (sym more)
 
 pub skipped_none : (p : Playing) (player : Remaining) (m : ℕ) → p.player.pins ≡ [] → player.pins ≡ [] → left_text (record p { player = player }) ≡ skipped_text m p
 unfolding left_text skipped_text text_from
 skipped_none p player m none end =
-    let told = told_of p.told.items in
+    let told = before_of p in
     let models = models_of p in
-    ap (λ (ps : List Pins). moments_text (moments_from (chip_of p.bench) models p.vars.items p.first p.clock told (take p.left ps) p.bench.state)) end
+    ap (λ (ps : List Pins). moments_text (moments_from (chip_of p.bench) models (all_vars p) p.first p.clock told (take p.left ps) p.bench.state)) end
     ∙ at m
-    ∙ ap (λ (ps : List Pins). moments_text (moments_from (chip_of p.bench) models p.vars.items p.first p.clock told (take p.left (drop m ps)) (after_pins (chip_of p.bench) (take m ps) p.bench.state))) (sym none)
+    ∙ ap (λ (ps : List Pins). moments_text (moments_from (chip_of p.bench) models (all_vars p) p.first p.clock told (take p.left (drop m ps)) (after_pins (chip_of p.bench) (take m ps) p.bench.state))) (sym none)
   where
-    at : (m : ℕ) → moments_text (moments_from (chip_of p.bench) (models_of p) p.vars.items p.first p.clock (told_of p.told.items) (take p.left []) p.bench.state)
-        ≡ moments_text (moments_from (chip_of p.bench) (models_of p) p.vars.items p.first p.clock (told_of p.told.items) (take p.left (drop m [])) (after_pins (chip_of p.bench) (take m []) p.bench.state))
+    at : (m : ℕ) → moments_text (moments_from (chip_of p.bench) (models_of p) (all_vars p) p.first p.clock (before_of p) (take p.left []) p.bench.state)
+        ≡ moments_text (moments_from (chip_of p.bench) (models_of p) (all_vars p) p.first p.clock (before_of p) (take p.left (drop m [])) (after_pins (chip_of p.bench) (take m []) p.bench.state))
     at zero = refl
     at (suc m) = refl
 
@@ -93,10 +111,10 @@ skipped_all p n none = ap (λ (k : ℕ). skipped_text k p) (sym none)
 
 -- ---- clocks that are written
 
-pub played : (p : Playing) (b : SeenBench) (player : Remaining) (stages : Holds) (told : Vec (Listed ℕ) Global) (scratch : Listed ℕ) (last : Shown) (first : Bool) (k : ℕ) (t : State Counts) → IsPlaying p → b ≡ record p.bench { state = t } → AreHolds p.bench.net stages → (p.shifts ≡ true → stages ≡ b.state.stages) → length told.items ≡ length p.vars.items
-    → (first ≡ false → WasTold (chip_of b) (models_of p) p.vars.items (told_of told.items) last b.state)
-    → IsPlaying (record p { bench = b; player = player; stages = stages; told = told; scratch = scratch; last = last; first = first; clock = k })
-played p b player stages told scratch last first k t is e shape same count known =
+pub played : (p : Playing) (b : SeenBench) (player : Remaining) (stages : Holds) (told : Vec (Listed ℕ) Global) (instruction scratch : Listed ℕ) (last : Shown) (first : Bool) (k : ℕ) (digits : Vec ℕ Global) (some : Bool) (t : State Counts) → IsPlaying p → b ≡ record p.bench { state = t } → AreHolds p.bench.net stages → (p.shifts ≡ true → stages ≡ b.state.stages) → length told.items ≡ length p.vars.items
+    → (first ≡ false → WasTold (chip_of b) (models_of p) (all_vars p) (pin_digits last instruction.items ++ told_of told.items) last b.state) → digits.items ≡ 35 ∷ decimal (counted (2 * k))
+    → IsPlaying (record p { bench = b; player = player; stages = stages; told = told; instruction = instruction; scratch = scratch; last = last; first = first; clock = k; digits = digits; differs = some })
+played p b player stages told instruction scratch last first k digits some t is e shape same count known time =
     record {
       well_formed = is.well_formed;
       models = is.models;
@@ -110,6 +128,7 @@ played p b player stages told scratch last first k t is e shape same count known
       pins = is.pins;
       shifts = is.shifts;
       known = known;
+      digits = time;
     }
 
 -- the player and the count of a play are further
@@ -119,7 +138,7 @@ taken p player n = record p { player = player; left = n }
 pub still_playing : (p q : Playing) → q ≡ taken p q.player q.left → IsPlaying p → IsPlaying q
 still_playing p q same is =
     subst IsPlaying (sym same)
-    (record { well_formed = is.well_formed; models = is.models; net = is.net; same_models = is.same_models; shape = is.shape; stages = is.stages; vars = is.vars; told = is.told; few = is.few; pins = is.pins; shifts = is.shifts; known = is.known })
+    (record { well_formed = is.well_formed; models = is.models; net = is.net; same_models = is.same_models; shape = is.shape; stages = is.stages; vars = is.vars; told = is.told; few = is.few; pins = is.pins; shifts = is.shifts; known = is.known; digits = is.digits })
 
 abbrev pub rest : Pins
 rest = no_shift false
@@ -127,76 +146,151 @@ rest = no_shift false
 pub end_text : (p q : Playing) → q ≡ taken p q.player q.left → take p.left p.player.pins ≡ [] → falling_text q rest ≡ left_text p
 unfolding left_text falling_text values_at text_from
 end_text p q same none =
-    let told = told_of p.told.items in
+    let told = before_of p in
     let last = falling_text (taken p q.player q.left) rest in
     ap (λ (x : Playing). falling_text x rest) same
     ∙ sym (append-nil last)
-    ∙ ap (λ (ps : List Pins). moments_text (moments_from (chip_of p.bench) (models_of p) p.vars.items p.first p.clock told ps p.bench.state)) (sym none)
+    ∙ ap (λ (ps : List Pins). moments_text (moments_from (chip_of p.bench) (models_of p) (all_vars p) p.first p.clock told ps p.bench.state)) (sym none)
 
 pub next_text : (p q : Playing) (x : Pins) → q ≡ taken p q.player q.left → take p.left p.player.pins ≡ x ∷ take q.left q.player.pins → left_text p ≡ clock_text q x ++ after_text q x
 unfolding left_text falling_text values_at text_from after_text
 next_text p q x same given =
-    let told = told_of p.told.items in
+    let told = before_of p in
     let z = taken p q.player q.left in
-    ap (λ (ps : List Pins). moments_text (moments_from (chip_of p.bench) (models_of p) p.vars.items p.first p.clock told ps p.bench.state)) given
+    ap (λ (ps : List Pins). moments_text (moments_from (chip_of p.bench) (models_of p) (all_vars p) p.first p.clock told ps p.bench.state)) given
     ∙ sym (append_assoc (falling_text z x) (moment_text (rising z.clock)) (after_text z x))
     ∙ ap (λ (y : Playing). clock_text y x ++ after_text y x) (sym same)
 
 -- what is left after a clock was written
-pub clock_left : (p : Playing) (x : Pins) (b : SeenBench) (stages : Holds) (told : Vec (Listed ℕ) Global) (k : ℕ) → b ≡ record p.bench { state = clock (chip_of p.bench) x.tms x.tdi p.bench.state } → told_of told.items ≡ values_at p x → k ≡ next_clock p.clock
-    → left_text (record p { bench = b; stages = stages; told = told; first = false; clock = k }) ≡ after_text p x
-unfolding left_text after_text text_from
-clock_left p x b stages told k e is next =
-    let ps = take p.left p.player.pins in
-    let s = clock (chip_of p.bench) x.tms x.tdi p.bench.state in
-    ap (λ (y : SeenBench). moments_text (moments_from (chip_of y) (models_of p) p.vars.items false k (told_of told.items) ps y.state)) e
-    ∙ ap (λ (l : List (List ℕ)). moments_text (moments_from (chip_of p.bench) (models_of p) p.vars.items false k l ps s)) is
-    ∙ ap (λ (n : ℕ). moments_text (moments_from (chip_of p.bench) (models_of p) p.vars.items false n (values_at p x) ps s)) next
+module _ (p : Playing) (x : Pins) (b : SeenBench) (stages : Holds) (told : Vec (Listed ℕ) Global) (instruction scratch : Listed ℕ) (last : Shown) (k : ℕ) (digits : Vec ℕ Global) (some : Bool) where
+  abbrev pub later : Playing
+  later =
+      record p { bench = b; stages = stages; told = told; instruction = instruction; scratch = scratch; last = last; first = false; clock = k; digits = digits; differs = some }
 
-pub told_as_many : (p : Playing) (x : Pins) (told : List (Listed ℕ)) → told_of told ≡ values_at p x → length told ≡ length p.vars.items
-unfolding values_at
-told_as_many p x told is =
-    sym (length-map told (λ (d : Listed ℕ). d.items)) ∙ ap length is ∙ length-map p.vars.items (λ (v : Var). value (chip_of p.bench) (models_of p) v x p.bench.state)
+  pub clock_left : b ≡ record p.bench { state = clock (chip_of p.bench) x.tms x.tdi p.bench.state } → pin_digits last instruction.items ++ told_of told.items ≡ values_at p x → k ≡ next_clock p.clock → left_text later ≡ after_text p x
+  unfolding left_text after_text text_from
+  clock_left e is next =
+      let ps = take p.left p.player.pins in
+      let s = clock (chip_of p.bench) x.tms x.tdi p.bench.state in
+      ap (λ (y : SeenBench). moments_text (moments_from (chip_of y) (models_of p) (all_vars p) false k (pin_digits last instruction.items ++ told_of told.items) ps y.state)) e
+      ∙ ap (λ (l : List (List ℕ)). moments_text (moments_from (chip_of p.bench) (models_of p) (all_vars p) false k l ps s)) is
+      ∙ ap (λ (n : ℕ). moments_text (moments_from (chip_of p.bench) (models_of p) (all_vars p) false n (values_at p x) ps s)) next
 
--- ---- the same play, with other digits that were told
-
-module _ (p q : Playing) (same : q ≡ record p { told = q.told; scratch = q.scratch; last = q.last }) where
-  pub same_values : (x : Pins) → values_at q x ≡ values_at p x
+  was_told : b ≡ record p.bench { state = clock (chip_of p.bench) x.tms x.tdi p.bench.state } → last ≡ shown_at (chip_of p.bench) x p.bench.state → pin_digits last instruction.items ++ told_of told.items ≡ values_at p x → WasTold (chip_of b) (models_of p) (all_vars p) (pin_digits last instruction.items ++ told_of told.items) last b.state
   unfolding values_at
-  same_values x = ap (λ (y : Playing). values_at y x) same
+  was_told e shows is =
+      let c = chip_of p.bench in
+      let s = p.bench.state in
+      let models = models_of p in
+      let all = pin_digits last instruction.items ++ told_of told.items in
+      let base : WasTold c models (all_vars p) all last b.state =
+      record {
+        before = s;
+        all = is ∙ ap (λ (l : Shown). values c models (all_vars p) l.pins s) (sym shows);
+        shown = shows ∙ ap (λ (l : Shown). shown_at c l.pins s) (sym shows);
+        next = ap (λ (y : SeenBench). y.state) e ∙ ap (λ (l : Shown). clock c l.pins.tms l.pins.tdi s) (sym shows);
+      } in
+      subst (λ (ch : Chip Counts). WasTold ch models (all_vars p) all last b.state) (sym (ap chip_of e)) base
 
-  pub same_after : (x : Pins) → after_text q x ≡ after_text p x
-  unfolding after_text text_from values_at
-  same_after x = ap (λ (y : Playing). after_text y x) same
+  pub clock_played : IsPlaying p → b ≡ record p.bench { state = clock (chip_of p.bench) x.tms x.tdi p.bench.state } → last ≡ shown_at (chip_of p.bench) x p.bench.state → pin_digits last instruction.items ++ told_of told.items ≡ values_at p x → length told.items ≡ length p.vars.items
+      → AreHolds p.bench.net stages → (p.shifts ≡ true → stages ≡ b.state.stages) → digits.items ≡ 35 ∷ decimal (counted (2 * k)) → IsPlaying later
+  clock_played is e shows told_is many shape kept time =
+      played p b p.player stages told instruction scratch last false k digits some (clock (chip_of p.bench) x.tms x.tdi p.bench.state) is e shape kept many (λ none. was_told e shows told_is) time
 
-  pub same_left : (x : Pins) (b : SeenBench) (stages : Holds) (k : ℕ) → b ≡ record q.bench { state = clock (chip_of q.bench) x.tms x.tdi q.bench.state } → told_of q.told.items ≡ values_at p x → k ≡ next_clock q.clock
-      → left_text (record q { bench = b; stages = stages; first = false; clock = k }) ≡ after_text p x
-  same_left x b stages k e is next = clock_left q x b stages q.told k e (is ∙ sym (same_values x)) next ∙ same_after x
+-- as many digits as there are variables
+pub told_as_many : (p : Playing) (x : Pins) (last : Shown) (instruction : List ℕ) (told : List (Listed ℕ)) → pin_digits last instruction ++ told_of told ≡ values_at p x → length told ≡ length p.vars.items
+unfolding values_at
+told_as_many p x last instruction told is =
+    sym (length-map told (λ (d : Listed ℕ). d.items)) ∙ ap (λ (l : List (List ℕ)). length (drop 9 l)) is ∙ length-map p.vars.items (λ (v : Var). value (chip_of p.bench) (models_of p) v x p.bench.state)
 
-  -- after a clock its values are what was told
-  module _ (x : Pins) (b : SeenBench) (e : b ≡ record q.bench { state = clock (chip_of q.bench) x.tms x.tdi q.bench.state }) where
-    further : b ≡ record p.bench { state = clock (chip_of p.bench) x.tms x.tdi p.bench.state }
-    further =
-        e ∙ ap (λ (y : Playing). record y.bench { state = clock (chip_of y.bench) x.tms x.tdi y.bench.state }) same
+-- ---- times
 
-    was_told : q.last ≡ shown_at (chip_of p.bench) x p.bench.state → told_of q.told.items ≡ values_at p x → WasTold (chip_of b) (models_of p) p.vars.items (told_of q.told.items) q.last b.state
-    unfolding values_at
-    was_told last is =
-        let c = chip_of p.bench in
-        let s = p.bench.state in
-        let models = models_of p in
-        let base : WasTold c models p.vars.items (told_of q.told.items) q.last b.state =
-        record {
-          before = s;
-          all = is ∙ ap (λ (l : Shown). values c models p.vars.items l.pins s) (sym last);
-          shown = last ∙ ap (λ (l : Shown). shown_at c l.pins s) (sym last);
-          next = ap (λ (y : SeenBench). y.state) further ∙ ap (λ (l : Shown). clock c l.pins.tms l.pins.tdi s) (sym last);
-        } in
-        subst (λ (ch : Chip Counts). WasTold ch models p.vars.items (told_of q.told.items) q.last b.state) (sym (ap chip_of further)) base
+-- TCK rises one later than it falls, and falls again one later than that
+pub rise_time : (k time : ℕ) → time ≡ counted (2 * k) → counted (time + 1) ≡ counted (2 * k + 1)
+rise_time k time is = omega (arith, is)
 
-    pub clock_played : (stages : Holds) (k : ℕ) → IsPlaying p → q.last ≡ shown_at (chip_of p.bench) x p.bench.state → told_of q.told.items ≡ values_at p x → AreHolds q.bench.net stages → (q.shifts ≡ true → stages ≡ b.state.stages)
-        → IsPlaying (record q { bench = b; stages = stages; first = false; clock = k })
-    clock_played stages k is last told shape kept =
-        subst (λ (y : Playing). IsPlaying (record y { bench = b; stages = stages; first = false; clock = k })) (sym same)
-        (played p b p.player stages q.told q.scratch q.last false k (clock (chip_of p.bench) x.tms x.tdi p.bench.state) is further
-        (subst (λ (y : Playing). AreHolds y.bench.net stages) same shape) (subst (λ (y : Playing). y.shifts ≡ true → stages ≡ b.state.stages) same kept) (told_as_many p x q.told.items told) (λ none. was_told last told))
+pub next_time : (k time rise next : ℕ) → time ≡ counted (2 * k) → rise ≡ counted (time + 1) → next ≡ next_clock k → counted (rise + 1) ≡ counted (2 * next)
+next_time k time rise next is up on = omega (arith, is, up, on)
+
+-- ---- compares
+
+pub differs_next : (e : Option Bool) (scan bit : ℕ) (found so_far : Bool) (rest : List Compare) → ((so_far || differs e found) || is_any (differing rest)) ≡ (so_far || is_any (differing (compare_of e scan bit found ++ rest)))
+differs_next e scan bit found true rest = refl
+differs_next None scan bit found false rest = refl
+differs_next (Some e) scan bit found false rest = cases (same_bit e found) refl
+  where
+    cases : (b : Bool) → same_bit e found ≡ b → (not (same_bit e found) || is_any (differing rest)) ≡ is_any (cond (same_bit e found) (differing rest) (record { scan = scan; bit = bit; expect = e; found = found } ∷ differing rest))
+    cases true is =
+        ap (λ (b : Bool). not b || is_any (differing rest)) is ∙ sym (ap (λ (b : Bool). is_any (cond b (differing rest) (record { scan = scan; bit = bit; expect = e; found = found } ∷ differing rest))) is)
+    cases false is =
+        ap (λ (b : Bool). not b || is_any (differing rest)) is ∙ sym (ap (λ (b : Bool). is_any (cond b (differing rest) (record { scan = scan; bit = bit; expect = e; found = found } ∷ differing rest))) is)
+
+-- a clock of a play, with what it compares
+pub compared : (c d : Chip Counts) (p : Pins) (ps : List Pins) (s t : State Counts) (so_far here some : Bool) → c ≡ d → t ≡ clock d p.tms p.tdi s → here ≡ differs p.expect (tdo d s) → some ≡ (so_far || here)
+    → (some || is_any (differing (compares c ps t))) ≡ (so_far || is_any (differing (compares d (p ∷ ps) s)))
+compared c d p ps s t so_far here some same next found is =
+    ap (λ (b : Bool). b || is_any (differing (compares c ps t))) (is ∙ ap (λ (b : Bool). so_far || b) found)
+    ∙ ap (λ (x : Chip Counts). (so_far || differs p.expect (tdo d s)) || is_any (differing (compares x ps t))) same
+    ∙ ap (λ (x : State Counts). (so_far || differs p.expect (tdo d s)) || is_any (differing (compares d ps x))) next
+    ∙ differs_next p.expect p.scan p.bit (tdo d s) so_far (compares d ps (clock d p.tms p.tdi s))
+
+module _ (p : Playing) where
+  -- a clock of which nothing is written
+  pub differs_on : (b : SeenBench) (player : Remaining) (stages : Holds) (here some : Bool) (x : Pins) → p.player.pins ≡ x ∷ player.pins → b ≡ record p.bench { state = clock (chip_of p.bench) x.tms x.tdi p.bench.state } → here ≡ differs x.expect (tdo (chip_of p.bench) p.bench.state) → some ≡ (p.differs || here)
+      → some_differs (record p { bench = b; player = player; stages = stages; differs = some }) ≡ some_differs p
+  unfolding some_differs
+  differs_on b player stages here some x given e found is =
+      compared (chip_of b) (chip_of p.bench) x player.pins p.bench.state b.state p.differs here some (ap chip_of e) (ap (λ (y : SeenBench). y.state) e) found is
+      ∙ ap (λ (ps : List Pins). p.differs || is_any (differing (compares (chip_of p.bench) ps p.bench.state))) (sym given)
+
+  pub differs_none : (player : Remaining) → p.player.pins ≡ player.pins → some_differs (record p { player = player }) ≡ some_differs p
+  unfolding some_differs
+  differs_none player same = ap (λ (ps : List Pins). p.differs || is_any (differing (compares (chip_of p.bench) ps p.bench.state))) (sym same)
+
+  pub differs_end : p.player.pins ≡ [] → p.differs ≡ some_differs p
+  unfolding some_differs
+  differs_end none =
+      or_false p.differs ∙ ap (λ (ps : List Pins). p.differs || is_any (differing (compares (chip_of p.bench) ps p.bench.state))) (sym none)
+    where
+      or_false : (b : Bool) → b ≡ (b || false)
+      or_false true = refl
+      or_false false = refl
+
+  pub can_step : IsPlaying p → CanStep p
+  can_step is =
+      record {
+        well_formed = subst IsNet (sym is.net) is.well_formed;
+        shape = subst (λ (n : Net). AreHolds n p.stages) (sym is.net) is.shape;
+        stages = is.stages;
+      }
+
+  -- after the pins of a clock were taken, or where there were none
+  module _ (q : Playing) (same : q ≡ taken p q.player q.left) where
+    pub differs_given : (x : Pins) → p.player.pins ≡ x ∷ q.player.pins → differs_with q x ≡ some_differs p
+    unfolding some_differs differs_with
+    differs_given x given =
+        ap (λ (y : Playing). y.differs || is_any (differing (compares (chip_of y.bench) (x ∷ q.player.pins) y.bench.state))) same
+        ∙ ap (λ (ps : List Pins). p.differs || is_any (differing (compares (chip_of p.bench) ps p.bench.state))) (sym given)
+
+    module _ (r : Playing) (told : r ≡ record q { told = r.told; instruction = r.instruction; scratch = r.scratch; last = r.last }) where
+      pub differs_kept : q.player.pins ≡ p.player.pins → some_differs r ≡ some_differs p
+      unfolding some_differs
+      differs_kept kept =
+          ap (λ (y : Playing). y.differs || is_any (differing (compares (chip_of y.bench) y.player.pins y.bench.state))) told
+          ∙ ap (λ (y : Playing). y.differs || is_any (differing (compares (chip_of y.bench) q.player.pins y.bench.state))) same
+          ∙ ap (λ (ps : List Pins). p.differs || is_any (differing (compares (chip_of p.bench) ps p.bench.state))) kept
+
+      pub step_kept : IsPlaying p → CanStep r
+      step_kept is =
+          let here = can_step is in
+          let taken_too : CanStep q = subst CanStep (sym same) (record { well_formed = here.well_formed; shape = here.shape; stages = here.stages }) in
+          subst CanStep (sym told) (record { well_formed = taken_too.well_formed; shape = taken_too.shape; stages = taken_too.stages })
+
+pub start_differs : (net : Net) (device : Device) (models : List Model) (b : SeenBench) (ps : List Pins) (cs : List SeenCommand)
+    → b ≡ record { net = net; device = device; models = models; state = power_up (fault_free count_log net device (machines_of models)) } → ps ≡ pins InReset 0 cs
+    → is_any (differing (compares (chip_of b) ps b.state)) ≡ is_any (differs_of net device (map seen_model models) cs)
+start_differs net device models b ps cs is given =
+    let c = fault_free count_log net device (machines_of models) in
+    ap (λ (x : SeenBench). is_any (differing (compares (chip_of x) ps x.state))) is
+    ∙ ap (λ (x : List Pins). is_any (differing (compares c x (power_up c)))) given
+    ∙ ap (λ (ms : List Machine). is_any (differing (compares (fault_free count_log net device ms) (pins InReset 0 cs) (power_up (fault_free count_log net device ms))))) (machines_are models)

@@ -18,5 +18,9 @@ pub mod DeclaredRead
 pub mod ScopesRead
 pub mod Leaving
 pub mod Changing
+pub mod PinTexts
+pub mod Counting
+pub mod Binary
+pub mod Placed
 pub mod Counted
 pub mod Wholeness

@@ -1,7 +1,6 @@
 -- The text in the file, moment by moment.
 use Rattle.std.proofs.Common.{◌≡◌, ℕ, Option, Some, List, [], ◌++◌, refl, ap, sym, subst}
 use Rattle.std.specs.Option.{option_map}
-use Rattle.std.specs.Prelude.{Result, Ok, Err, OnOk}
 use Rattle.ij_io.specs.Bytes.{Adds, AddsPart}
 use Rattle.ij_io.specs.Files.{Files, file_at, told_bytes}
 use Rattle.ij_io.specs.Pieces.{HoldsFront, HoldsPart, IsThere, with_piece}
@@ -39,8 +38,3 @@ module _ (old begun new : Option Files) (name piece front rest whole : List ℕ)
   pub all_of : Adds (with_piece begun name piece) (told_bytes new name) rest → IsThere new name → file_at new name ≡ option_map (λ _. Some whole) old
   all_of added there =
       subst (λ (bytes : List ℕ). file_at new name ≡ option_map (λ _. Some bytes) old) text (all_held old new name (front ++ rest) there (adds_both first added))
-
--- two facts of one answer
-pub on_both : {T E P Q R : Type 0} (r : Result T E) → (P → Q → R) → OnOk r P → OnOk r Q → OnOk r R
-on_both (Ok x) f p q = f p q
-on_both (Err e) f p q = tt

@@ -1,5 +1,5 @@
 -- The waves of a play, as a VCD file (IEEE 1364-2005, 18.2: four state VCD).
-use Rattle.std.specs.Prelude.{ℕ, true, List, ◌++◌, drop, length, take, Option}
+use Rattle.std.specs.Prelude.{ℕ, Bool, true, false, List, [], ◌∷◌, ◌++◌, drop, length, take, Option}
 use Rattle.ij_io.specs.Bytes.{AddsPart}
 use Rattle.ij_io.specs.Files.{Files}
 use Rattle.ij_io.specs.Pieces.{HoldsFront}
@@ -38,3 +38,8 @@ wave_text kind net device models top commands window =
 -- a file holds some first bytes of these old ones with the text after them
 abbrev pub HoldsSome : Option Files → List ℕ → Option (List ℕ) → List ℕ → Type 0
 HoldsSome files name old text = (held : Option (List ℕ)) × AddsPart old held text × HoldsFront files name held
+
+-- whether there is any
+abbrev pub is_any : {A : Type 0} → List A → Bool
+is_any [] = false
+is_any (x ∷ xs) = true

@@ -9,11 +9,13 @@ mod items;
 mod laws;
 mod moments;
 mod names;
+mod pins;
 mod playing;
 mod scene;
 mod shapes;
 mod shown;
 mod texts;
+mod times;
 mod var;
 mod wave;
 

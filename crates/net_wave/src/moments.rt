@@ -1,9 +1,9 @@
 // The moments of one clock, as text.
-ghost use Rattle.std.specs.Prelude.{◌≡◌, ◌≤◌, ◌++◌, [], cond, false, true, length, map, All, OnOk};
+ghost use Rattle.std.specs.Prelude.{◌≡◌, ◌≤◌, ◌+◌, ◌*◌, ◌++◌, ◌∷◌, [], cond, decimal, false, true, length, map, All, OnOk};
 ghost use Rattle.std.specs.List.{flat_map, list_any};
 ghost use Rattle.bench_report.specs.Report.{chip_of};
 ghost use Rattle.instruments.specs.Seen.{seen_model};
-ghost use Rattle.net_wave.specs.Changes.{Stay, WasTold, is_shift, may_change as can_change, shown_at};
+ghost use Rattle.net_wave.specs.Changes.{Stay, WasTold, is_shift, later_changes, may_change as can_change, pin_digits, pin_vars, pins_text, shown_at};
 ghost use Rattle.net_wave.specs.Left.{IsScene, told_of};
 ghost use Rattle.net_wave.specs.Moments as moments;
 ghost use Rattle.net_wave.specs.Values as values;
@@ -11,24 +11,14 @@ ghost use Rattle.net_wave.specs.Vars.{IsVar};
 
 use crate::codes::add_code;
 use crate::digits::add_value_text;
-use crate::scene::{Scene, shown};
+use crate::pins::{add_levels, add_scan};
+use crate::scene::Scene;
 use crate::shown::{Shown, may_change};
-use crate::texts::{add, add_words};
+use crate::texts::add;
 use crate::var::Var;
 use ij_bits::{List, OutOfMemory};
-use ij_io::{SureSink, Word};
+use ij_io::SureSink;
 use std::mem::swap;
-
-/// Adds a time (IEEE 1364-2005, 18.2.1).
-#[tactic(auto, unfolding(ij_io::specs::Words::words_text))]
-fn add_time(time: u64, piece: &mut SureSink) -> Result<(), OutOfMemory>
-    ensures { OnOk result (piece.new ≡ piece.old ++ moments.time_text time) }
-{
-    add_words(
-        &[Word::Text(b"#"), Word::Number(time), Word::Text(b"\n")],
-        piece,
-    )
-}
 
 /// Adds the new digits of a variable, by its number.
 fn add_change(number: u64, digits: &[u8], piece: &mut SureSink) -> Result<(), OutOfMemory>
@@ -86,13 +76,14 @@ fn add_var(
     Ok(())
 }
 
-/// Adds the variables that are new at a clock, and keeps what is written. Those from `place` on stay.
-pub(crate) fn add_changes(
+/// Adds the variables after the pins that are new at a clock, and keeps what is written. Those from `place` on stay.
+fn add_changes(
     scene: &Scene,
     vars: &[Var],
     place: usize,
     first: bool,
     last: &Shown,
+    now: &Shown,
     told: &mut Vec<List<u8>>,
     scratch: &mut List<u8>,
     piece: &mut SureSink,
@@ -103,18 +94,18 @@ pub(crate) fn add_changes(
     requires same { length told.old.items ≡ length vars.now }
     requires place { place ≤ length vars.now }
     requires all { first ≡ true → place ≡ length vars.now }
-    requires stay { first ≡ false → Stay last.now (shown_at (chip_of scene.now.bench.now) scene.now.pins scene.now.bench.now.state) vars.now place }
+    requires now { now.now ≡ shown_at (chip_of scene.now.bench.now) scene.now.pins scene.now.bench.now.state }
+    requires stay { first ≡ false → Stay last.now now.now vars.now place }
     requires known { first ≡ false → WasTold (chip_of scene.now.bench.now) (map seen_model scene.now.models.now.items) vars.now (told_of told.old.items) last.now scene.now.bench.now.state }
     ensures told { OnOk result (told_of told.new.items ≡ values.values (chip_of scene.now.bench.now) (map seen_model scene.now.models.now.items) vars.now scene.now.pins scene.now.bench.now.state) }
-    ensures text { OnOk result (piece.new ≡ piece.old ++ flat_map moments.change_text (moments.changes first (told_of told.old.items) (values.values (chip_of scene.now.bench.now) (map seen_model scene.now.models.now.items) vars.now scene.now.pins scene.now.bench.now.state))) }
+    ensures text { OnOk result (piece.new ≡ piece.old ++ flat_map moments.change_text (later_changes first (told_of told.old.items) (values.values (chip_of scene.now.bench.now) (map seen_model scene.now.models.now.items) vars.now scene.now.pins scene.now.bench.now.state))) }
 {
-    let now = shown(scene.bench, scene.pins);
     for i in 0..place {
-        let changes = may_change(last, &now, vars[i]);
+        let changes = may_change(last, now, vars[i]);
         add_var(
             scene,
             vars[i],
-            i as u64 + 1,
+            i as u64 + 10,
             first,
             changes,
             &mut told[i],
@@ -136,14 +127,50 @@ fn add_if(wanted: bool, words: &[u8], piece: &mut SureSink) -> Result<(), OutOfM
     }
 }
 
-/// Adds the moment at which TCK falls.
+/// Adds the fall of TCK and the pins that are new at a clock, and keeps what is written of the instruction.
+fn add_pins(
+    scene: &Scene,
+    first: bool,
+    last: &Shown,
+    now: &Shown,
+    instruction: &mut List<u8>,
+    scratch: &mut List<u8>,
+    piece: &mut SureSink,
+) -> Result<(), OutOfMemory>
+    requires scene { IsScene scene.now }
+    requires now { now.now ≡ shown_at (chip_of scene.now.bench.now) scene.now.pins scene.now.bench.now.state }
+    requires known { first ≡ false → WasTold (chip_of scene.now.bench.now) (map seen_model scene.now.models.now.items) (Var.Instruction ∷ []) (instruction.old.items ∷ []) last.now scene.now.bench.now.state }
+    ensures told { OnOk result (instruction.new.items ≡ values.bits_digits scene.now.bench.now.state.ir_hold) }
+    ensures text { OnOk result (piece.new ≡ piece.old ++ pins_text first last.now now.now instruction.old.items (values.bits_digits scene.now.bench.now.state.ir_hold)) }
+{
+    add_levels(first, last, now, piece)?;
+    let loads = may_change(last, now, Var::Instruction);
+    add_var(
+        scene,
+        Var::Instruction,
+        7,
+        first,
+        loads,
+        instruction,
+        scratch,
+        piece,
+    )?;
+    add_scan(first, last, now, piece)?;
+    Ok(())
+}
+
+/// Adds the moment at which TCK falls, the time of which has these digits, after a #. `last` and `now` are what the clock before and this
+/// one show at the pins.
 pub(crate) fn add_falling(
     scene: &Scene,
     vars: &[Var],
     place: usize,
     first: bool,
     last: &Shown,
+    now: &Shown,
     clock: u64,
+    digits: &[u8],
+    instruction: &mut List<u8>,
     told: &mut Vec<List<u8>>,
     scratch: &mut List<u8>,
     piece: &mut SureSink,
@@ -154,24 +181,26 @@ pub(crate) fn add_falling(
     requires same { length told.old.items ≡ length vars.now }
     requires place { place ≤ length vars.now }
     requires all { first ≡ true → place ≡ length vars.now }
-    requires stay { first ≡ false → Stay last.now (shown_at (chip_of scene.now.bench.now) scene.now.pins scene.now.bench.now.state) vars.now place }
-    requires known { first ≡ false → WasTold (chip_of scene.now.bench.now) (map seen_model scene.now.models.now.items) vars.now (told_of told.old.items) last.now scene.now.bench.now.state }
-    ensures told { OnOk result (told_of told.new.items ≡ values.values (chip_of scene.now.bench.now) (map seen_model scene.now.models.now.items) vars.now scene.now.pins scene.now.bench.now.state) }
-    ensures text { OnOk result (piece.new ≡ piece.old ++ moments.moment_text (moments.falling first clock (told_of told.old.items) (values.values (chip_of scene.now.bench.now) (map seen_model scene.now.models.now.items) vars.now scene.now.pins scene.now.bench.now.state))) }
+    requires digits { digits.now ≡ 35 ∷ decimal (moments.counted (2 * clock)) }
+    requires now { now.now ≡ shown_at (chip_of scene.now.bench.now) scene.now.pins scene.now.bench.now.state }
+    requires stay { first ≡ false → Stay last.now now.now vars.now place }
+    requires known { first ≡ false → WasTold (chip_of scene.now.bench.now) (map seen_model scene.now.models.now.items) (pin_vars ++ vars.now) (pin_digits last.now instruction.old.items ++ told_of told.old.items) last.now scene.now.bench.now.state }
+    ensures told { OnOk result (pin_digits now.now instruction.new.items ++ told_of told.new.items ≡ values.values (chip_of scene.now.bench.now) (map seen_model scene.now.models.now.items) (pin_vars ++ vars.now) scene.now.pins scene.now.bench.now.state) }
+    ensures text { OnOk result (piece.new ≡ piece.old ++ moments.moment_text (moments.falling first clock (pin_digits last.now instruction.old.items ++ told_of told.old.items) (values.values (chip_of scene.now.bench.now) (map seen_model scene.now.models.now.items) (pin_vars ++ vars.now) scene.now.pins scene.now.bench.now.state))) }
 {
-    add_time(clock.saturating_mul(2), piece)?;
-    add_if(first, b"$dumpvars\n", piece)?;
-    add(b"0!\n", piece)?;
-    add_changes(scene, vars, place, first, last, told, scratch, piece)?;
+    add(digits, piece)?;
+    add_if(first, b"\n$dumpvars", piece)?;
+    add_pins(scene, first, last, now, instruction, scratch, piece)?;
+    add_changes(scene, vars, place, first, last, now, told, scratch, piece)?;
     add_if(first, b"$end\n", piece)?;
     Ok(())
 }
 
-/// Adds the moment at which TCK rises.
-pub(crate) fn add_rising(clock: u64, piece: &mut SureSink) -> Result<(), OutOfMemory>
+/// Adds the moment at which TCK rises, the time of which has these digits, after a #.
+pub(crate) fn add_rising(clock: u64, digits: &[u8], piece: &mut SureSink) -> Result<(), OutOfMemory>
+    requires digits { digits.now ≡ 35 ∷ decimal (moments.counted (2 * clock + 1)) }
     ensures { OnOk result (piece.new ≡ piece.old ++ moments.moment_text (moments.rising clock)) }
 {
-    add_time(clock.saturating_mul(2).saturating_add(1), piece)?;
-    add(b"1!\n", piece)?;
-    Ok(())
+    add(digits, piece)?;
+    add(b"\n1!\n", piece)
 }

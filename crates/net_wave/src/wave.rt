@@ -1,7 +1,7 @@
 // Waves in a file.
-ghost use Rattle.std.specs.Prelude.{◌≡◌, ◌≤◌, map, All, IfOk, OnOk, OnErr, Some};
+ghost use Rattle.std.specs.Prelude.{◌≡◌, ◌≤◌, ◌++◌, map, All, IfOk, OnOk, OnErr, Some};
 ghost use Rattle.std.specs.Option.{option_map};
-ghost use Rattle.bench_report.specs.Report.{chip};
+ghost use Rattle.bench_report.specs.Report.{chip, differs_of};
 ghost use Rattle.ij_io.specs.Bytes.{Adds};
 ghost use Rattle.ij_io.specs.Causes.{HasCauseAt, SameCounts};
 ghost use Rattle.ij_io.specs.Files.{OthersStay, file_at, told_bytes};
@@ -9,11 +9,12 @@ ghost use Rattle.ij_io.specs.Pieces.{HoldsPart, IsThere, with_piece};
 ghost use Rattle.instruments.specs.Runners.{AreModels};
 ghost use Rattle.instruments.specs.Seen.{seen_model};
 ghost use Rattle.net_graph.specs.Nets.{IsNet};
+ghost use Rattle.net_wave.specs.Changes.{pin_vars};
 ghost use Rattle.net_wave.specs.Header.{header};
-ghost use Rattle.net_wave.specs.Left.{IsPlaying, left_text};
+ghost use Rattle.net_wave.specs.Left.{CanStep, IsPlaying, left_text, some_differs};
 ghost use Rattle.net_wave.specs.Moments.{moments_text};
 ghost use Rattle.net_wave.specs.Vars.{IsVar, items, vars};
-ghost use Rattle.net_wave.specs.Wave.{HoldsSome, moments_of, wave_text};
+ghost use Rattle.net_wave.specs.Wave.{HoldsSome, is_any, moments_of, wave_text};
 ghost use Rattle.tap_machine.specs.declared.Stable.TheVariants.{Reset as InReset};
 ghost use Rattle.tap_machine.specs.Play.{pins, scans_in};
 
@@ -40,6 +41,8 @@ fn put_moments<S: Shelf>(
     requires there { IsThere (S.files shelf.old) name.now }
     ensures there { OnOk result (IsThere (S.files shelf.new) name.now) }
     ensures whole { OnOk result (Adds (with_piece (S.files shelf.old) name.now piece) (told_bytes (S.files shelf.new) name.now) (left_text playing.old)) }
+    ensures differs { OnOk result (some_differs playing.new ≡ some_differs playing.old) }
+    ensures step { OnOk result (CanStep playing.new) }
     ensures part { OnErr result (HoldsSome (S.files shelf.new) name.now (with_piece (S.files shelf.old) name.now piece) (left_text playing.old)) }
     ensures others { OthersStay (S.files shelf.old) (S.files shelf.new) name.now }
     ensures cause { HasCauseAt name.now (S.store_faults shelf.old) (S.store_faults shelf.new) result StoreFault.Failed }
@@ -52,14 +55,17 @@ fn put_moments<S: Shelf>(
     put_last_piece(name, &piece, shelf)
 }
 
-/// The declarations of a wave, as text, and its variables.
+/// The declarations of a wave, as text, and its variables after the pins.
 #[derive(Drop)]
 struct Declared {
     text: SureSink,
     vars: List<Var>,
 }
 
-/// The declarations of a wave, and its variables.
+/// How many pins there are, which come first.
+const PINS: usize = 9;
+
+/// The declarations of a wave, and its variables after the pins.
 fn declare(
     alloc: Global,
     kind: WaveKind,
@@ -71,13 +77,13 @@ fn declare(
     requires well_formed { IsNet net.now }
     requires models { AreModels net.now models.now.items }
     ensures text { IfOk result (λ it. it.text ≡ header net.now device.now (map seen_model models.now.items) top.now (items kind net.now (map seen_model models.now.items))) }
-    ensures vars { IfOk result (λ it. it.vars.items ≡ vars kind net.now (map seen_model models.now.items)) }
+    ensures vars { IfOk result (λ it. pin_vars ++ it.vars.items ≡ vars kind net.now (map seen_model models.now.items)) }
     ensures there { IfOk result (λ it. All (IsVar net.now (map seen_model models.now.items)) it.vars.items) }
 {
     let items = wave_items(alloc, kind, net, models)?;
     let mut text = SureSink::new(alloc);
     add_header(net, device, models, top, items.as_slice(), &mut text)?;
-    let vars = vars_of(alloc, items.as_slice())?;
+    let vars = vars_of(alloc, &items.as_slice()[PINS..])?;
     Ok(Declared { text, vars })
 }
 
@@ -96,7 +102,8 @@ fn play<'a>(
     requires scans { scans_in commands.now ≤ 1000000000 }
     requires there { All (IsVar net.now (map seen_model models.now.items)) vars.items }
     ensures playing { IfOk result (λ playing. IsPlaying playing) }
-    ensures text { IfOk result (λ playing. left_text playing ≡ moments_text (moments_of (chip net.now device.now (map seen_model models.now.items)) (map seen_model models.now.items) vars.items (pins InReset 0 commands.now) window)) }
+    ensures differs { IfOk result (λ playing. some_differs playing ≡ is_any (differs_of net.now device.now (map seen_model models.now.items) commands.now)) }
+    ensures text { IfOk result (λ playing. left_text playing ≡ moments_text (moments_of (chip net.now device.now (map seen_model models.now.items)) (map seen_model models.now.items) (pin_vars ++ vars.items) (pins InReset 0 commands.now) window)) }
 {
     let mut playing = Playing::new(alloc, net, device, models, commands, vars, window)?;
     playing.skip(window.from);
@@ -118,6 +125,8 @@ fn play<'a>(
 /// the position that are shifted. Scopes for module instances, registers, multiplexers and the words of instruments follow,
 /// in the network's order.
 ///
+/// Answers whether a compare of the whole play differs, also where the window ends before.
+///
 /// # Errors
 ///
 /// - `Failed`: the shelf could not begin the file, write a piece or keep it, and its count of failed stores under this name
@@ -137,10 +146,11 @@ pub fn put_wave_file<S: Shelf>(
     window: Window,
     name: &str,
     shelf: &mut S,
-) -> Result<(), StoreFault>
+) -> Result<bool, StoreFault>
     requires well_formed { IsNet net.now }
     requires models { AreModels net.now models.now.items }
     requires scans { scans_in commands.now ≤ 1000000000 }
+    ensures differs { IfOk result (λ differs. differs ≡ is_any (differs_of net.now device.now (map seen_model models.now.items) commands.now)) }
     ensures whole { OnOk result (file_at (S.files shelf.new) name.now ≡ option_map (λ _. Some (wave_text kind net.now device.now (map seen_model models.now.items) top.now commands.now window)) (S.files shelf.old)) }
     ensures part { OnErr result (HoldsPart (S.files shelf.old) (S.files shelf.new) name.now (wave_text kind net.now device.now (map seen_model models.now.items) top.now commands.now window)) }
     ensures others { OthersStay (S.files shelf.old) (S.files shelf.new) name.now }
@@ -151,5 +161,6 @@ pub fn put_wave_file<S: Shelf>(
     let Declared { text, vars } = it;
     let mut playing = play(alloc, net, device, models, commands, vars, window)?;
     shelf.begin(name)?;
-    put_moments(alloc, &mut playing, name, text, shelf)
+    put_moments(alloc, &mut playing, name, text, shelf)?;
+    Ok(playing.finish())
 }

@@ -45,7 +45,7 @@ add_var-requires-clause-stays c = λ first same.
     let g : i < length now = omega (arith, h, many) in
     let v = get_or c.args.vars.now i Tms in
     let stays : may_change c.args.last.now (shown_at (chip_of b) c.args.scene.now.pins b.state) v ≡ false =
-    ap (λ (x : Shown). may_change c.args.last.now x v) (sym c.shown-now.ensures) ∙ (sym c.may_change-changes.ensures ∙ same) in
+    ap (λ (x : Shown). may_change c.args.last.now x v) (sym c.requires.now) ∙ (sym c.may_change-changes.ensures ∙ same) in
     told_before c.loop-i.told.items c.index_mut.result.now now old i g as_many c.loop-i.invariant.told c.index_mut.ensures.value
     ∙ told_stays (chip_of b) models c.args.vars.now old c.args.last.now c.args.scene.now.pins b.state i Tms (c.requires.known first) h stays
     ∙ get_or-map f c.args.vars.now i Tms [] h
@@ -65,7 +65,7 @@ returns-clause-told c =
     let all : c.args.first ≡ true → i ≡ length now = λ e. omega (arith, at_end, many, c.requires.all e) in
     let stay : c.args.first ≡ false → (k : ℕ) → i ≤ k → k < length now → get_or old k [] ≡ get_or now k [] =
     λ e k l m. let h : k < length c.args.vars.now = omega (arith, m, many) in
-    told_stays (chip_of b) models c.args.vars.now old c.args.last.now c.args.scene.now.pins b.state k Tms (c.requires.known e) h (c.requires.stay e k (omega (arith, l, at_end)) h) in
+    told_stays (chip_of b) models c.args.vars.now old c.args.last.now c.args.scene.now.pins b.state k Tms (c.requires.known e) h (ap (λ (x : Shown). may_change c.args.last.now x (get_or c.args.vars.now k Tms)) (sym c.requires.now) ∙ c.requires.stay e k (omega (arith, l, at_end)) h) in
     all_told c.args.first old now i as_many within all stay (told_of c.loop-i.told.items) c.loop-i.invariant.told
 
 pub returns-clause-text : goal.returns-clause-text
@@ -83,5 +83,5 @@ returns-clause-text c =
     let all : c.args.first ≡ true → i ≡ length now = λ e. omega (arith, at_end, many, c.requires.all e) in
     let stay : c.args.first ≡ false → (k : ℕ) → i ≤ k → k < length now → get_or old k [] ≡ get_or now k [] =
     λ e k l m. let h : k < length c.args.vars.now = omega (arith, m, many) in
-    told_stays (chip_of b) models c.args.vars.now old c.args.last.now c.args.scene.now.pins b.state k Tms (c.requires.known e) h (c.requires.stay e k (omega (arith, l, at_end)) h) in
+    told_stays (chip_of b) models c.args.vars.now old c.args.last.now c.args.scene.now.pins b.state k Tms (c.requires.known e) h (ap (λ (x : Shown). may_change c.args.last.now x (get_or c.args.vars.now k Tms)) (sym c.requires.now) ∙ c.requires.stay e k (omega (arith, l, at_end)) h) in
     all_text c.args.first old now i as_many within all stay c.args.piece.now c.loop-i.piece c.loop-i.invariant.text

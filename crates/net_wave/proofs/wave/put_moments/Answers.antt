@@ -38,6 +38,7 @@ loop-piece-preserved g c =
     let front = one_more files c.args.name.now old all more.0 later (left_text c.loop-piece.playing) c.loop-piece.piece c.add_next.new.piece c.loop-piece.invariant.front more.2 more.1 in
     record {
       playing = c.in_ok-add_next.ensures.playing c.if-branch.true;
+      differs = c.in_ok-add_next.ensures.differs ∙ c.loop-piece.invariant.differs;
       front = gone files c.args.name.now old all later c.add_next.new.piece c.in_ok-piece.piece (g.S.Shelf.files c.next_piece.new.shelf) front c.in_ok-piece.ensures.whole;
       there = c.in_ok-piece.ensures.there;
       others = λ other n. c.next_piece.ensures.others other n ∙ c.loop-piece.invariant.others other n;
@@ -63,3 +64,10 @@ returns-clause-part g c =
     let front = one_more files c.args.name.now old all here [] here c.loop-piece.piece c.add_next.new.piece c.loop-piece.invariant.front (sym (append-nil here)) (c.in_ok-add_next.ensures.end c.if-branch.false) in
     on_err_weaker c.put_last_piece.result
     (λ h. is_part files c.args.name.now old all [] c.add_next.new.piece (g.S.Shelf.files c.put_last_piece.new.shelf) front (h c.loop-piece.invariant.there)) c.put_last_piece.ensures.part
+
+pub returns-clause-differs : goal.returns-clause-differs
+returns-clause-differs g c =
+    on_ok_weaker c.put_last_piece.result (λ _. c.in_ok-add_next.ensures.differs ∙ c.loop-piece.invariant.differs) c.put_last_piece.ensures.there
+
+pub returns-clause-step : goal.returns-clause-step
+returns-clause-step g c = on_ok_weaker c.put_last_piece.result (λ _. c.in_ok-add_next.ensures.step) c.put_last_piece.ensures.there

@@ -1,5 +1,5 @@
 use Rattle.std.proofs.Common.{◌++◌, ℕ, List, map, ap, ◌∙◌}
-use Rattle.std.proofs.lemmas.Result.{on_err_weaker}
+use Rattle.ij_io.proofs.Adding.{at_refusal}
 use Rattle.bench_report.specs.Report.{chip}
 use Rattle.instruments.specs.Seen.{seen_model}
 use Rattle.tap_machine.specs.declared.Stable.TheVariants.{Reset as InReset}
@@ -10,7 +10,7 @@ use Rattle.net_wave.specs.Left.{left_text}
 use Rattle.net_wave.specs.Moments.{moments_text}
 use Rattle.net_wave.specs.Vars.{items}
 use Rattle.net_wave.specs.Wave.{moments_of, wave_text}
-use Rattle.net_wave.proofs.PieceTexts.{all_of, on_both, part_of}
+use Rattle.net_wave.proofs.PieceTexts.{all_of, part_of}
 use Rattle.net_wave.proofs.wave.put_wave_file.Goals as goal
 
 pub returns-clause-whole : goal.returns-clause-whole
@@ -20,19 +20,20 @@ returns-clause-whole g c =
     let models = map seen_model a.models.now.items in
     let top = header a.net.now a.device.now models a.top.now (items a.kind a.net.now models) in
     let text = c.in_ok-playing.ensures.text ∙ ap (λ (l : List Var). moments_text (moments_of (chip a.net.now a.device.now models) models l (pins InReset 0 a.commands.now) a.window)) c.in_ok-it.ensures.vars in
-    on_both c.put_moments.result
     (all_of (g.S.Shelf.files a.shelf.now) (g.S.Shelf.files c.begin.new.self) (g.S.Shelf.files c.put_moments.new.shelf) a.name.now c.in_ok-it.it.text top (left_text c.in_ok-playing.playing) (wave_text a.kind a.net.now a.device.now models a.top.now a.commands.now a.window) c.in_ok-it.ensures.text c.in_ok-begin.ensures.empty
-    (ap (λ (l : List ℕ). top ++ l) text))
-    c.put_moments.ensures.whole c.put_moments.ensures.there
+    (ap (λ (l : List ℕ). top ++ l) text) c.in_ok-put_moments.ensures.whole c.in_ok-put_moments.ensures.there)
 
-pub returns-clause-part : goal.returns-clause-part
+pub returns-in_err-put_moments-clause-part : goal.returns-in_err-put_moments-clause-part
 unfolding wave_text
-returns-clause-part g c =
+returns-in_err-put_moments-clause-part g c =
     let a = c.args in
     let models = map seen_model a.models.now.items in
     let top = header a.net.now a.device.now models a.top.now (items a.kind a.net.now models) in
     let text = c.in_ok-playing.ensures.text ∙ ap (λ (l : List Var). moments_text (moments_of (chip a.net.now a.device.now models) models l (pins InReset 0 a.commands.now) a.window)) c.in_ok-it.ensures.vars in
-    on_err_weaker c.put_moments.result
+    at_refusal _
     (part_of (g.S.Shelf.files a.shelf.now) (g.S.Shelf.files c.begin.new.self) (g.S.Shelf.files c.put_moments.new.shelf) a.name.now c.in_ok-it.it.text top (left_text c.in_ok-playing.playing) (wave_text a.kind a.net.now a.device.now models a.top.now a.commands.now a.window) c.in_ok-it.ensures.text c.in_ok-begin.ensures.empty
-    (ap (λ (l : List ℕ). top ++ l) text))
-    c.put_moments.ensures.part
+    (ap (λ (l : List ℕ). top ++ l) text)
+    c.in_err-put_moments.ensures.part)
+
+pub returns-clause-differs : goal.returns-clause-differs
+returns-clause-differs g c = c.finish.ensures ∙ c.in_ok-put_moments.ensures.differs ∙ c.in_ok-playing.ensures.differs

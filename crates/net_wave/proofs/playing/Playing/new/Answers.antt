@@ -1,16 +1,16 @@
-use Rattle.std.proofs.Common.{◌≡◌, ◌<◌, ◌≤◌, ℕ, List, false, get_or, ap, sym, ◌∙◌, subst, length}
+use Rattle.std.proofs.Common.{◌≡◌, ◌<◌, ◌≤◌, ◌*◌, ◌∷◌, ◌++◌, ℕ, List, false, decimal, arith, get_or, ap, sym, ◌∙◌, subst, length}
 use Rattle.std.specs.List.{list_any}
 use Rattle.net_wave.specs.declared.var.Var.{Var}
 use Rattle.net_wave.specs.declared.var.Var.TheVariants.{Tms}
-use Rattle.net_wave.specs.Changes.{is_shift}
+use Rattle.net_wave.specs.Changes.{is_shift, pin_vars}
 use Rattle.net_wave.specs.Header.{is_pin}
 use Rattle.net_bench.specs.Board.{SeenBench}
 use Rattle.net_graph.specs.Held.{AreHolds}
 use Rattle.net_graph.specs.Signals.{Holds}
 use Rattle.net_graph.proofs.Widths.{zeros_held}
-use Rattle.net_wave.specs.Left.{skipped_text, text_from, told_of}
-use Rattle.net_wave.specs.Moments.{untold}
-use Rattle.net_wave.proofs.Leaving.{start_text, told_count}
+use Rattle.net_wave.specs.Left.{skipped_text, some_differs, text_from, told_of}
+use Rattle.net_wave.specs.Moments.{counted, untold}
+use Rattle.net_wave.proofs.Leaving.{start_differs, start_text, told_count}
 use Rattle.net_wave.proofs.playing.Playing.new.Goals as goal
 
 pub returns-clause-playing : goal.returns-clause-playing
@@ -28,9 +28,15 @@ returns-clause-playing c =
       pins = subst (λ (l : List Var). (k : ℕ) → c.after_pins-pins.result ≤ k → k < length l → is_pin (get_or l k Tms) ≡ false) c.as_slice.ensures c.after_pins-pins.ensures.rest;
       shifts = λ e. sym (ap (list_any is_shift) c.as_slice-2.ensures) ∙ (sym c.has_shifts-shifts.ensures ∙ e);
       known = λ e. absurd (cc);
+      digits = let time : c.saturating_mul.result ≡ counted (2 * c.args.window.from) = omega (arith, c.saturating_mul.ensures) in c.in_ok-digits.ensures ∙ ap (λ (t : ℕ). 35 ∷ decimal t) time;
     }
 
 pub returns-clause-text : goal.returns-clause-text
 unfolding skipped_text text_from
 returns-clause-text c =
-    start_text c.args.net.now c.args.device.now c.args.models.now.items c.args.vars.items c.args.window c.in_ok-bench.bench c.new-player.result.pins _ (told_of c.in_ok-told.told.items) c.in_ok-bench.ensures c.new-player.ensures.pins (c.in_ok-told.ensures ∙ ap untold c.len.ensures)
+    start_text c.args.net.now c.args.device.now c.args.models.now.items (pin_vars ++ c.args.vars.items) c.args.window c.in_ok-bench.bench c.new-player.result.pins _ _ c.in_ok-bench.ensures c.new-player.ensures.pins
+
+pub returns-clause-differs : goal.returns-clause-differs
+unfolding some_differs
+returns-clause-differs c =
+    start_differs c.args.net.now c.args.device.now c.args.models.now.items c.in_ok-bench.bench c.new-player.result.pins c.args.commands.now c.in_ok-bench.ensures c.new-player.ensures.pins
