@@ -156,10 +156,15 @@ put_next all line next left i j d half place h more small here by_two is put so_
     ∙ ap (λ (l : List ℕ). trimmed (number_digits j (left / 2)) ++ l) (rest ∙ sym kept)
     ∙ ap (λ (n : ℕ). trimmed (number_digits j n) ++ drop (j + 1) next) (sym by_two)
 
-pub put_small : (w left half : ℕ) (i j : ℕ) → i ≡ j + 1 → left < 2 ^ i → half ≡ left / 2 → half < 2 ^ j
-put_small w left half i j place small by_two =
+pub put_small : (left half i j : ℕ) → i ≡ j + 1 → left < 2 ^ i → half ≡ left / 2 → half < 2 ^ j
+put_small left half i j place small by_two =
     let up : i ≡ suc j = omega (arith, place) in
     subst (λ (h : ℕ). h < 2 ^ j) (sym by_two) (half_small j left (subst (λ (w : ℕ). left < 2 ^ w) up small))
+
+pub room_left : (i left : ℕ) → 2 ≤ left → left < 2 ^ i → 2 ≤ i
+room_left zero left more small = absurd (omega (arith, more, small))
+room_left (suc zero) left more small = absurd (omega (arith, more, small))
+room_left (suc (suc i)) left more small = omega arith
 
 pub put_all : (all line : List ℕ) (left i : ℕ) → 1 ≤ i → i < length line → left < 2 → get_or line i 0 ≡ 48 + left % 2 → all ≡ trimmed (number_digits i left) ++ drop (i + 1) line → drop i line ≡ all
 put_all all line left zero some h small here so_far = absurd (omega (arith, some))
