@@ -6,7 +6,9 @@ mod Whole
 mod Areas
 mod Named
 mod Marking
+mod Back
 mod Lining
+mod Coloured
 mod Reading
 mod Into
 mod Read
