@@ -194,6 +194,7 @@ module _ (net : Net) (n : IsNet net) where
     found = record { key = codes "color"; value = codes "#d55e00"; is_last = false } ∷ record { key = codes "penwidth"; value = codes "3"; is_last = true } ∷ [];
     ended = record { ended = refl; free = by_test 10 (codes "color=\"#d55e00\", penwidth=3];") refl };
     found_are = refl;
+    no_label = λ v. refl;
     colour_is = refl;
   }
   edge_tail false = record {
@@ -201,6 +202,7 @@ module _ (net : Net) (n : IsNet net) where
     found = record { key = codes "color"; value = codes "#868e96"; is_last = true } ∷ [];
     ended = record { ended = refl; free = by_test 10 (codes "color=\"#868e96\"];") refl };
     found_are = refl;
+    no_label = λ v. refl;
     colour_is = refl;
   }
 
@@ -273,6 +275,7 @@ module _ (net : Net) (n : IsNet net) where
     found = record { key = codes "style"; value = codes "filled"; is_last = false } ∷ record { key = codes "fillcolor"; value = codes "#ffb3b3"; is_last = false } ∷ record { key = codes "color"; value = codes "#e00000"; is_last = false } ∷ record { key = codes "penwidth"; value = codes "3"; is_last = true } ∷ [];
     ended = record { ended = refl; free = by_test 10 (codes "style=filled, fillcolor=\"#ffb3b3\", color=\"#e00000\", penwidth=3];") refl };
     found_are = refl;
+    no_label = λ v. refl;
     colour_is = refl;
   })
   register_style false true label plain = labelled label plain (codes "color=\"#d55e00\", penwidth=3];\n") Orange (record {
@@ -280,6 +283,7 @@ module _ (net : Net) (n : IsNet net) where
     found = record { key = codes "color"; value = codes "#d55e00"; is_last = false } ∷ record { key = codes "penwidth"; value = codes "3"; is_last = true } ∷ [];
     ended = record { ended = refl; free = by_test 10 (codes "color=\"#d55e00\", penwidth=3];") refl };
     found_are = refl;
+    no_label = λ v. refl;
     colour_is = refl;
   })
   register_style false false label plain = labelled_alone label plain
@@ -290,6 +294,7 @@ module _ (net : Net) (n : IsNet net) where
     found = record { key = codes "shape"; value = codes "trapezium"; is_last = false } ∷ record { key = codes "orientation"; value = codes "270"; is_last = false } ∷ record { key = codes "style"; value = codes "filled"; is_last = false } ∷ record { key = codes "fillcolor"; value = codes "#ffb3b3"; is_last = false } ∷ record { key = codes "color"; value = codes "#e00000"; is_last = false } ∷ record { key = codes "penwidth"; value = codes "3"; is_last = true } ∷ [];
     ended = record { ended = refl; free = by_test 10 (codes "shape=trapezium, orientation=270, style=filled, fillcolor=\"#ffb3b3\", color=\"#e00000\", penwidth=3];") refl };
     found_are = refl;
+    no_label = λ v. refl;
     colour_is = refl;
   })
   mux_style false true label plain = labelled label plain (codes "shape=trapezium, orientation=270, color=\"#d55e00\", penwidth=3];\n") Orange (record {
@@ -297,6 +302,7 @@ module _ (net : Net) (n : IsNet net) where
     found = record { key = codes "shape"; value = codes "trapezium"; is_last = false } ∷ record { key = codes "orientation"; value = codes "270"; is_last = false } ∷ record { key = codes "color"; value = codes "#d55e00"; is_last = false } ∷ record { key = codes "penwidth"; value = codes "3"; is_last = true } ∷ [];
     ended = record { ended = refl; free = by_test 10 (codes "shape=trapezium, orientation=270, color=\"#d55e00\", penwidth=3];") refl };
     found_are = refl;
+    no_label = λ v. refl;
     colour_is = refl;
   })
   mux_style false false label plain = labelled label plain (codes "shape=trapezium, orientation=270];\n") Plain (record {
@@ -304,6 +310,7 @@ module _ (net : Net) (n : IsNet net) where
     found = record { key = codes "shape"; value = codes "trapezium"; is_last = false } ∷ record { key = codes "orientation"; value = codes "270"; is_last = true } ∷ [];
     ended = record { ended = refl; free = by_test 10 (codes "shape=trapezium, orientation=270];") refl };
     found_are = refl;
+    no_label = λ v. refl;
     colour_is = refl;
   })
 

@@ -17,7 +17,7 @@ use Rattle.ij_text.specs.Parts.{before, split}
 use Rattle.ij_text.specs.Words.{begins_name, in_name, is_name}
 use Rattle.net_picture.specs.Dot.{edge_style}
 use Rattle.net_picture.specs.Edges.{Node, Link, Source, Row, Select, Edge}
-use Rattle.net_picture.specs.ReadGraph.{has_bytes, words, number, node_named, Attribute, attribute_if, quoted_by, attribute_by, alone, attributes, attributes_in, value_of, colour_in, link_in, node_said, edge_said, keyword_said, thing_said, is_keyword, words_said, found_or, line_said, read_graph}
+use Rattle.net_picture.specs.ReadGraph.{has_bytes, words, number, node_named, Attribute, attribute_if, quoted_by, attribute_by, alone, attributes, attributes_in, value_after, value_of, colour_in, link_in, node_said, edge_said, keyword_said, thing_said, is_keyword, words_said, found_or, line_said, read_graph}
 use Rattle.net_picture.specs.Said.{Colour, Plain, Orange, Said, HasNode, HasEdge, Comment, edge_colour}
 
 -- ---- bytes that are no line feed (10), blank (32), quote (34) or backslash (92)
@@ -307,6 +307,7 @@ pub record IsTail (text : List ℕ) (colour : Colour) : Type 0 where
   pub found : List Attribute
   pub ended : IsLine text rest
   pub found_are : attributes (filter has_bytes (split 32 rest)) ≡ Some found
+  pub no_label : (v : List ℕ) → value_after (codes "label") v found ≡ v
   pub colour_is : colour_in found ≡ colour
 
 module _ (label : List ℕ) (plain : IsPlain label) where
@@ -344,8 +345,8 @@ module _ (label : List ℕ) (plain : IsPlain label) where
         (without_both 32 (codes "[label=\"") (label ++ codes "\",") (by_test 32 (codes "[label=\"") refl) (without_both 32 label (codes "\",") (without 32 label (omega arith) plain) (by_test 32 (codes "\",") refl))));
     found_are = ap (option_and_then (λ (a : Attribute). cond a.is_last (alone a (filter has_bytes (split 32 s.rest))) (option_map (λ (rest : List Attribute). a ∷ rest) (attributes (filter has_bytes (split 32 s.rest)))))) more_is
         ∙ ap (option_map (λ (rest : List Attribute). labelled_by false ∷ rest)) s.found_are;
-    link_is = refl;
-    label_is = refl;
+    link_is = ap Row (s.no_label label);
+    label_is = s.no_label label;
     colour_is = s.colour_is;
   }
 

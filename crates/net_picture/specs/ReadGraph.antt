@@ -49,6 +49,11 @@ pub record Attribute : Type 0 where
 abbrev pub is_last_before : List ℕ → Option Bool
 is_last_before end = cond (bytes_eq end (codes ",")) (Some false) (cond (bytes_eq end (codes "];")) (Some true) None)
 
+-- a style that is known: others may hide a node or an edge
+abbrev pub is_known : List ℕ → List ℕ → Bool
+is_known key value =
+    cond (bytes_eq key (codes "style")) (bytes_eq value (codes "filled") || bytes_eq value (codes "dashed")) true
+
 abbrev pub attribute_if : Bool → List ℕ → List ℕ → List ℕ → Option Attribute
 attribute_if allowed key value end =
     cond allowed (option_map (λ last. record { key = key; value = value; is_last = last }) (is_last_before end)) None
@@ -57,7 +62,7 @@ attribute_if allowed key value end =
 abbrev pub bare : List ℕ → List ℕ → Option Attribute
 bare key text =
     let value = take_while in_name text in
-    attribute_if (list_all in_name key && has_bytes value) key value (drop (length value) text)
+    attribute_if (list_all in_name key && (is_known key value && has_bytes value)) key value (drop (length value) text)
 
 -- by the parts before and after the sign of equality (61)
 abbrev pub bare_by : List (List ℕ) → Option Attribute
@@ -67,7 +72,7 @@ bare_by parts = None
 -- between quotes, with no backslash (92)
 abbrev pub quoted_by : List (List ℕ) → List ℕ → List ℕ → Option Attribute
 quoted_by (key ∷ [] ∷ []) value end =
-    attribute_if (list_all in_name key && list_all (λ b. not (b == 92)) value) key value end
+    attribute_if (list_all in_name key && (is_known key value && list_all (λ b. not (b == 92)) value)) key value end
 quoted_by parts value end = None
 
 -- by the parts between quotes (34)
@@ -92,10 +97,13 @@ attributes_in [] = None
 attributes_in ([] ∷ others) = None
 attributes_in ((b ∷ word) ∷ others) = cond (b == 91) (attributes (word ∷ others)) None
 
--- the value of the first attribute of this key, nothing where there is none
+-- the value of the last attribute of this key, or else one that was found before
+abbrev pub value_after : List ℕ → List ℕ → List Attribute → List ℕ
+value_after key found [] = found
+value_after key found (a ∷ others) = value_after key (cond (bytes_eq a.key key) a.value found) others
+
 abbrev pub value_of : List ℕ → List Attribute → List ℕ
-value_of key [] = []
-value_of key (a ∷ others) = cond (bytes_eq a.key key) a.value (value_of key others)
+value_of key attributes = value_after key [] attributes
 
 abbrev pub has_key : List ℕ → List Attribute → Bool
 has_key key [] = false
@@ -117,7 +125,7 @@ link_in attributes =
 
 abbrev pub node_said : Option Node → Option (List Attribute) → Option (List Said)
 node_said (Some node) (Some attributes) = Some (HasNode node (value_of (codes "label") attributes) (colour_in attributes) ∷ [])
-node_said node attributes = None
+node_said found attributes = None
 
 abbrev pub edge_said : Option Node → Option Node → Option (List Attribute) → Option (List Said)
 edge_said (Some from) (Some to) (Some attributes) =
@@ -158,9 +166,14 @@ abbrev pub is_keyword : List ℕ → Bool
 is_keyword word =
     bytes_eq word (codes "digraph") || (bytes_eq word (codes "}") || (bytes_eq word (codes "node") || bytes_eq word (codes "edge")))
 
+-- what is set for all nodes or edges is neither read of one nor hides it
+abbrev pub default_said : List Attribute → Option (List Said)
+default_said attributes =
+    cond (has_key (codes "label") attributes || (has_key (codes "color") attributes || has_key (codes "style") attributes)) None (Some [])
+
 abbrev pub keyword_said : List ℕ → List (List ℕ) → Option (List Said)
 keyword_said word others =
-    cond (bytes_eq word (codes "digraph")) (begin_said others) (cond (bytes_eq word (codes "}")) (end_said others) (option_map (λ set. []) (attributes_in others)))
+    cond (bytes_eq word (codes "digraph")) (begin_said others) (cond (bytes_eq word (codes "}")) (end_said others) (option_and_then default_said (attributes_in others)))
 
 abbrev pub words_said : List (List ℕ) → Option (List Said)
 words_said [] = Some []
