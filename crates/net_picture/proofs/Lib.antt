@@ -9,6 +9,7 @@ mod Marking
 mod Back
 mod Lining
 mod Coloured
+mod Outlining
 mod Reading
 mod Into
 mod Read

@@ -11,6 +11,7 @@ pub mod Apart
 pub mod Marked
 pub mod Rows
 pub mod Line
+pub mod Outline
 pub mod Captures
 pub mod Svg
 pub mod Dot

@@ -4,6 +4,7 @@ ghost use Rattle.net_picture.specs.Edges.{EdgesAreSources};
 ghost use Rattle.net_picture.specs.Line.{DrawingsAreLines, DrawingsWithoutPath};
 ghost use Rattle.net_picture.specs.Marked.{DrawingsAreMarked, FunnelsAreMarked};
 ghost use Rattle.net_picture.specs.Met.{MetIsPath};
+ghost use Rattle.net_picture.specs.Outline.{OutlinesAreOne};
 ghost use Rattle.net_picture.specs.ReadGraph.{CommentsAreRead, GraphsAreRead};
 ghost use Rattle.net_picture.specs.Rows.{RowsAreMarked};
 ghost use Rattle.net_picture.specs.Said.{EdgesAreSaid};
@@ -17,7 +18,8 @@ ghost use Rattle.net_picture.specs.Whole.{DrawingsAreWhole};
 /// Where there is an active path, the boxes in colour are its registers, from scan-in to scan-out, and what is in colour is one line from
 /// TDI to TDO (IEEE 1687-2014: active scan path). Where there is none, nothing is in colour. The funnel of a multiplexer is in colour
 /// exactly where the multiplexer is on the active path, and the wire of a row into it exactly where the row is the one that is selected,
-/// too.
+/// too. Any two states have the same drawing, but for its colours and the wires within funnels: so rows that no state of the two selects
+/// are drawn as those that others do.
 pub fn picture_laws()
     ensures whole { DrawingsAreWhole }
     ensures apart { DrawingsAreApart }
@@ -26,6 +28,7 @@ pub fn picture_laws()
     ensures pathless { DrawingsWithoutPath }
     ensures funnels { FunnelsAreMarked }
     ensures rows { RowsAreMarked }
+    ensures outline { OutlinesAreOne }
 {}
 
 /// What is proved of every graph: it carries no code, its clauses say what holds of the definitions.

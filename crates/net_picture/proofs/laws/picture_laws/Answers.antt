@@ -2,6 +2,7 @@ use Rattle.net_picture.specs.Plan.{has_path, plan_of}
 use Rattle.net_picture.proofs.Areas.{form_apart}
 use Rattle.net_picture.proofs.Coloured.{funnels, marked, rows, unmarked}
 use Rattle.net_picture.proofs.Lining.{lines, unlined}
+use Rattle.net_picture.proofs.Outlining.{outlines}
 use Rattle.net_picture.proofs.Whole.{whole}
 use Rattle.net_picture.proofs.laws.picture_laws.Goals as goal
 
@@ -25,3 +26,6 @@ returns-clause-funnels c net form holds m d less = funnels net form holds m d le
 
 pub returns-clause-rows : goal.returns-clause-rows
 returns-clause-rows c net form holds m q d less there = rows net form holds m q d less there
+
+pub returns-clause-outline : goal.returns-clause-outline
+returns-clause-outline c net form one other = outlines net form one other
