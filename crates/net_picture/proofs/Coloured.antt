@@ -1,6 +1,6 @@
 -- The boxes, the funnels and the wires of rows that are in colour are those on the active path.
 use Rattle.std.proofs.Common.{◌≡◌, ◌⊎◌, inl, inr, ⊎_elim, ℕ, zero, suc, ◌+◌, ◌<◌, ◌≤◌, Bool, true, false, List, [], ◌∷◌, ◌++◌, Option, Some, None, length, map, refl, sym, ap, ◌∙◌, subst, arith, append_assoc, append-nil}
-use Rattle.std.specs.Prelude.{◌==◌, ◌&&◌, ◌||◌, ◌≢◌, ◌-◌, cond, reverse, option_map}
+use Rattle.std.specs.Prelude.{◌==◌, ◌&&◌, ◌||◌, ◌-◌, cond, reverse}
 use Rattle.std.specs.List.{flat_map, list_any}
 use Rattle.std.proofs.lemmas.Bool.{ne_eqb}
 use Rattle.std.proofs.lemmas.Bool.Decides.{eqb_tells}
@@ -13,7 +13,7 @@ use Rattle.net_graph.specs.declared.net.Net.{Net}
 use Rattle.net_graph.specs.declared.net.Point.{Point}
 use Rattle.net_graph.specs.declared.net.Point.TheVariants.{Entry, Reg as RegAt, Mux as MuxAt}
 use Rattle.net_graph.specs.declared.net.Row.{Row}
-use Rattle.net_graph.specs.Path.{active, path, row_of, rows_of}
+use Rattle.net_graph.specs.Path.{active, path, rows_of}
 use Rattle.net_graph.specs.Signals.{Holds}
 use Rattle.net_graph.proofs.Tracing.{route_fits}
 use Rattle.net_tree.specs.Entries.{row_count}
@@ -26,15 +26,15 @@ use Rattle.net_picture.specs.declared.shape.Shape.{Shape}
 use Rattle.net_picture.specs.declared.shape.Shape.TheVariants.{Register, Mux, Values, Wire}
 use Rattle.net_picture.specs.declared.shape.RowEnd.{RowEnd}
 use Rattle.net_picture.specs.Drawing.{first_pen, shapes_of, drawing_of}
-use Rattle.net_picture.specs.Layout.{drawn, pen_after, fan_after, row_ends, rows_drawn, register_drawn, mux_drawn, mux_close, pen_past, turn_back, wire_to, row_wire, row_shown, row_close, row_closes, is_row}
+use Rattle.net_picture.specs.Layout.{drawn, pen_after, fan_after, row_ends, rows_drawn, mux_close, pen_past, wire_to, row_wire, row_shown, row_close, row_closes, is_row}
 use Rattle.net_picture.specs.Marked.{active_boxes_in, funnel_colour, funnel_colours}
-use Rattle.net_picture.specs.Met.{met, met_back, met_from, register_at, is_mux_met, is_row_met}
+use Rattle.net_picture.specs.Met.{met_back, met_from, register_at, is_mux_met, is_row_met}
 use Rattle.net_picture.specs.Pens.{start_at, is_full, ready, after_register, after_row, fan_at, funnel_at}
 use Rattle.net_picture.specs.Plan.{Plan, box_of, has_path, mux_of, plan_of}
 use Rattle.net_picture.specs.Rows.{next_of, wire_into, row_colours}
 use Rattle.net_picture.specs.Whole.{funnels_in}
 use Rattle.net_picture.proofs.Back.{mapped, registers_met, entry_last, way, path_there, path_gone}
-use Rattle.net_picture.proofs.Gathering.{IsOfThings, box_shape, funnel_shape, picked_register, picked_mux, picked_row, picked_both}
+use Rattle.net_picture.proofs.Gathering.{IsOfThings, picked_both}
 use Rattle.net_picture.proofs.Marking.{point_of_shape, points_in, of_points, boxes_again, off, row_known}
 use Rattle.net_picture.proofs.Whole.{whole}
 

@@ -1,5 +1,5 @@
 -- What is in colour is one line.
-use Rattle.std.proofs.Common.{◌≡◌, ⊎_elim, ℕ, suc, ◌+◌, ◌-◌, ◌<◌, ◌≤◌, Bool, true, false, List, [], ◌∷◌, ◌++◌, Option, Some, None, length, refl, sym, ap, ◌∙◌, subst, arith}
+use Rattle.std.proofs.Common.{◌≡◌, ⊎_elim, ℕ, suc, ◌+◌, ◌-◌, ◌<◌, ◌≤◌, Bool, true, false, List, [], ◌∷◌, ◌++◌, Option, Some, None, refl, sym, ap, ◌∙◌, subst, arith}
 use Rattle.std.specs.Prelude.{cond}
 use Rattle.std.proofs.lemmas.Bool.Decides.{eqb_tells}
 use Rattle.std.proofs.lemmas.Grind.{flat_map-append}
@@ -20,7 +20,7 @@ use Rattle.net_picture.specs.Line.{Lead, lead_of, leads_in, IsLine}
 use Rattle.net_picture.specs.Pens.{start_at, is_full, next_line, ready, after_register, after_row, fan_at, funnel_at}
 use Rattle.net_picture.specs.Plan.{Plan, box_of, mux_of, plan_of}
 use Rattle.net_picture.proofs.Back.{HasRows, RowHasRows, way, path_there, path_gone}
-use Rattle.net_picture.proofs.Marking.{other_row, row_known}
+use Rattle.net_picture.proofs.Marking.{other_row}
 
 -- two lines, one after the other
 line_then : (x y u v to_x to_y : ℕ) (ls ks : List Lead) → IsLine x y ls u v → IsLine u v ks to_x to_y → IsLine x y (ls ++ ks) to_x to_y

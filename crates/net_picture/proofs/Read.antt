@@ -38,7 +38,7 @@ use Rattle.net_picture.specs.Met.{met, is_marked, is_met, is_mux_met}
 use Rattle.net_picture.specs.ReadGraph.{read_graph}
 use Rattle.net_picture.specs.Said.{Colour, Plain, Orange, Red, Said, Begins, Ends, HasNode, HasEdge, edge_colour, node_colour, said_register, said_to_register, said_mux, said_row, said_select, said_to_mux, said_to_scan_out, said, edge_in}
 use Rattle.net_picture.proofs.Back.{register_met}
-use Rattle.net_picture.proofs.Reading.{IsPlainByte, IsPlain, Without, without, plain_both, plain_if, plain_take, plain_drop, decimal_plain, number_again, name_plain, Reads, reads_none, reads_both, IsWord, IsAttribute, IsTail, reads_edge, reads_node, plain_style, dashed, labelled, labelled_alone, by_test}
+use Rattle.net_picture.proofs.Reading.{IsPlainByte, IsPlain, without, plain_both, plain_if, plain_take, plain_drop, decimal_plain, number_again, name_plain, Reads, reads_none, reads_both, IsWord, IsAttribute, IsTail, reads_edge, reads_node, plain_style, dashed, labelled, labelled_alone, by_test}
 
 -- ---- labels
 

@@ -16,9 +16,9 @@ use Rattle.ij_bits.proofs.Tests.{number_self}
 use Rattle.ij_text.specs.Parts.{before, split}
 use Rattle.ij_text.specs.Words.{begins_name, in_name, is_name}
 use Rattle.net_picture.specs.Dot.{edge_style}
-use Rattle.net_picture.specs.Edges.{Node, Link, Source, Row, Select, Edge}
-use Rattle.net_picture.specs.ReadGraph.{has_bytes, words, number, node_named, Attribute, attribute_if, quoted_by, attribute_by, alone, attributes, attributes_in, value_after, value_of, colour_in, link_in, node_said, edge_said, keyword_said, thing_said, is_keyword, words_said, found_or, line_said, read_graph}
-use Rattle.net_picture.specs.Said.{Colour, Plain, Orange, Said, HasNode, HasEdge, Comment, edge_colour}
+use Rattle.net_picture.specs.Edges.{Node, Link, Source, Row, Select}
+use Rattle.net_picture.specs.ReadGraph.{has_bytes, words, number, node_named, Attribute, attribute_if, attribute_by, alone, attributes, attributes_in, value_after, value_of, colour_in, link_in, node_said, edge_said, keyword_said, thing_said, is_keyword, words_said, found_or, line_said, read_graph}
+use Rattle.net_picture.specs.Said.{Colour, Plain, Said, HasNode, HasEdge, Comment, edge_colour}
 
 -- ---- bytes that are no line feed (10), blank (32), quote (34) or backslash (92)
 

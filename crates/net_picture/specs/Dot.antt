@@ -1,6 +1,6 @@
 -- The text of a network as a graph (Graphviz, DOT): a node for each register and multiplexer, an edge from each scan source,
 -- a dashed one from each select bit.
-use Rattle.std.specs.Prelude.{ℕ, ◌&&◌, Bool, false, List, [], ◌++◌, codes, cond, decimal, get_or, length, map, Option, Some, None}
+use Rattle.std.specs.Prelude.{ℕ, ◌&&◌, Bool, List, [], ◌++◌, codes, cond, decimal, get_or, length, map, Option}
 use Rattle.std.specs.List.{flat_map}
 use Rattle.net_graph.specs.declared.net.BitId.{BitId}
 use Rattle.net_graph.specs.declared.net.Net.{Net}

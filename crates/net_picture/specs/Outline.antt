@@ -1,5 +1,5 @@
 -- A drawing is the same in each state, but for its colours and the wires within funnels.
-use Rattle.std.specs.Prelude.{◌≡◌, ℕ, ◌+◌, ◌==◌, ◌&&◌, Bool, false, List, [], ◌∷◌, ◌++◌, cond, Option, Some, None}
+use Rattle.std.specs.Prelude.{◌≡◌, ◌+◌, ◌==◌, ◌&&◌, Bool, false, List, [], ◌∷◌, ◌++◌, cond, Option, Some, None}
 use Rattle.net_graph.specs.declared.net.Net.{Net}
 use Rattle.net_graph.specs.Signals.{Holds}
 use Rattle.net_tree.specs.Form.{Items}
@@ -27,7 +27,7 @@ outline_after before (s ∷ ss) = cond (is_within before s) [] (bare s ∷ []) +
 abbrev pub outline : List Shape → List Shape
 outline shapes = outline_after None shapes
 
--- so all rows are drawn as the one that a state selects
+-- so each row that some state selects is drawn in all states as the line in colour goes then
 abbrev pub OutlinesAreOne : Type 0
 OutlinesAreOne =
     (net : Net) (form : Items) (one other : Holds) → outline (drawing_of net one form).shapes ≡ outline (drawing_of net other form).shapes

@@ -5,7 +5,7 @@ use Rattle.net_graph.specs.Path.{rows_of}
 use Rattle.net_graph.specs.Signals.{Holds}
 use Rattle.net_tree.specs.Form.{Items, Describes}
 use Rattle.net_picture.specs.declared.shape.Shape.{Shape}
-use Rattle.net_picture.specs.declared.shape.Shape.TheVariants.{Register, Mux, Values, Wire}
+use Rattle.net_picture.specs.declared.shape.Shape.TheVariants.{Values, Wire}
 use Rattle.net_picture.specs.Drawing.{drawing_of}
 use Rattle.net_picture.specs.Met.{is_row_met}
 

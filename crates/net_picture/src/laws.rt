@@ -18,8 +18,8 @@ ghost use Rattle.net_picture.specs.Whole.{DrawingsAreWhole};
 /// Where there is an active path, the boxes in colour are its registers, from scan-in to scan-out, and what is in colour is one line from
 /// TDI to TDO (IEEE 1687-2014: active scan path). Where there is none, nothing is in colour. The funnel of a multiplexer is in colour
 /// exactly where the multiplexer is on the active path, and the wire of a row into it exactly where the row is the one that is selected,
-/// too. Any two states have the same drawing, but for its colours and the wires within funnels: so rows that no state of the two selects
-/// are drawn as those that others do.
+/// too. Any two states have the same drawing, but for its colours and the wires within funnels: so each row that some state selects is
+/// drawn in all states as that line goes.
 pub fn picture_laws()
     ensures whole { DrawingsAreWhole }
     ensures apart { DrawingsAreApart }
