@@ -1,5 +1,6 @@
 pub mod Fewest
 pub mod Forms
 pub mod Drivers
+pub mod Outputs
 pub mod Lines
 pub mod Listing

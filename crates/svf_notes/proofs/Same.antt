@@ -108,7 +108,7 @@ left_on_line true [] on = ([], refl, tt)
 left_on_line true (n ∷ ns) on = (ns, refl, on.1)
 
 -- a text with notes begins as it does without
-same_first : (ts : List (List ℕ)) (notes : List (List ℕ)) (src : List ℕ) → texts (plain src) ≡ ts → first (with_notes ts notes src) ≡ first src
+pub same_first : (ts : List (List ℕ)) (notes : List (List ℕ)) (src : List ℕ) → texts (plain src) ≡ ts → first (with_notes ts notes src) ≡ first src
 same_first [] notes src e = refl
 same_first (t ∷ []) notes src e = refl
 same_first (t ∷ (u ∷ us)) notes [] e = absurd (cc)

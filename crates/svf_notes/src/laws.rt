@@ -1,8 +1,9 @@
 // What holds of all texts with notes.
 ghost use Rattle.svf_notes.specs.Explained.{ExplainedIsSame, SameCommands};
+ghost use Rattle.svf_notes.specs.Noted.{NotesFollowTheirScans, ScansBegin};
 ghost use Rattle.svf_notes.specs.Laws.{ReadScansAreNumbered, ReadScansHaveBits, ScansAreNumbered, ScansCompare, ScansKeepTheirPath};
 
-use svf_reader::read_commands_fit;
+use svf_reader::{read_commands_are_within_limits, read_commands_fit};
 
 /// Notes change no command: whatever they are, as long as none of their lines has a line feed, an SVF text has the same
 /// commands with them as without them (Serial Vector Format, revision E: comments).
@@ -48,4 +49,25 @@ pub fn read_scans_are_numbered()
 {
     read_scans_have_bits();
     scans_are_numbered();
+}
+
+/// The k-th scan of a play of any text that is read has the number k, and begins in the state that the commands before it
+/// leave: so the path and the instruction that its note tells are those of that state (Serial Vector Format, revision E: SIR,
+/// SDR; IEEE 1687-2014: active scan path).
+pub fn scans_begin()
+    ensures { ScansBegin }
+{
+    read_scans_have_bits();
+}
+
+/// A text that is read and explained is the old text, byte for byte, with a note behind the `;` of each scan: a reader of SVF
+/// has read there exactly the commands up to this scan, and a reader of notes, which shares no word with what writes them,
+/// finds there the number of this scan and, if it goes through the network and is as long as its path, the registers of the
+/// active path, each with its name and positions (Serial Vector Format, revision E: comments, SIR, SDR).
+pub fn notes_follow_their_scans()
+    ensures { NotesFollowTheirScans }
+{
+    read_scans_have_bits();
+    read_scans_are_numbered();
+    read_commands_are_within_limits();
 }
