@@ -4,3 +4,4 @@ pub mod Drivers
 pub mod Outputs
 pub mod Lines
 pub mod Listing
+pub mod Examples

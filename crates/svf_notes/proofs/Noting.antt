@@ -1,4 +1,4 @@
--- Behind each scan of an explained text stands its own note.
+-- After each scan of an explained text stands its own note.
 use Rattle.std.proofs.Common.{◌≡◌, ◌<◌, ◌≤◌, ◌^◌, ℕ, zero, suc, ◌+◌, Bool, true, false, Option, Some, None, List, [], ◌∷◌, ◌++◌, length, map, Ok, refl, ap, sym, ◌∙◌, subst, arith}
 use Rattle.std.specs.Prelude.{slice_get}
 use Rattle.std.specs.List.{AllByRecursion}
@@ -16,7 +16,7 @@ use Rattle.net_graph.specs.Held.{AreHolds}
 use Rattle.net_graph.specs.Nets.{IsNet}
 use Rattle.net_graph.specs.Signals.{Holds}
 use Rattle.svf_reader.specs.Meaning.{at_first, svf}
-use Rattle.svf_reader.specs.Scripts.{ReadCommandsAreWithinLimits}
+use Rattle.svf_reader.specs.Scripts.{ReadCommandsAreWithinLimits, ReadCommandsFit}
 use Rattle.svf_reader.specs.Texts.{plain, texts}
 use Rattle.svf_writer.specs.Clocks.{clocks_from}
 use Rattle.svf_writer.specs.SeenCommands.{SIR, SDR, Reset, Idle, Run, SeenCommand}
@@ -24,28 +24,30 @@ use Rattle.tap_machine.specs.declared.Stable.TheVariants.{Reset as InReset}
 use Rattle.tap_machine.specs.Play.{no_scan, pins, pins_with, scans_in}
 use Rattle.tap_machine.proofs.Clocks.{at_least}
 use Rattle.svf_notes.specs.Explained.{explained, explained_text, with_notes}
-use Rattle.svf_notes.specs.Laws.{ReadScansAreNumbered, ReadScansHaveBits, counted}
-use Rattle.svf_notes.specs.Noted.{AreNotesOf, BeginsIn, IsNoted, IsNoteOf, NotesFollowTheirScans, Part, ScansBegin, before_scan, noted, state_before}
+use Rattle.svf_notes.specs.Laws.{ReadScansAreNumbered, counted}
+use Rattle.svf_notes.specs.Noted.{AreNotesOf, IsNoted, IsNoteOf, IsScanFrom, NotesFollowTheirScans, Part, ScansBegin, before_scan, noted, played_at, state_before}
 use Rattle.svf_notes.specs.Notes.{note_of, note_text, played_scans}
 use Rattle.svf_notes.specs.Reader.{read_note}
 use Rattle.svf_notes.specs.Scans.{Scan, scans_of}
 use Rattle.svf_notes.proofs.Begun.{AtScan, begun}
+use Rattle.svf_notes.proofs.HaveBits.{no_length}
 use Rattle.svf_notes.proofs.NotesRead.{note_read}
 use Rattle.svf_notes.proofs.Parting.{AreBehind, IsBehind, IsParted, text_parted}
 
 -- ---- the scans of a play
 
-begun_at : ReadScansHaveBits → (net : Net) (device : Device) (models : List SeenModel) (src : List ℕ) (commands : List SeenCommand) (n : ℕ) → svf src ≡ Ok commands → n < scans_in commands
-    → AtScan (played_scans net device models commands) n (0 + suc n) (state_before net device models commands n)
+begun_at : ReadCommandsFit → (net : Net) (device : Device) (models : List SeenModel) (src : List ℕ) (commands : List SeenCommand) (n : ℕ) → svf src ≡ Ok commands → n < scans_in commands
+    → AtScan (played_scans net device models commands) n (0 + suc n) (played_at no_scan no_scan n commands) (state_before net device models commands n)
 unfolding played_scans
-begun_at have net device models src commands n e there =
+begun_at fit net device models src commands n e there =
     let c = chip net device models in
-    begun c commands no_scan no_scan InReset 0 n (power_up c) (have src commands e) refl there
+    begun c commands None None no_scan no_scan InReset 0 n (power_up c) no_length no_length (fit src commands e) refl there
 
-pub scans_begin : ReadScansHaveBits → ScansBegin
-scans_begin have net device models src commands n e there =
-    let b = begun_at have net device models src commands n e there in
-    (b.scan, b.is, omega (arith, b.numbered), b.begins)
+pub scans_begin : ReadCommandsFit → ScansBegin
+scans_begin fit net device models src commands n e there =
+    let b = begun_at fit net device models src commands n e there in
+    let same : 0 + suc n ≡ suc n = omega arith in
+    (b.scan, b.is, subst (λ (m : ℕ). IsScanFrom (state_before net device models commands n) m (played_at no_scan no_scan n commands) b.scan) same b.from)
 
 -- ---- what a note must have to be read
 
@@ -89,21 +91,21 @@ as_many numbered net device models src commands e =
     let xs = scans_of c (pins InReset 0 commands) (power_up c) in
     sym (length-map xs (λ x. x.number)) ∙ ap length (numbered c InReset src commands (power_up c) e) ∙ count_length 0 (scans_in commands)
 
-all_good : ReadScansHaveBits → ReadCommandsAreWithinLimits → (net : Net) (device : Device) (models : List SeenModel) (src : List ℕ) (commands : List SeenCommand) → IsNet net → svf src ≡ Ok commands → length (played_scans net device models commands) ≡ scans_in commands
+all_good : ReadCommandsFit → ReadCommandsAreWithinLimits → (net : Net) (device : Device) (models : List SeenModel) (src : List ℕ) (commands : List SeenCommand) → IsNet net → svf src ≡ Ok commands → length (played_scans net device models commands) ≡ scans_in commands
     → AllByRecursion (IsGood net) (played_scans net device models commands)
-all_good have within net device models src commands is e many =
+all_good fit within net device models src commands is e many =
     each_of (IsGood net) (played_scans net device models commands) (λ k h. at k (omega (arith, h, many)))
   where
     at : (k : ℕ) → k < scans_in commands → (x : Scan Counts) × (slice_get (played_scans net device models commands) k ≡ Some x) × IsGood net x
     at k there =
-        let b = begun_at have net device models src commands k e there in
+        let b = begun_at fit net device models src commands k e there in
         let few = scans_few commands true 1000000000 (within src commands e) in (
           b.scan,
           b.is,
           record {
-            few = omega (arith, b.numbered, few, there);
+            few = omega (arith, b.from.numbered, few, there);
             some = b.some;
-            held = subst (AreHolds net) (sym b.begins.holds) (start_shaped net device models commands k is);
+            held = subst (AreHolds net) (sym b.from.holds) (start_shaped net device models commands k is);
           },
         )
 
@@ -122,9 +124,9 @@ are_notes net device (p ∷ ps) rest (x ∷ xs) is good h =
     } in
     (here, are_notes net device ps rest xs is good.1 h.1)
 
-pub notes_follow : ReadScansHaveBits → ReadScansAreNumbered → ReadCommandsAreWithinLimits → NotesFollowTheirScans
+pub notes_follow : ReadCommandsFit → ReadScansAreNumbered → ReadCommandsAreWithinLimits → NotesFollowTheirScans
 unfolding explained explained_text svf
-notes_follow have numbered within net device models src commands is e =
+notes_follow fit numbered within net device models src commands is e =
     let xs = played_scans net device models commands in
     let many = as_many numbered net device models src commands e in
     let notes = map (λ x. note_text (note_of net device x)) xs in
@@ -135,5 +137,5 @@ notes_follow have numbered within net device models src commands is e =
       old = p.old;
       whole = p.whole;
       cut = λ k h. p.cuts k 0 h;
-      notes = are_notes net device p.parts p.rest xs is (all_good have within net device models src commands is e many) p.behind;
+      notes = are_notes net device p.parts p.rest xs is (all_good fit within net device models src commands is e many) p.behind;
     }

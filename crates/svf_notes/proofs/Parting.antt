@@ -1,4 +1,4 @@
--- A text is cut behind its scans, and so is the same text with notes.
+-- A text is cut after its scans, and so is the same text with notes.
 use Rattle.std.proofs.Common.{◌≡◌, ◌≤◌, ℕ, zero, suc, ◌+◌, Bool, true, false, cond, Option, Some, None, Result, Ok, Err, List, [], ◌∷◌, ◌++◌, length, take, drop, refl, ap, sym, ◌∙◌, subst, arith, append_assoc, append-nil}
 use Rattle.std.specs.Prelude.{◌==◌, ◌⊎◌}
 use Rattle.std.proofs.Common.{inl, inr}
@@ -16,7 +16,7 @@ use Rattle.svf_notes.proofs.Cutting.{cut}
 use Rattle.svf_notes.proofs.Effects.{Effect, read_effect}
 use Rattle.svf_notes.proofs.Same.{same_first}
 
--- what stands behind a part: a note, a line feed that may close it, and one that follows in any case
+-- what stands after a part: a note, a line feed that may close it, and one that follows in any case
 pub record IsBehind (p : Part) (later note : List ℕ) : Type 0 where
   pub feed : List ℕ
   pub at_most_one : (feed ≡ []) ⊎ (feed ≡ 10 ∷ [])

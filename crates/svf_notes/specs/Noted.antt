@@ -1,6 +1,8 @@
--- Behind the `;` of each scan of a text stands the note of this very scan, and a reader of notes finds there the scan's number and the
+-- After the `;` of each scan of a text stands the note of this very scan, and a reader of notes finds there the scan's number and the
 -- registers of the active path (Serial Vector Format, revision E: SIR, SDR; IEEE 1687-2014: active scan path).
-use Rattle.std.specs.Prelude.{◌≡◌, ◌≤◌, ◌<◌, ℕ, zero, suc, ◌+◌, ◌-◌, ◌==◌, cond, List, [], ◌∷◌, ◌++◌, length, slice_get, take, Ok, Some, ◌⊎◌}
+use Rattle.std.specs.Prelude.{◌≡◌, ◌≤◌, ◌<◌, ℕ, zero, suc, ◌+◌, ◌-◌, ◌==◌, ◌⊎◌, Bool, cond, List, [], ◌∷◌, ◌++◌, drop, length, map, slice_get, take, Ok, Option, None, Some}
+use Rattle.std.specs.List.{list_any}
+use Rattle.ij_bits.specs.BitLists.{bits_eq}
 use Rattle.bench_report.specs.Report.{chip}
 use Rattle.instruments.specs.declared.Counts.{Counts}
 use Rattle.instruments.specs.Seen.{SeenModel}
@@ -16,9 +18,11 @@ use Rattle.report.specs.Paths.{register_path}
 use Rattle.svf_reader.specs.Meaning.{svf}
 use Rattle.svf_writer.specs.SeenCommands.{SIR, SDR, Reset, Idle, Run, SeenCommand}
 use Rattle.tap_machine.specs.declared.Stable.TheVariants.{Reset as InReset}
-use Rattle.tap_machine.specs.Play.{pins, scans_in}
+use Rattle.tap_machine.specs.Play.{LastScan, Played, after_scan, no_scan, pins, played, scans_in}
 use Rattle.svf_notes.specs.Explained.{explained_text}
-use Rattle.svf_notes.specs.Notes.{Target, Instruction, Data, note_of, note_text, path_length, played_scans, range_text, target}
+use Rattle.svf_notes.specs.declared.scan.Shifted.{Shifted}
+use Rattle.svf_notes.specs.declared.scan.Shown.TheVariants.{Written, Expected, Found}
+use Rattle.svf_notes.specs.Notes.{Target, Instruction, Data, differs, digits, is_compared, note_of, note_text, path_length, played_scans, range_text, target, tdi_bits}
 use Rattle.svf_notes.specs.Reader.{ReadNote, ReadRow, read_note}
 use Rattle.svf_notes.specs.Scans.{Scan}
 
@@ -39,47 +43,78 @@ state_before net device models commands n =
     let c = chip net device models in
     after_pins c (pins InReset 0 (before_scan n commands)) (power_up c)
 
--- a scan goes through the path, and is selected by the instruction, that hold in a state
-pub record BeginsIn (x : Scan Counts) (s : State Counts) : Type 0 where
+-- what is put into this scan and expected of it: its TDI, or that of the last scan of its kind, and its TDO under MASK
+abbrev pub played_at : LastScan → LastScan → ℕ → List SeenCommand → Played
+played_at ir dr n [] = record { tdi = []; expects = [] }
+played_at ir dr n (SIR s ∷ cs) = elim n [ zero ↦ played ir s | suc m ↦ played_at (after_scan ir s) dr m cs ]
+played_at ir dr n (SDR s ∷ cs) = elim n [ zero ↦ played dr s | suc m ↦ played_at ir (after_scan dr s) m cs ]
+played_at ir dr n (Reset ∷ cs) = played_at ir dr n cs
+played_at ir dr n (Idle ∷ cs) = played_at ir dr n cs
+played_at ir dr n (Run m ∷ cs) = played_at ir dr n cs
+
+-- the scan of a number, which goes through the path, and is selected by the instruction, that hold in a state
+pub record IsScanFrom (s : State Counts) (number : ℕ) (p : Played) (x : Scan Counts) : Type 0 where
+  pub numbered : x.number ≡ number
   pub holds : x.state.holds ≡ s.holds
   pub instruction : x.state.ir_hold ≡ s.ir_hold
+  pub written : map (λ b. b.tdi) x.bits ≡ p.tdi
+  pub expected : map (λ b. b.expect) x.bits ≡ p.expects
 
--- In a play of any text that is read the scan with n scans before it has the number n + 1, and begins in the state that the commands before
--- it leave.
+-- In a play of any text that is read the scan with n scans before it has the number n + 1, begins in the state that the commands before it
+-- leave, and has the bits of its command.
 abbrev pub ScansBegin : Type 0
 ScansBegin =
     (net : Net) (device : Device) (models : List SeenModel) (src : List ℕ) (commands : List SeenCommand) (n : ℕ) → svf src ≡ Ok commands → n < scans_in commands
-    → (x : Scan Counts) × (slice_get (played_scans net device models commands) n ≡ Some x) × (x.number ≡ suc n) × BeginsIn x (state_before net device models commands n)
+    → (x : Scan Counts) × (slice_get (played_scans net device models commands) n ≡ Some x) × IsScanFrom (state_before net device models commands n) (suc n) (played_at no_scan no_scan n commands) x
 
 -- ---- what a reader must find
 
--- the registers of a path, the one nearest scan-in first, by the position of its nearest bit to scan-out
-abbrev pub path_rows : Net → Holds → ℕ → List ℕ → List ReadRow
-path_rows net holds at [] = []
-path_rows net holds at (r ∷ rs) =
-    let w = length (bits_at holds r) in
-    path_rows net holds (at + w) rs ++ record { high = at + w - 1; low = at; name = register_path net r ++ range_text net r w } ∷ []
+-- digits, if there is something to show
+abbrev pub some_if : Bool → List ℕ → Option (List ℕ)
+some_if there digits = cond there (Some digits) None
+
+-- a register that stands at these positions: its bits of the scan are those from the lowest position on
+abbrev pub register_row : Net → Holds → List Shifted → ℕ → ℕ → ReadRow
+register_row net holds bits at r =
+    let held = bits_at holds r in
+    let w = length held in
+    let part = take w (drop at bits) in
+    record {
+      high = at + w - 1;
+      low = at;
+      name = register_path net r ++ range_text net r w;
+      writes = digits Written part;
+      as_before = bits_eq (tdi_bits part) held;
+      expects = some_if (list_any is_compared part) (digits Expected part);
+      finds = some_if (list_any differs part) (digits Found part);
+    }
+
+-- the registers of a path, the one nearest scan-in first, by the position of the bit that is nearest to scan-out
+abbrev pub path_rows : Net → Holds → List Shifted → ℕ → List ℕ → List ReadRow
+path_rows net holds bits at [] = []
+path_rows net holds bits at (r ∷ rs) =
+    path_rows net holds bits (at + length (bits_at holds r)) rs ++ register_row net holds bits at r ∷ []
 
 -- of a scan of the network that is as long as its path the registers of this path, and of any other scan none
 abbrev pub scan_rows : Net → Scan Counts → Target → List ReadRow
 scan_rows net x Instruction = []
 scan_rows net x (Data Network) =
     let holds = x.state.holds in
-    cond (length x.bits == path_length net holds) (path_rows net holds 0 (route_of net holds)) []
+    cond (length x.bits == path_length net holds) (path_rows net holds x.bits 0 (route_of net holds)) []
 scan_rows net x (Data Identity) = []
 scan_rows net x (Data Bypass) = []
 
 abbrev pub said_of : Net → Device → Scan Counts → ReadNote
 said_of net device x = record { scan = x.number; rows = scan_rows net x (target device x.state) }
 
--- ---- a text that is cut behind its scans
+-- ---- a text that is cut after its scans
 
--- a part of a text, up to the `;` of a scan, and what is written behind it
+-- a part of a text, up to the `;` of a scan, and what is written after it
 pub record Part : Type 0 where
   pub text : List ℕ
   pub note : List ℕ
 
--- the parts, and what stands behind all of them: without their notes, and with them
+-- the parts, and what stands after all of them: without their notes, and with them
 abbrev pub unnoted : List Part → List ℕ → List ℕ
 unnoted [] rest = rest
 unnoted (p ∷ ps) rest = p.text ++ unnoted ps rest
@@ -98,7 +133,7 @@ through_scan (suc k) (Reset ∷ cs) = Reset ∷ through_scan (suc k) cs
 through_scan (suc k) (Idle ∷ cs) = Idle ∷ through_scan (suc k) cs
 through_scan (suc k) (Run m ∷ cs) = Run m ∷ through_scan (suc k) cs
 
--- behind each part stands the note of its scan and nothing more but a line feed (10), and a reader of all that follows finds it
+-- after each part stands the note of its scan and nothing more but a line feed (10), and a reader of all that follows finds it
 pub record IsNoteOf (net : Net) (device : Device) (p : Part) (later : List ℕ) (x : Scan Counts) : Type 0 where
   pub feed : List ℕ
   pub at_most_one : (feed ≡ []) ⊎ (feed ≡ 10 ∷ [])
