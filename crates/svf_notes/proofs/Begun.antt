@@ -156,12 +156,13 @@ module _ (chip : Chip Counts) where
       → AtScan (scans_of chip (to_idle from ++ (ps ++ rest)) s) (suc k) (n + suc (suc k)) q (after_pins chip (to_idle from ++ (ps ++ early)) s)
   later_scan from ps rest early n k p q s b h =
       let a = after_pins chip (to_idle from) s in
+      let same : suc n + suc k ≡ n + suc (suc k) = omega arith in
       record {
         scan = h.scan;
         is = ap (λ (l : List (Scan Counts)). slice_get l (suc k)) (quiet_scans chip (to_idle from) (ps ++ rest) s (quiet_idle from) ∙ b.is) ∙ h.is;
         from =
             subst (λ (u : State Counts). IsScanFrom u (n + suc (suc k)) q h.scan) (sym (after_pins-append chip (to_idle from) (ps ++ early) s ∙ after_pins-append chip ps early a))
-            (subst (λ (m : ℕ). IsScanFrom (after_pins chip early (after_pins chip ps a)) m q h.scan) (omega arith) h.from);
+            (subst (λ (m : ℕ). IsScanFrom (after_pins chip early (after_pins chip ps a)) m q h.scan) same h.from);
         some = h.some;
       }
 
@@ -188,33 +189,37 @@ module _ (chip : Chip Counts) where
       AtScan (scans_of chip (pins_with ir dr from n cs) s) k (n + suc k) (played_at ir dr k cs) (after_pins chip (pins_with ir dr from n (before_scan k cs)) s)
 
   pub begun : (cs : List SeenCommand) (i d : Option ℕ) (ir dr : LastScan) (from : Stable) (n k : ℕ) (s : State Counts) → Keeps i ir → Keeps d dr → AreFitAfter i d cs → s.tap ≡ tap_of from → k < scans_in cs → Begun ir dr from n cs k s
-  begun [] i d ir dr from n k s ki kd fit e there = absurd (omega (arith, there))
+  begun [] i d ir dr from n k s ki kd fit e there =
+      let none : k < 0 = there in
+      absurd (omega (arith, none))
   begun (SIR x ∷ cs) i d ir dr from n zero s ki kd fit e there =
       let p = played ir x in
       let rest = pins_with (after_scan ir x) dr InIdle (suc n) cs in
       first_scan from (sir_pins (suc n) p) rest n p s e
       (sir_begins n p rest (after_pins chip (to_idle from) s) (idle_moved from s e).tap_is (some_bits i ir x ki fit.0) (as_expected i ir x ki fit.0))
   begun (SIR x ∷ cs) i d ir dr from n (suc k) s ki kd fit e there =
+      let later : suc k < suc (scans_in cs) = there in
       let p = played ir x in
       let rest = pins_with (after_scan ir x) dr InIdle (suc n) cs in
       let ps = sir_pins (suc n) p in
       let a = after_pins chip (to_idle from) s in
       let b = sir_begins n p rest a (idle_moved from s e).tap_is (some_bits i ir x ki fit.0) (as_expected i ir x ki fit.0) in
       later_scan from ps rest (pins_with (after_scan ir x) dr InIdle (suc n) (before_scan k cs)) n k p (played_at (after_scan ir x) dr k cs) s b
-      (begun cs (Some x.len) d (after_scan ir x) dr InIdle (suc n) k (after_pins chip ps a) (keeps_now i ir x ki fit.0) kd fit.1 b.rests (omega (arith, there)))
+      (begun cs (Some x.len) d (after_scan ir x) dr InIdle (suc n) k (after_pins chip ps a) (keeps_now i ir x ki fit.0) kd fit.1 b.rests (omega (arith, later)))
   begun (SDR x ∷ cs) i d ir dr from n zero s ki kd fit e there =
       let p = played dr x in
       let rest = pins_with ir (after_scan dr x) InIdle (suc n) cs in
       first_scan from (sdr_pins (suc n) p) rest n p s e
       (sdr_begins n p rest (after_pins chip (to_idle from) s) (idle_moved from s e).tap_is (some_bits d dr x kd fit.0) (as_expected d dr x kd fit.0))
   begun (SDR x ∷ cs) i d ir dr from n (suc k) s ki kd fit e there =
+      let later : suc k < suc (scans_in cs) = there in
       let p = played dr x in
       let rest = pins_with ir (after_scan dr x) InIdle (suc n) cs in
       let ps = sdr_pins (suc n) p in
       let a = after_pins chip (to_idle from) s in
       let b = sdr_begins n p rest a (idle_moved from s e).tap_is (some_bits d dr x kd fit.0) (as_expected d dr x kd fit.0) in
       later_scan from ps rest (pins_with ir (after_scan dr x) InIdle (suc n) (before_scan k cs)) n k p (played_at ir (after_scan dr x) k cs) s b
-      (begun cs i (Some x.len) ir (after_scan dr x) InIdle (suc n) k (after_pins chip ps a) ki (keeps_now d dr x kd fit.0) fit.1 b.rests (omega (arith, there)))
+      (begun cs i (Some x.len) ir (after_scan dr x) InIdle (suc n) k (after_pins chip ps a) ki (keeps_now d dr x kd fit.0) fit.1 b.rests (omega (arith, later)))
   begun (Reset ∷ cs) i d ir dr from n k s ki kd fit e there =
       let qs = replicate 5 (no_shift true) in
       after_quiet qs (pins_with ir dr InReset n cs) (pins_with ir dr InReset n (before_scan k cs)) k (n + suc k) (played_at ir dr k cs) s (quiet_many 5 true)

@@ -132,18 +132,13 @@ register_thing net (reg ∷ regs) zero all h = (All-head (IsReg net) reg regs al
 register_thing net (reg ∷ regs) (suc r) all h = register_thing net regs r (All-tail (IsReg net) reg regs all) (omega (arith, h))
 
 range_in : (net : Net) (r width : ℕ) → InWord (range_text net r width)
-range_in net r width = cases (width == 1)
-  where
-    left : ℕ
-    left = get_or (map (λ thing. thing.left) net.things.items) (thing_of net r) 0
-
-    right : ℕ
-    right = get_or (map (λ thing. thing.right) net.things.items) (thing_of net r) 0
-
-    cases : (k : Bool) → InWord (cond k [] (codes "[" ++ (decimal left ++ (codes ":" ++ (decimal right ++ codes "]")))))
-    cases true = tt
-    cases false =
-        (refl, refl, both_in (decimal left) (codes ":" ++ (decimal right ++ codes "]")) (decimal_in left) (refl, refl, both_in (decimal right) (codes "]") (decimal_in right) (refl, refl, tt)))
+range_in net r width =
+    let t = thing_of net r in
+    let left = get_or (map (λ thing. thing.left) net.things.items) t 0 in
+    let right = get_or (map (λ thing. thing.right) net.things.items) t 0 in
+    let end : InWord (decimal right ++ codes "]") = both_in (decimal right) (codes "]") (decimal_in right) (refl, refl, tt) in
+    let range : InWord (codes "[" ++ (decimal left ++ (codes ":" ++ (decimal right ++ codes "]")))) = (refl, refl, both_in (decimal left) (codes ":" ++ (decimal right ++ codes "]")) (decimal_in left) (refl, refl, end)) in
+    either_in (width == 1) [] (codes "[" ++ (decimal left ++ (codes ":" ++ (decimal right ++ codes "]")))) tt range
 
 -- a register's path and range are a word
 pub label_in : (net : Net) (r width : ℕ) → IsNet net → InWord (register_path net r ++ range_text net r width)

@@ -1,5 +1,5 @@
 -- A note is read again: its number and its rows.
-use Rattle.std.proofs.Common.{◌≡◌, ◌<◌, ◌≤◌, ◌^◌, ℕ, zero, suc, ◌+◌, ◌-◌, Bool, true, false, cond, Option, Some, None, List, [], ◌∷◌, ◌++◌, length, take, drop, map, refl, ap, sym, ◌∙◌, subst, arith, append_assoc, append-nil, length-append, decimal, lit≤}
+use Rattle.std.proofs.Common.{◌≡◌, ◌<◌, ◌≤◌, ◌^◌, ℕ, zero, suc, ◌+◌, ◌-◌, Bool, true, false, cond, Option, Some, None, List, [], ◌∷◌, ◌++◌, length, take, drop, map, refl, ap, sym, ◌∙◌, subst, arith, append_assoc, append-nil, length-append, decimal}
 use Rattle.std.specs.Prelude.{◌==◌, codes}
 use Rattle.std.specs.Char.{is_ascii_digit}
 use Rattle.std.specs.List.{AllByRecursion, list_any}
@@ -36,6 +36,7 @@ use Rattle.svf_notes.specs.Scans.{Scan}
 use Rattle.svf_notes.proofs.InWords.{InWord, both_in, decimal_in, label_in, label_some, other_byte}
 use Rattle.svf_notes.proofs.OnLine.{notes_on}
 use Rattle.svf_notes.proofs.Rows.{path_short, some_bits}
+use Rattle.svf_notes.proofs.Same.{after_lines}
 
 -- ---- splitting
 
@@ -71,20 +72,15 @@ without_dot (b ∷ bs) h = (other_byte is_ascii_digit b 46 h.0.digit refl, witho
 abbrev marked : List ℕ → List ℕ
 marked line = codes "!:" ++ line
 
--- what stands after the lines of a note begins with a line feed
-with_feed : (lines : List (List ℕ)) (rest : List ℕ) → (tail : List ℕ) × (note_text lines ++ 10 ∷ rest ≡ 10 ∷ tail)
-with_feed [] rest = (rest, refl)
-with_feed (line ∷ lines) rest = (codes "!:" ++ (line ++ note_text lines) ++ 10 ∷ rest, refl)
-
 lines_cut : (lines : List (List ℕ)) (rest : List ℕ) → AllByRecursion IsOnLine lines → split 10 (note_text lines ++ 10 ∷ rest) ≡ [] ∷ (map marked lines ++ split 10 rest)
 lines_cut [] rest on = refl
 lines_cut (line ∷ lines) rest on =
-    let tail = with_feed lines rest in
+    let tail = after_lines lines rest in
     let later : [] ∷ split 10 tail.0 ≡ [] ∷ (map marked lines ++ split 10 rest) = ap (split 10) (sym tail.1) ∙ lines_cut lines rest on.1 in
     let others : split 10 tail.0 ≡ map marked lines ++ split 10 rest = cc in
     let whole : (line ++ note_text lines) ++ 10 ∷ rest ≡ line ++ 10 ∷ tail.0 = append_assoc line (note_text lines) (10 ∷ rest) ∙ ap (λ (l : List ℕ). line ++ l) tail.1 in
     ap (λ (l : List ℕ). [] ∷ split 10 (33 ∷ 58 ∷ l)) whole
-    ∙ ap (λ (l : List (List ℕ)). [] ∷ l) (split_first 10 (33 ∷ 58 ∷ line) tail.0 (refl, refl, without_feed line on.0))
+    ∙ ap (λ (l : List (List ℕ)). [] ∷ l) (split_first 10 (33 ∷ 58 ∷ line) tail.0 (refl, (refl, without_feed line on.0)))
     ∙ ap (λ (l : List (List ℕ)). [] ∷ (marked line ∷ l)) others
 
 -- ---- words
@@ -171,10 +167,18 @@ module _ (bits : List Shifted) (some : 1 ≤ length bits) where
       ap (λ (ws : List (List ℕ)). codes "expects" ∷ ws) (word_of Expected (finds_text l) (finds_stop l) ∙ ap (λ (ws : List (List ℕ)). digits Expected bits ∷ ws) (finds_read l))
   expects_read false l = finds_read l
 
+  before_some : 1 ≤ length (codes "before")
+  before_some =
+      let six : length (codes "before") ≡ 6 = refl in
+      omega (arith, six)
+
+  before_in : InWord (codes "before")
+  before_in = (refl, refl, (refl, refl, (refl, refl, (refl, refl, (refl, refl, (refl, refl, tt))))))
+
   before_read : (j k l : Bool) → runs (before_text j ++ (expects_text k ++ finds_text l)) ≡ before_words j k l
   before_read true k l =
       ap (λ (ws : List (List ℕ)). codes "as" ∷ ws)
-      (word_run (codes "before") (expects_text k ++ finds_text l) (lit≤ tt) (refl, refl, refl, refl, refl, refl, refl, refl, refl, refl, refl, refl, tt) (expects_stop k l)
+      (word_run (codes "before") (expects_text k ++ finds_text l) before_some before_in (expects_stop k l)
       ∙ ap (λ (ws : List (List ℕ)). codes "before" ∷ ws) (expects_read k l))
   before_read false k l = expects_read k l
 
@@ -234,7 +238,7 @@ module _ (net : Net) (is : IsNet net) (r at : ℕ) (held : List Bool) (bits : Li
       ∙ ap (λ (l : List ℕ). positions ++ 32 ∷ l) (sym (append_assoc name range values)))
 
   positions_in : InWord positions
-  positions_in = both_in (decimal high) (codes ".." ++ decimal at) (decimal_in high) (refl, refl, refl, refl, decimal_in at)
+  positions_in = both_in (decimal high) (codes ".." ++ decimal at) (decimal_in high) (refl, refl, (refl, refl, decimal_in at))
 
   positions_some : 1 ≤ length positions
   positions_some =

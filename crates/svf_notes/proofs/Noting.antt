@@ -89,7 +89,7 @@ unfolding played_scans
 as_many numbered net device models src commands e =
     let c = chip net device models in
     let xs = scans_of c (pins InReset 0 commands) (power_up c) in
-    sym (length-map xs (λ x. x.number)) ∙ ap length (numbered c InReset src commands (power_up c) e) ∙ count_length 0 (scans_in commands)
+    sym (length-map xs (λ (x : Scan Counts). x.number)) ∙ ap length (numbered c InReset src commands (power_up c) e) ∙ count_length 0 (scans_in commands)
 
 all_good : ReadCommandsFit → ReadCommandsAreWithinLimits → (net : Net) (device : Device) (models : List SeenModel) (src : List ℕ) (commands : List SeenCommand) → IsNet net → svf src ≡ Ok commands → length (played_scans net device models commands) ≡ scans_in commands
     → AllByRecursion (IsGood net) (played_scans net device models commands)
@@ -130,7 +130,7 @@ notes_follow fit numbered within net device models src commands is e =
     let xs = played_scans net device models commands in
     let many = as_many numbered net device models src commands e in
     let notes = map (λ x. note_text (note_of net device x)) xs in
-    let p = text_parted notes src commands e (length-map xs (λ x. note_text (note_of net device x)) ∙ many) in
+    let p = text_parted notes src commands e (length-map xs (λ (x : Scan Counts). note_text (note_of net device x)) ∙ many) in
     record {
       parts = p.parts;
       rest = p.rest;

@@ -64,7 +64,7 @@ line_reads kept (b ∷ bs) rest cs on reads =
     (blank_reads kept (plain_from true more) cs (line_reads kept bs rest cs on.1 reads))
 
 -- a note begins with a line feed, and what stands after it, too
-after_lines : (lines : List (List ℕ)) (rest : List ℕ) → (tail : List ℕ) × (note_text lines ++ 10 ∷ rest ≡ 10 ∷ tail)
+pub after_lines : (lines : List (List ℕ)) (rest : List ℕ) → (tail : List ℕ) × (note_text lines ++ 10 ∷ rest ≡ 10 ∷ tail)
 after_lines [] rest = (rest, refl)
 after_lines (line ∷ lines) rest = (codes "!:" ++ (line ++ note_text lines) ++ 10 ∷ rest, refl)
 
