@@ -1,20 +1,25 @@
 -- What is read of a command is a scan exactly where its first word says so.
-use Rattle.std.proofs.Common.{◌≡◌, ℕ, Bool, true, false, cond, Option, Some, None, Result, Ok, Err, List, [], ◌∷◌, sym, subst}
-use Rattle.std.specs.Prelude.{◌&&◌, ◌||◌, codes}
+use Rattle.std.proofs.Common.{◌≡◌, ℕ, Bool, true, false, cond, Option, Some, None, Result, Ok, Err, List, [], ◌∷◌, refl, sym, subst}
+use Rattle.std.specs.Prelude.{◌&&◌, ◌||◌, ◌==◌, codes}
 use Rattle.std.specs.Option.{option_map}
-use Rattle.svf_writer.specs.SeenCommands.{SIR, SDR, Reset, Idle, Run, SeenCommand}
-use Rattle.svf_reader.specs.declared.parsed.Register.{Register}
-use Rattle.svf_reader.specs.declared.parsed.Register.TheVariants.{Instruction, Data}
-use Rattle.svf_reader.specs.declared.so_far.ReadSoFar.{ReadSoFar}
+use Rattle.svf_writer.specs.SeenCommands.{SIR, SDR, Reset, Idle, Run, SeenCommand, SeenScan}
 use Rattle.svf_reader.specs.Texts.{after_word, words}
 use Rattle.svf_reader.specs.Commands.{Parts, SeenParsed, Scans, ToReset, ToIdle, Runs, NoEffect, command_of_words, cycles, end_states, headers, is_frequency, is_one_of, is_scan, is_trst, is_word, left_out, no_effect_if, no_parts, number, parsed_by, parts, run_test, scan, scan_of, state, words_are}
 use Rattle.svf_reader.specs.Meaning.{Cause, SvfSyntax, SvfLimit, HexWide, TdiMissing, Step, any_wide, effect_of, if_parsed, last_length, read_command, scan_clocks, scan_command, scan_with, scanned, tdi_missing, unless_left_out, with_leaving_clock, with_length, within_clock_limit}
 
 -- ---- what a command says
 
+abbrev is_scan_command : SeenCommand → Bool
+is_scan_command (SIR s) = true
+is_scan_command (SDR s) = true
+is_scan_command Reset = false
+is_scan_command Idle = false
+is_scan_command (Run n) = false
+
+-- a scan, of whichever register, becomes a command that scans
 abbrev Says : Bool → Option SeenParsed → Type 0
 Says true None = Unit {0}
-Says true (Some (Scans register len p)) = Unit {0}
+Says true (Some (Scans register len p)) = (s : SeenScan) → is_scan_command (scan_command register s) ≡ true
 Says true (Some ToReset) = ⊥
 Says true (Some ToIdle) = ⊥
 Says true (Some (Runs n)) = ⊥
@@ -34,19 +39,20 @@ effect_says : (b : Bool) → Says false (no_effect_if b)
 effect_says true = tt
 effect_says false = tt
 
-some_says : (b : Bool) (register : Register) (len : ℕ) (p : Option Parts) → Says true (cond b None (option_map (Scans register len) p))
-some_says true register len p = tt
-some_says false register len None = tt
-some_says false register len (Some p) = tt
+-- the type of the register that a scan goes through has no name here
+some_says : (b : Bool) (register : _) (len : ℕ) (p : Option Parts) → ((s : SeenScan) → is_scan_command (scan_command register s) ≡ true) → Says true (cond b None (option_map (Scans register len) p))
+some_says true register len p h = tt
+some_says false register len None h = tt
+some_says false register len (Some p) h = h
 
-scan_says : (register : Register) (n : Option ℕ) (p : Option Parts) → Says true (scan_of register n p)
-scan_says register None p = tt
-scan_says register (Some len) p = some_says _ register len p
+number_says : (register : _) (n : Option ℕ) (p : Option Parts) → ((s : SeenScan) → is_scan_command (scan_command register s) ≡ true) → Says true (scan_of register n p)
+number_says register None p h = tt
+number_says register (Some len) p h = some_says (len == 0) register len p h
 
-words_say : (register : Register) (ws : List (List ℕ)) → Says true (scan register ws)
+words_say : (register : _) (ws : List (List ℕ)) → ((s : SeenScan) → is_scan_command (scan_command register s) ≡ true) → Says true (scan register ws)
 unfolding scan
-words_say register [] = tt
-words_say register (n ∷ ws) = scan_says register (number n) (parts 4 no_parts ws)
+words_say register [] h = tt
+words_say register (n ∷ ws) h = number_says register (number n) (parts 4 no_parts ws) h
 
 state_says : (ws : List (List ℕ)) → Says false (state ws)
 unfolding state
@@ -89,7 +95,7 @@ word_says w ws =
     let h5 : Says false x5 = either_says (is_word (codes "RUNTEST") w) (run_test ws) x6 (run_says ws) h6 in
     let h4 : Says false x4 = either_says (is_word (codes "STATE") w) (state ws) x5 (state_says ws) h5 in
     let h3 : Says false x3 = either_says (is_one_of headers w) (no_effect_if (words_are (codes "0" ∷ []) ws)) x4 (effect_says (words_are (codes "0" ∷ []) ws)) h4 in
-    first_says (is_word (codes "SIR") w) (is_word (codes "SDR") w) (scan Instruction ws) (scan Data ws) x3 (words_say Instruction ws) (words_say Data ws) h3
+    first_says (is_word (codes "SIR") w) (is_word (codes "SDR") w) _ _ x3 (words_say _ ws (λ s. refl)) (words_say _ ws (λ s. refl)) h3
 
 says : (ws : List (List ℕ)) → Says (is_scan ws) (command_of_words ws)
 unfolding command_of_words
@@ -116,49 +122,47 @@ no_error : {E X : Type 0} (x : Result X E) (b : Bool) (e : E) (y : X) → cond b
 no_error x true e y h = absurd (cc)
 no_error x false e y h = h
 
-clocked : (scans : Bool) (kept : ReadSoFar) (command : SeenCommand) (step : Step) (b : Bool) → Effect scans (Some command)
-    → cond b (let done : Result Step Cause = Ok (Some command, kept) in done) (Err SvfLimit) ≡ Ok step → Effect scans step.0
-clocked scans kept command step true h e =
-    let same : step ≡ (Some command, kept) = cc in
+clocked : (scans : Bool) (x step : Step) (b : Bool) → Effect scans x.0 → cond b (let done : Result Step Cause = Ok x in done) (Err SvfLimit) ≡ Ok step → Effect scans step.0
+clocked scans x step true h e =
+    let same : step ≡ x = cc in
     subst (λ (s : Step). Effect scans s.0) (sym same) h
-clocked scans kept command step false h e = absurd (cc)
+clocked scans x step false h e = absurd (cc)
 
-command_scans : (register : Register) (len : ℕ) (p : Parts) → Effect true (Some (scan_command register (scan_with len p)))
-command_scans Instruction len p = tt
-command_scans Data len p = tt
+by_test : (c : SeenCommand) → is_scan_command c ≡ true → Effect true (Some c)
+by_test (SIR s) h = tt
+by_test (SDR s) h = tt
+by_test Reset h = absurd (cc)
+by_test Idle h = absurd (cc)
+by_test (Run n) h = absurd (cc)
 
-scan_effect : (kept : ReadSoFar) (register : Register) (len : ℕ) (p : Parts) (step : Step) → scanned kept register len p ≡ Ok step → Effect true step.0
-unfolding scanned
-scan_effect kept register len p step e =
+has_effect : (k : Step) (scans : Bool) (s : SeenParsed) (step : Step) → Says scans (Some s) → effect_of k.1 s ≡ Ok step → Effect scans step.0
+unfolding effect_of scanned
+has_effect k true (Scans register len p) step h e =
     let narrow = no_error _ _ SvfLimit step e in
     let fits = no_error _ _ HexWide step narrow in
     let there = no_error _ _ TdiMissing step fits in
-    clocked true _ (scan_command register (scan_with len p)) step _ (command_scans register len p) there
-
-has_effect : (kept : ReadSoFar) (scans : Bool) (s : SeenParsed) (step : Step) → Says scans (Some s) → effect_of kept s ≡ Ok step → Effect scans step.0
-unfolding effect_of
-has_effect kept true (Scans register len p) step h e = scan_effect kept register len p step e
-has_effect kept true ToReset step h e = absurd h
-has_effect kept true ToIdle step h e = absurd h
-has_effect kept true (Runs n) step h e = absurd h
-has_effect kept true NoEffect step h e = absurd h
-has_effect kept false (Scans register len p) step h e = absurd h
-has_effect kept false ToReset step h e = clocked false _ Reset step _ tt e
-has_effect kept false ToIdle step h e = clocked false _ Idle step _ tt e
-has_effect kept false (Runs n) step h e = clocked false _ (Run n) step _ tt e
-has_effect kept false NoEffect step h e =
-    let same : step ≡ (None, kept) = cc in
+    clocked true _ step _ (by_test (scan_command register (scan_with len p)) (h (scan_with len p))) there
+has_effect k true ToReset step h e = absurd h
+has_effect k true ToIdle step h e = absurd h
+has_effect k true (Runs n) step h e = absurd h
+has_effect k true NoEffect step h e = absurd h
+has_effect k false (Scans register len p) step h e = absurd h
+has_effect k false ToReset step h e = clocked false _ step _ tt e
+has_effect k false ToIdle step h e = clocked false _ step _ tt e
+has_effect k false (Runs n) step h e = clocked false _ step _ tt e
+has_effect k false NoEffect step h e =
+    let same : step ≡ (None, k.1) = cc in
     subst (λ (s : Step). Effect false s.0) (sym same) tt
 
-parsed_effect : (kept : ReadSoFar) (scans : Bool) (s : Option SeenParsed) (step : Step) → Says scans s → if_parsed kept s ≡ Ok step → Effect scans step.0
-parsed_effect kept scans None step h e = absurd (cc)
-parsed_effect kept scans (Some s) step h e = has_effect kept scans s step h e
+parsed_effect : (k : Step) (scans : Bool) (s : Option SeenParsed) (step : Step) → Says scans s → if_parsed k.1 s ≡ Ok step → Effect scans step.0
+parsed_effect k scans None step h e = absurd (cc)
+parsed_effect k scans (Some s) step h e = has_effect k scans s step h e
 
-unless_effect : (kept : ReadSoFar) (text : List ℕ) (word : Option (List ℕ)) (step : Step) → unless_left_out kept true text word ≡ Ok step → Effect (is_scan (words text)) step.0
-unless_effect kept text (Some word) step e = absurd (cc)
-unless_effect kept text None step e = parsed_effect kept (is_scan (words text)) (command_of_words (words text)) step (says (words text)) e
+unless_effect : (k : Step) (text : List ℕ) (word : Option (List ℕ)) (step : Step) → unless_left_out k.1 true text word ≡ Ok step → Effect (is_scan (words text)) step.0
+unless_effect k text (Some word) step e = absurd (cc)
+unless_effect k text None step e = parsed_effect k (is_scan (words text)) (command_of_words (words text)) step (says (words text)) e
 
--- a command with its `;`
-pub read_effect : (kept : ReadSoFar) (text : List ℕ) (step : Step) → read_command kept true text ≡ Ok step → Effect (is_scan (words text)) step.0
+-- a command with its `;`, after what is kept of another one
+pub read_effect : (k : Step) (text : List ℕ) (step : Step) → read_command k.1 true text ≡ Ok step → Effect (is_scan (words text)) step.0
 unfolding read_command
-read_effect kept text step e = unless_effect kept text (left_out (words text) (after_word text)) step e
+read_effect k text step e = unless_effect k text (left_out (words text) (after_word text)) step e

@@ -231,7 +231,7 @@ parted (t ∷ []) kept at notes src cs e many reads =
 parted (t ∷ (u ∷ us)) kept at notes src cs e many reads =
     let rest = drop (suc (length t)) src in
     let is = is_read (read_command kept.1 true t) (at + blanks t) (suc (at + length t)) (u ∷ us) cs reads in
-    command_parted kept src t u us cs is.step is.later notes (is_scan (words t)) e is.here is.all (read_effect kept.1 t is.step is.here) many
+    command_parted kept src t u us cs is.step is.later notes (is_scan (words t)) e is.here is.all (read_effect kept t is.step is.here) many
     (λ ms as_many. parted (u ∷ us) is.step (suc (at + length t)) ms rest is.later (cut false src t u us e).rest as_many is.after)
 
 pub text_parted : (notes : List (List ℕ)) (src : List ℕ) (cs : List SeenCommand) → svf src ≡ Ok cs → length notes ≡ scans_in cs → IsParted (None, at_first) src (with_notes (texts (plain src)) notes src) notes cs
