@@ -1,11 +1,11 @@
 -- What is read of a command is a scan exactly where its first word says so.
 use Rattle.std.proofs.Common.{◌≡◌, ℕ, Bool, true, false, cond, Option, Some, None, Result, Ok, Err, List, [], ◌∷◌, refl, sym, subst}
-use Rattle.std.specs.Prelude.{◌&&◌, ◌||◌, ◌==◌, codes}
+use Rattle.std.specs.Prelude.{◌||◌, ◌==◌, codes}
 use Rattle.std.specs.Option.{option_map}
 use Rattle.svf_writer.specs.SeenCommands.{SIR, SDR, Reset, Idle, Run, SeenCommand, SeenScan}
 use Rattle.svf_reader.specs.Texts.{after_word, words}
 use Rattle.svf_reader.specs.Commands.{Parts, SeenParsed, Scans, ToReset, ToIdle, Runs, NoEffect, command_of_words, cycles, end_states, headers, is_frequency, is_one_of, is_scan, is_trst, is_word, left_out, no_effect_if, no_parts, number, parsed_by, parts, run_test, scan, scan_of, state, words_are}
-use Rattle.svf_reader.specs.Meaning.{Cause, SvfSyntax, SvfLimit, HexWide, TdiMissing, Step, any_wide, effect_of, if_parsed, last_length, read_command, scan_clocks, scan_command, scan_with, scanned, tdi_missing, unless_left_out, with_leaving_clock, with_length, within_clock_limit}
+use Rattle.svf_reader.specs.Meaning.{Cause, SvfLimit, HexWide, TdiMissing, Step, effect_of, if_parsed, read_command, scan_command, scan_with, scanned, unless_left_out}
 
 -- ---- what a command says
 

@@ -1,5 +1,5 @@
 -- A note is read again: its number and its rows.
-use Rattle.std.proofs.Common.{◌≡◌, ◌<◌, ◌≤◌, ◌^◌, ℕ, zero, suc, ◌+◌, ◌-◌, Bool, true, false, cond, Option, Some, None, List, [], ◌∷◌, ◌++◌, length, take, drop, map, refl, ap, sym, ◌∙◌, subst, arith, append_assoc, append-nil, length-append, decimal}
+use Rattle.std.proofs.Common.{◌≡◌, ◌<◌, ◌≤◌, ◌^◌, ℕ, ◌+◌, ◌-◌, Bool, true, false, cond, Option, Some, None, List, [], ◌∷◌, ◌++◌, length, take, drop, map, refl, ap, sym, ◌∙◌, arith, append_assoc, append-nil, length-append, decimal}
 use Rattle.std.specs.Prelude.{◌==◌, codes}
 use Rattle.std.specs.Char.{is_ascii_digit}
 use Rattle.std.specs.List.{AllByRecursion, list_any}
@@ -10,7 +10,7 @@ use Rattle.ij_bits.specs.BitLists.{bits_eq}
 use Rattle.ij_text.specs.Bytes.{is_blank}
 use Rattle.ij_text.specs.Parts.{before, split}
 use Rattle.instruments.specs.declared.Counts.{Counts}
-use Rattle.net_bench.specs.Instruction.{Selected, Network, Identity, Bypass, selected}
+use Rattle.net_bench.specs.Instruction.{Network, Identity, Bypass}
 use Rattle.net_graph.specs.declared.device.Device.{Device}
 use Rattle.net_graph.specs.declared.net.Net.{Net}
 use Rattle.net_graph.specs.Chain.{chain, IsRoute}
@@ -30,7 +30,7 @@ use Rattle.svf_notes.specs.declared.scan.Shifted.{Shifted}
 use Rattle.svf_notes.specs.declared.scan.Shown.{Shown}
 use Rattle.svf_notes.specs.declared.scan.Shown.TheVariants.{Written, Expected, Found}
 use Rattle.svf_notes.specs.Noted.{path_rows, register_row, said_of, scan_rows, some_if}
-use Rattle.svf_notes.specs.Notes.{Target, Instruction, Data, differs, digit_of, digits, expected_digit, first_line, if_compared, instruction_text, is_compared, note_of, note_text, number_text, opcode_text, other_length, path_length, path_text, positions_text, range_text, row, rows, rows_if, selected_name, target, target_rows, target_text, tdi_bits, values_text}
+use Rattle.svf_notes.specs.Notes.{Target, Instruction, Data, differs, digit_of, digits, expected_digit, if_compared, is_compared, note_of, note_text, number_text, opcode_text, other_length, path_length, range_text, row, rows, rows_if, target, target_rows, target_text, tdi_bits, values_text}
 use Rattle.svf_notes.specs.Reader.{ReadNote, ReadRow, note_in, note_of_words, note_with, read_note, read_row, read_rows, row_and, row_at, row_of, row_with}
 use Rattle.svf_notes.specs.Scans.{Scan}
 use Rattle.svf_notes.proofs.InWords.{InWord, both_in, decimal_in, label_in, label_some, other_byte}

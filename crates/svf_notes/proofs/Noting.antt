@@ -1,38 +1,35 @@
 -- After each scan of an explained text stands its own note.
-use Rattle.std.proofs.Common.{◌≡◌, ◌<◌, ◌≤◌, ◌^◌, ℕ, zero, suc, ◌+◌, Bool, true, false, Option, Some, None, List, [], ◌∷◌, ◌++◌, length, map, Ok, refl, ap, sym, ◌∙◌, subst, arith}
+use Rattle.std.proofs.Common.{◌≡◌, ◌<◌, ◌≤◌, ◌^◌, ℕ, zero, suc, ◌+◌, Bool, true, false, Some, None, List, [], ◌∷◌, length, map, Ok, refl, ap, sym, ◌∙◌, subst, arith}
 use Rattle.std.specs.Prelude.{slice_get}
 use Rattle.std.specs.List.{AllByRecursion}
 use Rattle.std.proofs.lemmas.List.{length-map}
 use Rattle.bench_report.specs.Report.{chip}
 use Rattle.instruments.specs.declared.Counts.{Counts}
 use Rattle.instruments.specs.Seen.{SeenModel}
-use Rattle.net_bench.specs.Bench.{Chip, State, power_up}
-use Rattle.net_bench.specs.Playing.{after_pins}
-use Rattle.net_bench.proofs.Shaped.{IsShaped, pins_shaped, power_up_shaped}
+use Rattle.net_bench.specs.Bench.{power_up}
+use Rattle.net_bench.proofs.Shaped.{pins_shaped, power_up_shaped}
 use Rattle.net_bench.proofs.Wide.{captures_wide}
 use Rattle.net_graph.specs.declared.device.Device.{Device}
 use Rattle.net_graph.specs.declared.net.Net.{Net}
 use Rattle.net_graph.specs.Held.{AreHolds}
 use Rattle.net_graph.specs.Nets.{IsNet}
-use Rattle.net_graph.specs.Signals.{Holds}
-use Rattle.svf_reader.specs.Meaning.{at_first, svf}
+use Rattle.svf_reader.specs.Meaning.{svf}
 use Rattle.svf_reader.specs.Scripts.{ReadCommandsAreWithinLimits, ReadCommandsFit}
-use Rattle.svf_reader.specs.Texts.{plain, texts}
 use Rattle.svf_writer.specs.Clocks.{clocks_from}
 use Rattle.svf_writer.specs.SeenCommands.{SIR, SDR, Reset, Idle, Run, SeenCommand}
 use Rattle.tap_machine.specs.declared.Stable.TheVariants.{Reset as InReset}
-use Rattle.tap_machine.specs.Play.{no_scan, pins, pins_with, scans_in}
+use Rattle.tap_machine.specs.Play.{no_scan, pins, scans_in}
 use Rattle.tap_machine.proofs.Clocks.{at_least}
-use Rattle.svf_notes.specs.Explained.{explained, explained_text, with_notes}
+use Rattle.svf_notes.specs.Explained.{explained, explained_text}
 use Rattle.svf_notes.specs.Laws.{ReadScansAreNumbered, counted}
-use Rattle.svf_notes.specs.Noted.{AreNotesOf, IsNoted, IsNoteOf, IsScanFrom, NotesFollowTheirScans, Part, ScansBegin, before_scan, noted, played_at, state_before}
+use Rattle.svf_notes.specs.Noted.{AreNotesOf, IsNoteOf, IsScanFrom, NotesFollowTheirScans, Part, ScansBegin, before_scan, noted, played_at, state_before}
 use Rattle.svf_notes.specs.Notes.{note_of, note_text, played_scans}
 use Rattle.svf_notes.specs.Reader.{read_note}
 use Rattle.svf_notes.specs.Scans.{Scan, scans_of}
 use Rattle.svf_notes.proofs.Begun.{AtScan, begun}
 use Rattle.svf_notes.proofs.HaveBits.{no_length}
 use Rattle.svf_notes.proofs.NotesRead.{note_read}
-use Rattle.svf_notes.proofs.Parting.{AreBehind, IsBehind, IsParted, text_parted}
+use Rattle.svf_notes.proofs.Parting.{AreBehind, text_parted}
 
 -- ---- the scans of a play
 
