@@ -7,8 +7,8 @@ use Rattle.std.proofs.lemmas.Bool.{ne_eqb}
 use Rattle.std.proofs.lemmas.Bool.Decides.{eqb_tells}
 use Rattle.std.proofs.lemmas.List.{reverse-append}
 use Rattle.std.proofs.lemmas.Option.{none-some, same_Some}
-use Rattle.ij_bits.proofs.Lists.{then_some}
-use Rattle.ij_bits.proofs.Tests.{number_self}
+use Rattle.ij_bits.proofs.Lists.{map_some, then_some}
+use Rattle.ij_bits.proofs.Tests.{number_self, number_turned}
 use Rattle.net_graph.specs.Chain.{IsRoute}
 use Rattle.net_graph.specs.declared.net.Net.{Net}
 use Rattle.net_graph.specs.declared.net.Point.{Point}
@@ -50,14 +50,10 @@ row_past plan k q (RowThen items rest) less =
 
 -- ---- one move back
 
-pub mapped : {A B : Type 0} (f : A → B) (o : Option A) (y : B) → option_map f o ≡ Some y → (x : A) × (o ≡ Some x) × (f x ≡ y)
-mapped f None y e = absurd (none-some y e)
-mapped f (Some x) y e = (x, refl, same_Some (f x) y e)
-
 -- whether there is a path
 pub path_there : (net : Net) (holds : Holds) (registers : List ℕ) → path net holds ≡ Some registers → has_path net holds ≡ true
 path_there net holds registers e =
-    let (out, is, same) = mapped reverse (active net holds) registers e in
+    let (out, is, same) = map_some reverse (active net holds) registers e in
     ap is_some is
 
 no_path : (o : Option (List ℕ)) → option_map reverse o ≡ None → is_some o ≡ false
@@ -85,7 +81,7 @@ module _ (net : Net) (holds : Holds) where
   register_back : (r n : ℕ) (out : List ℕ) → trace net holds n (Reg r) ≡ Some out → RegisterBack r n
   register_back r zero out t = absurd (none-some out t)
   register_back r (suc n) out t =
-      let (met, is, e) = mapped (λ (rs : List ℕ). r ∷ rs) (trace net holds n (reg_source net r)) out t in
+      let (met, is, e) = map_some (λ (rs : List ℕ). r ∷ rs) (trace net holds n (reg_source net r)) out t in
       record { moves = n; one_more = refl; met = met; traced = is }
 
   record MuxBack (m n : ℕ) (out : List ℕ) : Type 0 where
@@ -113,7 +109,7 @@ module _ (net : Net) (holds : Holds) where
   registers_met zero (Reg r) out t = absurd (none-some out t)
   registers_met zero (Mux m) out t = absurd (none-some out t)
   registers_met (suc n) (Reg r) out t =
-      let (met, is, e) = mapped (λ (rs : List ℕ). r ∷ rs) (trace net holds n (reg_source net r)) out t in
+      let (met, is, e) = map_some (λ (rs : List ℕ). r ∷ rs) (trace net holds n (reg_source net r)) out t in
       ap (λ (rs : List ℕ). r ∷ rs) (registers_met n (reg_source net r) met is) ∙ e
   registers_met (suc n) (Mux m) out t =
       let (from, is, e) = then_some (trace net holds n) (mux_source net holds m) out t in
@@ -265,7 +261,7 @@ pub way : (net : Net) (holds : Holds) (form : Items) → Describes net form → 
     → Back net holds (plan_of net holds) (row_known net holds) form Entry (length net.regs.items + length net.muxes.items)
 way net holds form d registers e =
     let most : ℕ = length net.regs.items + length net.muxes.items in
-    let (out, is, same) = mapped reverse (active net holds) registers e in
+    let (out, is, same) = map_some reverse (active net holds) registers e in
     back net holds (plan_of net holds) (row_known net holds) form Entry most out d.wired d.muxes.different (subst (λ (p : Point). trace net holds most p ≡ Some out) d.output is)
 
 -- ---- the registers that are met
@@ -280,15 +276,11 @@ met_by net holds None e =
 pub met_is_path : (net : Net) (holds : Holds) → flat_map register_at (met net holds) ≡ route_of net holds
 met_is_path net holds = met_by net holds (active net holds) refl
 
-turned : (r a : ℕ) → (r == a) ≡ (a == r)
-turned r a =
-    ⊎_elim (λ same. same.0 ∙ sym (subst (λ (j : ℕ). (j == r) ≡ true) same.1 (number_self r))) (λ differ. differ.0 ∙ sym (ne_eqb a r (λ e. differ.1 (sym e)))) (eqb_tells r a)
-
 any_register : (r : ℕ) (ps : List Point) → list_any (same_point (Reg r)) ps ≡ is_in (flat_map register_at ps) r
 any_register r [] = refl
 any_register r (Entry ∷ ps) = any_register r ps
 any_register r (Reg a ∷ ps) =
-    ap (λ (b : Bool). b || list_any (same_point (Reg r)) ps) (turned r a) ∙ ap (λ (b : Bool). (a == r) || b) (any_register r ps)
+    ap (λ (b : Bool). b || list_any (same_point (Reg r)) ps) (number_turned r a) ∙ ap (λ (b : Bool). (a == r) || b) (any_register r ps)
 any_register r (Mux m ∷ ps) = any_register r ps
 
 -- a register is met exactly where it is on the active path

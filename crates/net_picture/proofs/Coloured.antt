@@ -8,6 +8,7 @@ use Rattle.std.proofs.lemmas.Grind.{flat_map-append}
 use Rattle.std.proofs.lemmas.List.{map-append, reverse-append, reverse-reverse}
 use Rattle.std.proofs.lemmas.List.Folds.{list_any-append}
 use Rattle.ij_bits.proofs.Tests.{number_self}
+use Rattle.ij_bits.proofs.Lists.{map_some}
 use Rattle.net_graph.specs.Chain.{NotIn, IsRoute}
 use Rattle.net_graph.specs.declared.net.Net.{Net}
 use Rattle.net_graph.specs.declared.net.Point.{Point}
@@ -33,7 +34,7 @@ use Rattle.net_picture.specs.Pens.{start_at, is_full, ready, after_register, aft
 use Rattle.net_picture.specs.Plan.{Plan, box_of, has_path, mux_of, plan_of}
 use Rattle.net_picture.specs.Rows.{next_of, wire_into, row_colours}
 use Rattle.net_picture.specs.Whole.{funnels_in}
-use Rattle.net_picture.proofs.Back.{mapped, registers_met, entry_last, way, path_there, path_gone}
+use Rattle.net_picture.proofs.Back.{registers_met, entry_last, way, path_there, path_gone}
 use Rattle.net_picture.proofs.Gathering.{IsOfThings, picked_both}
 use Rattle.net_picture.proofs.Marking.{point_of_shape, points_in, of_points, boxes_again, off, row_known}
 use Rattle.net_picture.proofs.Whole.{whole}
@@ -96,7 +97,7 @@ module _ (net : Net) (form : Items) (holds : Holds) (d : Describes net form) whe
   marked registers e =
       let plan = plan_of net holds in
       let w = way net holds form d registers e in
-      let (out, is, same) = mapped reverse (active net holds) registers e in
+      let (out, is, same) = map_some reverse (active net holds) registers e in
       let boxes : List ℕ = flat_map register_at mine in
       let outs : reverse boxes ≡ out =
       sym (ap (flat_map register_at) (met_there registers e) ∙ flat_map-append register_at (reverse mine) (met_from net holds w.moves (Some Entry))

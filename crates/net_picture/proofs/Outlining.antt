@@ -1,4 +1,5 @@
 -- Drawings of one network in two states have the same outline.
+use Rattle.std.proofs.Math.Bool.{and-false}
 use Rattle.std.proofs.Common.{◌≡◌, ℕ, zero, suc, ◌+◌, ◌-◌, Bool, true, false, List, [], ◌∷◌, ◌++◌, Option, Some, None, length, map, get_or, refl, sym, ap, ◌∙◌, subst, arith, append_assoc, append-nil}
 use Rattle.std.specs.Prelude.{◌==◌, ◌&&◌, cond}
 use Rattle.std.specs.List.{range_with_len}
@@ -66,10 +67,6 @@ wires_alike a b p =
 
 -- ---- the wires to a funnel at x
 
-and_none : (b : Bool) → (b && false) ≡ false
-and_none true = refl
-and_none false = refl
-
 -- neither a wire to the funnel nor its output wire is within it
 record IsOpen (o : Option Shape) (x : ℕ) : Type 0 where
   closing : (from_x from_y to_y : ℕ) (on : Bool) → is_within o (Wire from_x from_y from_x x to_y on) ≡ false
@@ -83,7 +80,7 @@ open_harmless o x h = record {
 
 open_values : (m q x y : ℕ) → IsOpen (Some (Values m q x y)) x
 open_values m q x y = record {
-  closing = λ from_x from_y to_y on. ap (λ (b : Bool). (from_x == x + 7) && b) (ne_eqb x (x + 14) (λ e. omega (arith, e))) ∙ and_none (from_x == x + 7);
+  closing = λ from_x from_y to_y on. ap (λ (b : Bool). (from_x == x + 7) && b) (ne_eqb x (x + 14) (λ e. omega (arith, e))) ∙ and-false (from_x == x + 7);
   output = λ at to_x on. ap (λ (b : Bool). b && (to_x == x + 14)) (ne_eqb (x + 14) (x + 7) (λ e. omega (arith, e)));
 }
 
