@@ -1,12 +1,13 @@
 #!/usr/bin/env python3
-"""Runs the gate and writes docs/GATE.md, what it takes: minutes.py [--blank | --again], at the top of a checkout.
+"""Runs the gate and writes docs/GATE.md, what it takes: minutes.py [--blank | --again] [NAME..], at the top of a checkout.
 
 It runs `rt ci` and hands on what that prints. The functions of a crate are those of the gate's own lines. The processor time is looked up in
 /proc, twice a second: a process that rt started with `--crate-name NAME` is the proof of NAME, that of its tests where it has the word
 `--test`, and that of an edit where it works in a folder of its own. It ends with the status of the gate, and writes the page only at 0.
 
 --again goes on where an earlier run of this checkout ended, also one that failed or was cut off: a crate that it proved isn't proved once
-more, and the page has what that took. Each run leaves what it measured in out/minutes.json.
+more, and the page has what that took. Each run leaves what it measured in out/minutes.json. With names it proves these crates and those
+that they stand on, and leaves the page to a run without.
 
 --blank writes the page without running anything: the crates and their edits, and no numbers."""
 import collections
@@ -136,11 +137,12 @@ def main():
     if '--blank' in sys.argv:
         PAGE.write_text(page({}, collections.Counter(), '(Not measured yet.)'))
         return 0
+    names = [word for word in sys.argv[1:] if not word.startswith('--')]
     functions, before, minutes, runs = kept_before()
     kit = subprocess.run(['rt', 'version'], stdout=subprocess.PIPE, text=True, check=True).stdout.strip()
     begin = time.monotonic()
     signal.signal(signal.SIGTERM, lambda *_: sys.exit(1))
-    gate = subprocess.Popen(['rt', 'ci'], stdout=subprocess.PIPE, stderr=subprocess.STDOUT, text=True, errors='replace')
+    gate = subprocess.Popen(['rt', 'ci', *names], stdout=subprocess.PIPE, stderr=subprocess.STDOUT, text=True, errors='replace')
     sampler = Sampler(gate.pid)
     sampler.start()
     name = None
@@ -160,7 +162,7 @@ def main():
         functions = {it: value for it, value in functions.items() if ': ' not in it}
         minutes, runs = minutes + (time.monotonic() - begin) / 60, runs + 1
         keep(functions, seconds, minutes, runs)
-    if not status:
+    if not status and not names:
         PAGE.write_text(page(functions, seconds, measured(seconds, minutes, runs, kit)))
     return status
 

@@ -3,17 +3,16 @@ use Rattle.std.proofs.Common.{◌≡◌, ℕ, zero, suc, ◌+◌, ◌<◌, ◌�
 use Rattle.std.specs.Prelude.{◌==◌, not, cond, map, filter, take, slice_set, All}
 use Rattle.std.specs.Str.{bytes_eq as same_registers}
 use Rattle.std.proofs.lemmas.List.{drop_more}
-use Rattle.std.proofs.lemmas.List.Elements.{All-nil, All-cons, All-head, All-tail}
+use Rattle.std.proofs.lemmas.List.Elements.{All-nil, All-cons, All-head, All-tail, All-weaker}
 use Rattle.std.proofs.lemmas.Slice.Eq.{bytes_eq-Decides}
 use Rattle.net_graph.specs.Chain.{chain, IsRoute}
-use Rattle.net_graph.specs.Held.{AreHolds}
+use Rattle.net_graph.specs.Held.{IsHeld, AreHolds}
+use Rattle.net_graph.specs.Named.{IsBitOf}
 use Rattle.net_graph.specs.Nets.{IsNet}
 use Rattle.net_graph.specs.Writes.{write_all}
+use Rattle.net_graph.proofs.Selecting.{is_held}
 use Rattle.net_graph.proofs.Widths.{chain_fits}
-use Rattle.net_tree.specs.ScanPlans.{seen_plan}
 use Rattle.path_planner.specs.Planning.{IsBranchOf}
-use Rattle.path_planner.specs.Scannable.{IsScannable}
-use Rattle.scan_packer.specs.Packing.{CanScan}
 use Rattle.net_graph.specs.declared.branch.Branch.{Branch}
 use Rattle.net_graph.specs.declared.net.Net.{Net}
 use Rattle.net_graph.specs.declared.step.WriteBit.{WriteBit}
@@ -159,6 +158,15 @@ all_open net bs rows e a = subst (All (λ r. IsBranchOf net r.branch)) (sym e) (
     each_open (b ∷ bs) a =
         All-cons (λ (r : JudgedRow). IsBranchOf net r.branch) (open_row b) (map open_row bs) (All-head (IsBranchOf net) b bs a) (each_open bs (All-tail (IsBranchOf net) b bs a))
 
+-- the bits that a scan writes are held before it
+pub writes_held : (net : Net) (scans : List PlannedScan) (i : ℕ) (x : PlannedScan) → i < length scans → x ≡ get_or scans i x → (h : Holds) → AreFlushable net h (map seen_planned (drop i scans)) → All (λ w. IsHeld h w.bit) x.plan.writes.items
+writes_held net scans i x l is h a =
+    let left : map seen_planned (drop i scans) ≡ seen_planned x ∷ map seen_planned (drop (i + 1) scans) =
+    ap (map seen_planned) (drop_more scans i x l ∙ ap (λ y. y ∷ drop (i + 1) scans) (sym is)) in
+    let b = subst (AreFlushable net h) left a in
+    let (path, active, p) = b.1 in
+    All-weaker (λ w. IsBitOf net w.bit) (λ w. IsHeld h w.bit) (λ w k. is_held net h w.bit p.widths k) x.plan.writes.items p.writes
+
 module _ (net : Net) (scans : List PlannedScan) (i : ℕ) (x : PlannedScan) (l : i < length scans) (is : x ≡ get_or scans i x) (h next : Holds) (n : next ≡ write_all h x.plan.writes.items) where
   -- the next scan, and those after it
   pub left_is : map seen_planned (drop i scans) ≡ seen_planned x ∷ map seen_planned (drop (i + 1) scans)
@@ -168,9 +176,6 @@ module _ (net : Net) (scans : List PlannedScan) (i : ℕ) (x : PlannedScan) (l :
   next_can a =
       let b = subst (AreFlushable net h) left_is a in
       subst (λ k. AreFlushable net k (map seen_planned (drop (i + 1) scans))) (sym n) b.2
-
-  pub scan_can : AreFlushable net h (map seen_planned (drop i scans)) → IsScannable net h × CanScan net h (seen_plan x.plan)
-  scan_can a = let b = subst (AreFlushable net h) left_is a in (b.0, b.1)
 
   pub next_judged : (rows now all : List JudgedRow) → now ≡ map (judged_row net h) rows → judged_rows net (begins h (holds_after h (map seen_planned (drop i scans)))) rows ≡ all → judged_rows net (begins next (holds_after next (map seen_planned (drop (i + 1) scans)))) now ≡ all
   next_judged rows now all e j =

@@ -5,6 +5,7 @@ use Rattle.net_graph.specs.declared.net.Net.{Net}
 use Rattle.net_graph.specs.declared.net.Point.{Point}
 use Rattle.net_graph.specs.MuxesMet.{active_muxes}
 use Rattle.net_graph.specs.Path.{mux_source, route_of}
+use Rattle.net_graph.specs.RowTables.{AreRows}
 use Rattle.net_graph.specs.Signals.{Holds}
 use Rattle.mux_test.specs.declared.judge.Judge.{Judge}
 
@@ -13,8 +14,9 @@ pub record IsKnown (net : Net) (holds : Holds) (passed : List (Option Point)) : 
   pub long : length passed ≡ length net.muxes.items
   pub right : (m : ℕ) (p : Point) → slice_index_or passed m None ≡ Some p → mux_source net holds m ≡ Some p
 
--- room for two paths of a network, and a place for each mux
+-- the rows of a network, room for two of its paths, and a place for each mux
 pub record HasJudgeRoom (net : Net) (judge : Judge) : Type 0 where
+  pub rows : AreRows net judge.rows
   pub own : length net.regs.items ≤ length judge.own.items + judge.own.spare
   pub other : length net.regs.items ≤ length judge.other.items + judge.other.spare
   pub met : length judge.met.items ≡ length net.muxes.items

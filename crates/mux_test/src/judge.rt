@@ -17,7 +17,7 @@ ghost use Rattle.mux_test.specs.Seen.{begins};
 use crate::planned::PlannedScan;
 use crate::stuck::{find_stuck_path, is_passed, mark_met};
 use ij_bits::{Bits, List, OutOfMemory};
-use net_graph::{Branch, Holds, Net, Point, find_path};
+use net_graph::{Branch, Holds, Net, Point, RowTable, find_path_by};
 use path_planner::advance;
 use std::alloc::Global;
 
@@ -44,6 +44,8 @@ pub(crate) struct JudgedRow {
 /// What is known at the beginning of a scan, in room that is made once.
 #[derive(Drop)]
 pub(crate) struct Judge {
+    /// The rows of the network's muxes.
+    pub rows: RowTable,
     /// The registers of the active path, nearest scan-out first.
     pub own: List<u32>,
     /// Those of another path.
@@ -119,6 +121,7 @@ impl Judge {
         ensures { IfOk result (HasJudgeRoom net.now) }
     {
         Ok(Judge {
+            rows: RowTable::new(alloc, net)?,
             own: path_room(alloc, net)?,
             other: path_room(alloc, net)?,
             met: Bits::zeros(alloc, net.muxes.len() as u32)?,
@@ -134,8 +137,8 @@ impl Judge {
         ensures room { HasJudgeRoom net.now self.new }
         ensures knows { Knows net.now holds.now self.new }
     {
-        find_path(net, holds, &mut self.own);
-        mark_met(net, holds, &mut self.met, &mut self.passed);
+        find_path_by(net, &self.rows, holds, &mut self.own);
+        mark_met(net, &self.rows, holds, &mut self.met, &mut self.passed);
     }
 
     /// What a scan says of a row that no scan has told yet. A mux that the path doesn't go through, or that passes on the same
@@ -151,10 +154,10 @@ impl Judge {
         ensures knows { Knows net.now holds.now self.new }
     {
         let passed = self.passed.as_slice();
-        if !self.met.get(row.mux) || is_passed(net, holds, passed, row) {
+        if !self.met.get(row.mux) || is_passed(net, &self.rows, holds, passed, row) {
             return Verdict::Open;
         }
-        find_stuck_path(net, holds, passed, row, &mut self.other);
+        find_stuck_path(net, &self.rows, holds, passed, row, &mut self.other);
         verdict_of(holds, self.own.as_slice(), self.other.as_slice())
     }
 

@@ -7,6 +7,7 @@ ghost use Rattle.net_graph.specs.MuxesMet.{active_muxes};
 ghost use Rattle.net_graph.specs.Named.{IsPointOf};
 ghost use Rattle.net_graph.specs.Nets.{IsNet};
 ghost use Rattle.net_graph.specs.Path as paths;
+ghost use Rattle.net_graph.specs.RowTables.{AreRows};
 ghost use Rattle.net_graph.specs.Stuck as stuck;
 ghost use Rattle.net_graph.specs.Tracing.{registers_at};
 ghost use Rattle.net_graph.specs.declared.net.Point.TheVariants as point;
@@ -15,7 +16,7 @@ ghost use Rattle.mux_test.specs.Judging.{IsKnown};
 ghost use Rattle.mux_test.specs.Steps as steps;
 
 use ij_bits::{Bits, List};
-use net_graph::{Branch, Holds, Net, Point, row_of};
+use net_graph::{Branch, Holds, Net, Point, RowTable};
 use net_tree::same_point;
 
 /// What a row of a mux passes on.
@@ -31,20 +32,28 @@ fn row_source(net: &Net, row: Branch) -> Point
 }
 
 /// What a mux passes on by its select.
-fn selected_source(net: &Net, holds: &Holds, mux: u32) -> Option<Point>
+fn selected_source(net: &Net, rows: &RowTable, holds: &Holds, mux: u32) -> Option<Point>
+    requires rows { AreRows net.now rows.now }
     requires well_formed { IsNet net.now }
     requires holds { AreHolds net.now holds.now }
     requires mux { mux < length net.now.muxes.items }
     ensures { result ≡ paths.mux_source net.now holds.now mux }
 {
-    match row_of(net, holds, mux) {
+    match rows.row_of(net, holds, mux) {
         Some(row) => Some(row_source(net, Branch { mux, row })),
         None => None,
     }
 }
 
 /// The same, by what is known already.
-fn known_source(net: &Net, holds: &Holds, passed: &[Option<Point>], mux: u32) -> Option<Point>
+fn known_source(
+    net: &Net,
+    rows: &RowTable,
+    holds: &Holds,
+    passed: &[Option<Point>],
+    mux: u32,
+) -> Option<Point>
+    requires rows { AreRows net.now rows.now }
     requires well_formed { IsNet net.now }
     requires holds { AreHolds net.now holds.now }
     requires known { IsKnown net.now holds.now passed.now }
@@ -53,18 +62,20 @@ fn known_source(net: &Net, holds: &Holds, passed: &[Option<Point>], mux: u32) ->
 {
     match passed[mux as usize] {
         Some(source) => Some(source),
-        None => selected_source(net, holds, mux),
+        None => selected_source(net, rows, holds, mux),
     }
 }
 
 /// What a mux passes on, where the mux of a row that it is stuck in passes on that row.
 fn source_of(
     net: &Net,
+    rows: &RowTable,
     stuck: Option<Branch>,
     holds: &Holds,
     passed: &[Option<Point>],
     mux: u32,
 ) -> Option<Point>
+    requires rows { AreRows net.now rows.now }
     requires well_formed { IsNet net.now }
     requires stuck { ForSome stuck (IsBranchOf net.now) }
     requires holds { AreHolds net.now holds.now }
@@ -77,21 +88,23 @@ fn source_of(
             if mux == row.mux {
                 Some(row_source(net, row))
             } else {
-                known_source(net, holds, passed, mux)
+                known_source(net, rows, holds, passed, mux)
             }
         }
-        None => known_source(net, holds, passed, mux),
+        None => known_source(net, rows, holds, passed, mux),
     }
 }
 
 /// What is met before a point, going back.
 fn back(
     net: &Net,
+    rows: &RowTable,
     stuck: Option<Branch>,
     holds: &Holds,
     passed: &[Option<Point>],
     from: Point,
 ) -> Option<Point>
+    requires rows { AreRows net.now rows.now }
     requires well_formed { IsNet net.now }
     requires stuck { ForSome stuck (IsBranchOf net.now) }
     requires holds { AreHolds net.now holds.now }
@@ -102,7 +115,7 @@ fn back(
     match from {
         Point::Entry => Some(Point::Entry),
         Point::Reg(reg) => Some(net.regs.get(reg as usize).from),
-        Point::Mux(mux) => source_of(net, stuck, holds, passed, mux),
+        Point::Mux(mux) => source_of(net, rows, stuck, holds, passed, mux),
     }
 }
 
@@ -135,11 +148,13 @@ fn is_entry(at: Point) -> bool
 /// nothing where there is no path then. Takes no memory.
 pub(crate) fn find_stuck_path(
     net: &Net,
+    rows: &RowTable,
     holds: &Holds,
     passed: &[Option<Point>],
     row: Branch,
     path: &mut List<u32>,
 )
+    requires rows { AreRows net.now rows.now }
     requires well_formed { IsNet net.now }
     requires holds { AreHolds net.now holds.now }
     requires known { IsKnown net.now holds.now passed.now }
@@ -156,7 +171,7 @@ pub(crate) fn find_stuck_path(
             path.clear();
             return;
         }
-        match back(net, Some(row), holds, passed, at) {
+        match back(net, rows, Some(row), holds, passed, at) {
             Some(before) => at = before,
             None => {
                 path.clear();
@@ -200,7 +215,14 @@ fn forget(passed: &mut List<Option<Point>>)
 }
 
 /// Marks the muxes that the active path goes through, and maybe others, and notes what they pass on. Takes no memory.
-pub(crate) fn mark_met(net: &Net, holds: &Holds, met: &mut Bits, passed: &mut List<Option<Point>>)
+pub(crate) fn mark_met(
+    net: &Net,
+    rows: &RowTable,
+    holds: &Holds,
+    met: &mut Bits,
+    passed: &mut List<Option<Point>>,
+)
+    requires rows { AreRows net.now rows.now }
     requires well_formed { IsNet net.now }
     requires holds { AreHolds net.now holds.now }
     requires long { length met.old.items ≡ length net.now.muxes.items }
@@ -214,7 +236,7 @@ pub(crate) fn mark_met(net: &Net, holds: &Holds, met: &mut Bits, passed: &mut Li
     let mut at = net.out;
     for _turn in 0..net.regs.len() + net.muxes.len() {
         mark(at, met);
-        let source = back(net, None, holds, passed.as_slice(), at);
+        let source = back(net, rows, None, holds, passed.as_slice(), at);
         note(at, source, passed);
         match source {
             Some(before) => at = before,
@@ -224,14 +246,21 @@ pub(crate) fn mark_met(net: &Net, holds: &Holds, met: &mut Bits, passed: &mut Li
 }
 
 /// Whether a mux passes on by its select what it passes on in this row.
-pub(crate) fn is_passed(net: &Net, holds: &Holds, passed: &[Option<Point>], row: Branch) -> bool
+pub(crate) fn is_passed(
+    net: &Net,
+    rows: &RowTable,
+    holds: &Holds,
+    passed: &[Option<Point>],
+    row: Branch,
+) -> bool
+    requires rows { AreRows net.now rows.now }
     requires well_formed { IsNet net.now }
     requires holds { AreHolds net.now holds.now }
     requires known { IsKnown net.now holds.now passed.now }
     requires row { IsBranchOf net.now row }
     ensures { IsTrue result → paths.mux_source net.now holds.now row.mux ≡ stuck.row_source net.now row }
 {
-    match known_source(net, holds, passed, row.mux) {
+    match known_source(net, rows, holds, passed, row.mux) {
         Some(source) => same_point(source, row_source(net, row)),
         None => false,
     }

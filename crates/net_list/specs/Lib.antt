@@ -1,5 +1,7 @@
 pub mod Fewest
 pub mod Forms
 pub mod Drivers
+pub mod Outputs
 pub mod Lines
 pub mod Listing
+pub mod Examples

@@ -40,7 +40,7 @@ fn right_of(net: &Net, thing: u32) -> u32
 }
 
 /// The index at a position, between the left and the right index.
-fn index_between(left: u32, right: u32, pos: u32) -> u64
+pub(crate) fn index_between(left: u32, right: u32, pos: u32) -> u64
     ensures { result ≡ drivers.index_between left right pos }
 {
     let right_index = u64::from(right);

@@ -6,7 +6,10 @@ mod Whole
 mod Areas
 mod Named
 mod Marking
+mod Back
 mod Lining
+mod Coloured
+mod Outlining
 mod Reading
 mod Into
 mod Read

@@ -1,20 +1,13 @@
 -- What is in colour is one line.
-use Rattle.std.proofs.Common.{◌≡◌, ⊎_elim, ℕ, suc, ◌+◌, ◌-◌, ◌<◌, ◌≤◌, Bool, true, false, List, [], ◌∷◌, ◌++◌, Option, Some, None, length, refl, sym, ap, ◌∙◌, subst, arith}
+use Rattle.std.proofs.Common.{◌≡◌, ⊎_elim, ℕ, suc, ◌+◌, ◌-◌, ◌<◌, ◌≤◌, Bool, true, false, List, [], ◌∷◌, ◌++◌, Option, Some, None, refl, sym, ap, ◌∙◌, subst, arith}
 use Rattle.std.specs.Prelude.{cond}
 use Rattle.std.proofs.lemmas.Bool.Decides.{eqb_tells}
 use Rattle.std.proofs.lemmas.Grind.{flat_map-append}
-use Rattle.std.proofs.lemmas.Option.{none-some}
-use Rattle.ij_bits.proofs.Lists.{some_of}
-use Rattle.net_graph.specs.Chain.{IsRoute}
 use Rattle.net_graph.specs.declared.net.Net.{Net}
-use Rattle.net_graph.specs.declared.net.Point.{Point}
-use Rattle.net_graph.specs.declared.net.Point.TheVariants.{Entry, Reg as FromReg, Mux as FromMux}
-use Rattle.net_graph.specs.declared.net.Row.{Row}
-use Rattle.net_graph.specs.Path.{AreListed, mux_source, row_from, row_of, rows_of, select_value, path}
-use Rattle.net_graph.specs.Signals.{Holds, row_point, some_matches}
+use Rattle.net_graph.specs.Path.{path}
+use Rattle.net_graph.specs.Signals.{Holds}
 use Rattle.net_tree.specs.Entries.{row_count}
-use Rattle.net_tree.specs.Form.{Items, Nothing, RegThen, MuxThen, Rows, NoRow, RowThen, muxes_in, muxes_in_rows, IsWired, AreWired, Describes}
-use Rattle.net_tree.proofs.Walks.{IsRoute-front, IsRoute-back}
+use Rattle.net_tree.specs.Form.{Items, Nothing, RegThen, MuxThen, Rows, NoRow, RowThen, Describes}
 use Rattle.net_picture.specs.declared.plan.MuxPlan.{MuxPlan}
 use Rattle.net_picture.specs.declared.pen.Pen.{Pen}
 use Rattle.net_picture.specs.declared.pen.Fan.{Fan}
@@ -26,7 +19,8 @@ use Rattle.net_picture.specs.Layout.{drawn, pen_after, fan_after, row_ends, rows
 use Rattle.net_picture.specs.Line.{Lead, lead_of, leads_in, IsLine}
 use Rattle.net_picture.specs.Pens.{start_at, is_full, next_line, ready, after_register, after_row, fan_at, funnel_at}
 use Rattle.net_picture.specs.Plan.{Plan, box_of, mux_of, plan_of}
-use Rattle.net_picture.proofs.Marking.{other_row, row_known, path_there, path_gone}
+use Rattle.net_picture.proofs.Back.{HasRows, RowHasRows, way, path_there, path_gone}
+use Rattle.net_picture.proofs.Marking.{other_row}
 
 -- two lines, one after the other
 line_then : (x y u v to_x to_y : ℕ) (ls ks : List Lead) → IsLine x y ls u v → IsLine u v ks to_x to_y → IsLine x y (ls ++ ks) to_x to_y
@@ -146,17 +140,6 @@ wires_lead : (p : Pen) → Leads p.x p.y (wire_to true p) ((ready p).x + 18) (re
 wires_lead p =
     leads_then p.x p.y (ready p).x (ready p).y ((ready p).x + 18) (ready p).y (turn_back true p) (Wire (ready p).x (ready p).y (ready p).x ((ready p).x + 18) (ready p).y true ∷ []) (turn_leads p) (refl, refl, (refl, refl))
 
--- each multiplexer is in one of its rows
-abbrev mutual
-  HasRows : Plan → Items → Type 0
-  HasRows plan Nothing = Unit {0}
-  HasRows plan (RegThen r rest) = HasRows plan rest
-  HasRows plan (MuxThen m rows rest) = ((k : ℕ) × ((mux_of plan m).row ≡ Some k) × (k < row_count rows)) × RowsHaveRows plan rows × HasRows plan rest
-
-  RowsHaveRows : Plan → Rows → Type 0
-  RowsHaveRows plan NoRow = Unit {0}
-  RowsHaveRows plan (RowThen items rest) = HasRows plan items × RowsHaveRows plan rest
-
 module _ (plan : Plan) where
   -- the line through the rows, and from the end of the selected one through the funnel
   record Through (k : ℕ) (p : Pen) (q : ℕ) (f : Fan) (rows : Rows) : Type 0 where
@@ -189,7 +172,7 @@ module _ (plan : Plan) where
         let within : selected < row_count rows = h.0.2 in
         let low : 0 ≤ selected = omega arith in
         let high : selected < 0 + row_count rows = omega (arith, within) in
-        let t : Through selected here 0 f rows = rows_lead selected here 0 f rows low high h.1 in
+        let t : Through selected here 0 f rows = rows_lead selected here 0 f rows low high h.0.3 in
         let inside : Leads (here.x + 18) here.y (rows_drawn plan true part.row here 0 f rows) t.end.x t.end.y =
         subst (λ (o : Option ℕ). Leads (here.x + 18) here.y (rows_drawn plan true o here 0 f rows) t.end.x t.end.y) row_is t.inside in
         let closes : Leads t.end.x t.end.y (row_closes true part.row m 0 x here.y ends) (x + 14) here.y =
@@ -199,9 +182,9 @@ module _ (plan : Plan) where
         leads_then p.x p.y q.x q.y e.x e.y (mux_drawn plan true p m rows) (drawn plan true q rest)
         (leads_then p.x p.y (here.x + 18) here.y q.x q.y (wire_to true p) (rows_drawn plan true part.row here 0 f rows ++ mux_close true part m here g ends) (wires_lead p)
         (leads_then (here.x + 18) here.y t.end.x t.end.y q.x q.y (rows_drawn plan true part.row here 0 f rows) (mux_close true part m here g ends) inside close))
-        (items_lead q rest h.2)
+        (items_lead q rest h.1)
 
-    rows_lead : (k : ℕ) (p : Pen) (q : ℕ) (f : Fan) (rows : Rows) → q ≤ k → k < q + row_count rows → RowsHaveRows plan rows → Through k p q f rows
+    rows_lead : (k : ℕ) (p : Pen) (q : ℕ) (f : Fan) (rows : Rows) → q ≤ k → k < q + row_count rows → RowHasRows plan k q rows → Through k p q f rows
     rows_lead k p q f NoRow low high h = absurd (omega (arith, low, high))
     rows_lead k p q f (RowThen items rest) low high h =
         let start : Pen = start_at f.x f.y in
@@ -215,7 +198,7 @@ module _ (plan : Plan) where
         (λ same.
         let is_on : true ≡ on = sym same.0 in
         let less : k < suc q = omega (arith, same.1) in
-        let mine : Leads (p.x + 18) p.y (row_wire true p f ∷ drawn plan true start items) e.x e.y = (refl, refl, items_lead start items h.0) in
+        let mine : Leads (p.x + 18) p.y (row_wire true p f ∷ drawn plan true start items) e.x e.y = (refl, refl, items_lead start items (h.0 same.1)) in
         record {
           end = spot;
           inside = none_after (p.x + 18) p.y e.x e.y first others (off_after plan k p (suc q) next rest less)
@@ -234,56 +217,14 @@ module _ (plan : Plan) where
         })
         (eqb_tells k q)
 
--- ---- each multiplexer is in one of its rows
-
-within_of : (b : Bool) (k : ℕ) (rs : List Row) (bits : List Bool) (from p : Point) → (row_point rs bits ≡ Some p → (q : ℕ) × (row_from (suc k) rs bits ≡ Some q) × (q < suc k + length rs))
-    → elim b [ true ↦ Some from | false ↦ row_point rs bits ] ≡ Some p → (q : ℕ) × (elim b [ true ↦ Some k | false ↦ row_from (suc k) rs bits ] ≡ Some q) × (q < k + suc (length rs))
-within_of true k rs bits from p later e = (k, refl, omega arith)
-within_of false k rs bits from p later e =
-    let (q, is, less) = later e in
-    (q, is, omega (arith, less))
-
-row_within : (k : ℕ) (rs : List Row) (bits : List Bool) (p : Point) → row_point rs bits ≡ Some p → (q : ℕ) × (row_from k rs bits ≡ Some q) × (q < k + length rs)
-row_within k [] bits p e = absurd (none-some p e)
-row_within k (r ∷ rs) bits p e =
-    within_of (some_matches r.values.items bits) k rs bits r.from p (λ h. row_within (suc k) rs bits p h) e
-
-same_count : (net : Net) (p : Point) (rs : List Row) (rows : Rows) → AreWired net p rs rows → length rs ≡ row_count rows
-same_count net p [] NoRow w = refl
-same_count net p (r ∷ rs) NoRow w = absurd w
-same_count net p [] (RowThen items rest) w = absurd w
-same_count net p (r ∷ rs) (RowThen items rest) w = ap suc (same_count net p rs rest w.2)
-
-module _ (net : Net) (holds : Holds) (plan : Plan) (listed : AreListed net holds) (known : (m : ℕ) → m < length net.muxes.items → (mux_of plan m).row ≡ row_of net holds m) where
-  mutual
-    has_rows : (p : Point) (items : Items) → IsWired net p items → IsRoute (length net.muxes.items) (muxes_in items) → HasRows plan items
-    has_rows p Nothing w r = tt
-    has_rows p (RegThen k rest) w r = has_rows (FromReg k) rest w.1 r
-    has_rows p (MuxThen m rows rest) w r =
-        let (source, is) = some_of (mux_source net holds m) (listed m r.0) in
-        let (k, row, less) = row_within 0 (rows_of net m) (select_value net holds m) source is in
-        let few : k < row_count rows = omega (arith, less, same_count net p (rows_of net m) rows w.0) in
-        let ms = muxes_in_rows rows in
-        ((k, known m r.0 ∙ row, few), rows_have p (rows_of net m) rows w.0 (IsRoute-front (length net.muxes.items) ms (muxes_in rest) r.2), has_rows (FromMux m) rest w.1 (IsRoute-back (length net.muxes.items) ms (muxes_in rest) r.2))
-
-    rows_have : (p : Point) (rs : List Row) (rows : Rows) → AreWired net p rs rows → IsRoute (length net.muxes.items) (muxes_in_rows rows) → RowsHaveRows plan rows
-    rows_have p rs NoRow w r = tt
-    rows_have p [] (RowThen items rest) w r = absurd w
-    rows_have p (x ∷ rs) (RowThen items rest) w r =
-        let ms = muxes_in items in
-        (has_rows p items w.1 (IsRoute-front (length net.muxes.items) ms (muxes_in_rows rest) r), rows_have p rs rest w.2 (IsRoute-back (length net.muxes.items) ms (muxes_in_rows rest) r))
-
-  pub form_leads : (form : Items) → Describes net form → IsLine 48 36 (leads_in (drawing_by true plan form).shapes) (drawing_by true plan form).x (drawing_by true plan form).y
-  form_leads form d =
-      let p : Pen = pen_after plan first_pen form in
-      leads_then 48 36 p.x p.y (p.x + 18) p.y (drawn plan true first_pen form) (Wire p.x p.y p.x (p.x + 18) p.y true ∷ [])
-      (items_lead plan first_pen form (has_rows Entry form d.wired d.muxes.different)) (refl, refl, (refl, refl))
-
-pub lines : (net : Net) (form : Items) (holds : Holds) → Describes net form → AreListed net holds → IsLine 48 36 (leads_in (drawing_of net holds form).shapes) (drawing_of net holds form).x (drawing_of net holds form).y
-lines net form holds d listed =
+pub lines : (net : Net) (form : Items) (holds : Holds) (registers : List ℕ) → Describes net form → path net holds ≡ Some registers
+    → IsLine 48 36 (leads_in (drawing_of net holds form).shapes) (drawing_of net holds form).x (drawing_of net holds form).y
+lines net form holds registers d e =
     let plan = plan_of net holds in
-    subst (λ (b : Bool). IsLine 48 36 (leads_in (drawing_by b plan form).shapes) (drawing_by b plan form).x (drawing_by b plan form).y) (sym (path_there net form holds d listed))
-    (form_leads net holds plan listed (row_known net holds) form d)
+    let p : Pen = pen_after plan first_pen form in
+    subst (λ (b : Bool). IsLine 48 36 (leads_in (drawing_by b plan form).shapes) (drawing_by b plan form).x (drawing_by b plan form).y) (sym (path_there net holds registers e))
+    (leads_then 48 36 p.x p.y (p.x + 18) p.y (drawn plan true first_pen form) (Wire p.x p.y p.x (p.x + 18) p.y true ∷ [])
+    (items_lead plan first_pen form (way net holds form d registers e).rows) (refl, refl, (refl, refl)))
 
 pub unlined : (net : Net) (form : Items) (holds : Holds) → path net holds ≡ None → leads_in (drawing_of net holds form).shapes ≡ []
 unlined net form holds e =

@@ -10,7 +10,7 @@ use Rattle.net_graph.specs.Named.{IsPointOf}
 use Rattle.net_graph.specs.Nets.{IsNet}
 use Rattle.net_graph.specs.Signals.{Holds}
 use Rattle.net_graph.proofs.Tracing.{before_is_point}
-use Rattle.net_picture.specs.Dot.{before, met_from}
+use Rattle.net_picture.specs.Met.{before, met_from}
 use Rattle.net_picture.specs.Labels.{row_room, values_room}
 
 pub room_next : (rows : List Row) (j i : ℕ) (row : Row) (here room new : ℕ) → j < length rows → row ≡ get_or rows j row → i ≡ j + 1 → room ≡ values_room (drop i rows)

@@ -1,6 +1,6 @@
 -- Each register has one box, and each multiplexer one funnel.
 use Rattle.std.proofs.Common.{◌≡◌, ℕ, suc, ◌+◌, List, [], ◌∷◌, ◌++◌, length, refl, sym, ap, ◌∙◌, subst, arith, append-nil, length-append}
-use Rattle.std.specs.Prelude.{Bool, Option, true, ◌&&◌, ◌-◌}
+use Rattle.std.specs.Prelude.{Bool, Option, ◌&&◌, ◌-◌}
 use Rattle.std.specs.List.{flat_map}
 use Rattle.net_graph.specs.Chain.{NotIn, IsRoute}
 use Rattle.net_graph.specs.declared.net.Net.{Net}

@@ -4,22 +4,11 @@ use Rattle.std.specs.Prelude.{ℕ, zero, suc, ◌==◌, ◌&&◌, Bool, false, c
 use Rattle.net_graph.specs.declared.net.Net.{Net}
 use Rattle.net_graph.specs.declared.net.Sig.{Sig}
 use Rattle.net_graph.specs.declared.net.Sig.TheVariants.{Absent, Zero, One, Bit, Out}
-use Rattle.net_graph.specs.PathNames.{instance_path}
+use Rattle.net_list.specs.Outputs.{output_path}
 
 -- what the bits of a register capture, position 0 first
 abbrev pub signals_of : Net → ℕ → List Sig
 signals_of net r = get_or (map (λ reg. reg.capture.items) net.regs.items) r []
-
--- an output of an instrument, by their numbers
-abbrev pub node_of : Net → ℕ → ℕ
-node_of net i = get_or (map (λ inst. inst.node) net.insts.items) i 0
-
-abbrev pub port_name : Net → ℕ → ℕ → List ℕ
-port_name net i p =
-    get_or (get_or (map (λ inst. map (λ port. port.name.items) inst.outs.items) net.insts.items) i []) p []
-
-abbrev pub output_name : Net → ℕ → ℕ → List ℕ
-output_name net i p = instance_path net (node_of net i) ++ (codes "." ++ port_name net i p)
 
 -- whether two signals are bits of one output
 abbrev pub is_same_output : Sig → Sig → Bool
@@ -42,7 +31,7 @@ output_line net Absent = []
 output_line net Zero = []
 output_line net One = []
 output_line net (Bit b v) = []
-output_line net (Out i p q v) = codes "\ncaptures " ++ output_name net i p
+output_line net (Out i p q v) = codes "\ncaptures " ++ output_path net i p
 
 abbrev pub line_unless : Net → Bool → Sig → List ℕ
 line_unless net repeated signal = cond repeated [] (output_line net signal)

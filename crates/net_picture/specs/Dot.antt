@@ -1,46 +1,20 @@
 -- The text of a network as a graph (Graphviz, DOT): a node for each register and multiplexer, an edge from each scan source,
 -- a dashed one from each select bit.
-use Rattle.std.specs.Prelude.{ℕ, zero, suc, ◌+◌, ◌&&◌, Bool, true, false, List, [], ◌∷◌, ◌++◌, codes, cond, decimal, get_or, length, map, Option, Some, None}
-use Rattle.std.specs.List.{flat_map, list_any}
+use Rattle.std.specs.Prelude.{ℕ, ◌&&◌, Bool, List, [], ◌++◌, codes, cond, decimal, get_or, length, map, Option}
+use Rattle.std.specs.List.{flat_map}
 use Rattle.net_graph.specs.declared.net.BitId.{BitId}
 use Rattle.net_graph.specs.declared.net.Net.{Net}
 use Rattle.net_graph.specs.declared.net.Point.{Point}
 use Rattle.net_graph.specs.declared.net.Point.TheVariants.{Entry, Reg, Mux}
-use Rattle.net_graph.specs.Path.{mux_source, reg_source, row_of, rows_of}
+use Rattle.net_graph.specs.Path.{reg_source, row_of, rows_of}
 use Rattle.net_graph.specs.PathNames.{mux_path}
 use Rattle.net_graph.specs.Signals.{Holds}
 use Rattle.net_list.specs.Listing.{lines_from}
 use Rattle.net_tree.specs.Lawful.{selects_of}
-use Rattle.net_tree.specs.Places.{same_point}
 use Rattle.net_picture.specs.Labels.{register_label, short_values}
 use Rattle.net_picture.specs.Layout.{is_row}
+use Rattle.net_picture.specs.Met.{met, is_marked, is_met}
 use Rattle.net_picture.specs.Plan.{has_path}
-
--- what stands before a point on the active path; nothing before scan-in, or before a multiplexer that is in none of its rows
-abbrev pub before : Net → Holds → Point → Option Point
-before net holds Entry = None
-before net holds (Reg r) = Some (reg_source net r)
-before net holds (Mux m) = mux_source net holds m
-
--- what is met on the active path back to scan-in in at most n moves, the one nearest scan-out first
-abbrev pub met_from : Net → Holds → ℕ → Option Point → List Point
-met_from net holds zero p = []
-met_from net holds (suc n) None = []
-met_from net holds (suc n) (Some p) = p ∷ met_from net holds n (before net holds p)
-
-abbrev pub met_back : Net → Holds → List Point
-met_back net holds = met_from net holds (length net.regs.items + length net.muxes.items) (Some net.out)
-
--- the same where there is an active path, and else nothing
-abbrev pub met : Net → Holds → List Point
-met net holds = cond (has_path net holds) (met_back net holds) []
-
-abbrev pub is_met : List Point → Point → Bool
-is_met points p = list_any (same_point p) points
-
-abbrev pub is_marked : Option Point → Point → Bool
-is_marked None p = false
-is_marked (Some q) p = same_point q p
 
 -- the name of a node: tdi, a register or a multiplexer by its number
 abbrev pub node_letters : Point → List ℕ

@@ -3,8 +3,12 @@ use Rattle.std.specs.Prelude.{◌≡◌, true, false, [], ◌∷◌, codes, Some
 use Rattle.net_tree.specs.Form.{Items, Nothing, RegThen, MuxThen, NoRow, RowThen}
 use Rattle.net_picture.specs.declared.shape.Shape.TheVariants.{Register, Mux, Values, Wire}
 use Rattle.net_picture.specs.Drawing.{drawing_by, shapes_of}
+use Rattle.net_picture.specs.Edges.{Tdi, Tdo, Source}
 use Rattle.net_picture.specs.Labels.{ends_of, short}
 use Rattle.net_picture.specs.Plan.{Plan}
+use Rattle.net_picture.specs.ReadGraph.{read_graph}
+use Rattle.net_picture.specs.Rows.{row_colours}
+use Rattle.net_picture.specs.Said.{Orange, HasEdge, Comment, Unread}
 
 -- one register, whose box is 84 wide
 abbrev flat : Plan
@@ -49,3 +53,18 @@ cut_label = refl
 
 whole_label : short 3 (codes "uart.R.x") ≡ codes "uart.R.x"
 whole_label = refl
+
+-- of the two rows of the insertion bit the first is in colour
+row_in_colour : row_colours 0 0 (shapes_of true closed sib) ≡ true ∷ []
+row_in_colour = refl
+
+row_without_colour : row_colours 0 1 (shapes_of true closed sib) ≡ false ∷ []
+row_without_colour = refl
+
+-- a comment, and an edge with two colours, of which the last counts
+read_edge : read_graph (codes "// why\n  tdi -> tdo [color=\"#868e96\", color=\"#d55e00\"];\n") ≡ Comment (codes "why") ∷ HasEdge (record { from = Tdi; to = Tdo; link = Source }) Orange ∷ []
+read_edge = refl
+
+-- a chain of edges can't be read
+read_chain : read_graph (codes "tdi -> tdo -> tdi [color=\"#868e96\"];\n") ≡ Unread (codes "tdi -> tdo -> tdi [color=\"#868e96\"];") ∷ []
+read_chain = refl

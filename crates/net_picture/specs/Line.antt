@@ -1,8 +1,8 @@
 -- What is in colour is one line from TDI to TDO.
-use Rattle.std.specs.Prelude.{◌≡◌, ◌+◌, ℕ, List, [], ◌∷◌, cond, None}
+use Rattle.std.specs.Prelude.{◌≡◌, ◌+◌, ℕ, List, [], ◌∷◌, cond, Some, None}
 use Rattle.std.specs.List.{flat_map}
 use Rattle.net_graph.specs.declared.net.Net.{Net}
-use Rattle.net_graph.specs.Path.{AreListed, path}
+use Rattle.net_graph.specs.Path.{path}
 use Rattle.net_graph.specs.Signals.{Holds}
 use Rattle.net_tree.specs.Form.{Items, Describes}
 use Rattle.net_picture.specs.declared.shape.Shape.{Shape}
@@ -35,11 +35,10 @@ abbrev pub IsLine : ℕ → ℕ → List Lead → ℕ → ℕ → Type 0
 IsLine x y [] to_x to_y = (x ≡ to_x) × (y ≡ to_y)
 IsLine x y (l ∷ ls) to_x to_y = (x ≡ l.x) × (y ≡ l.y) × IsLine l.to_x l.to_y ls to_x to_y
 
--- where each multiplexer is in one of its rows, what is in colour leads from the beginning of the wire from TDI to the end
--- of the wire to TDO
+-- where there is an active path, what is in colour leads from the beginning of the wire from TDI to the end of the wire to TDO
 abbrev pub DrawingsAreLines : Type 0
 DrawingsAreLines =
-    (net : Net) (form : Items) (holds : Holds) → Describes net form → AreListed net holds
+    (net : Net) (form : Items) (holds : Holds) (registers : List ℕ) → Describes net form → path net holds ≡ Some registers
     → IsLine 48 36 (leads_in (drawing_of net holds form).shapes) (drawing_of net holds form).x (drawing_of net holds form).y
 
 -- where there is no active path nothing is in colour

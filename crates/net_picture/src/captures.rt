@@ -1,14 +1,13 @@
 // What registers capture of instruments, for tooltips.
 ghost use Rattle.std.specs.Prelude.{◌≡◌, ◌<◌, Some, length, All, OnOk};
 ghost use Rattle.ij_io.specs.Bytes.{Adds};
-ghost use Rattle.net_graph.specs.Named as named;
 ghost use Rattle.net_graph.specs.Named.{IsSignalOf};
 ghost use Rattle.net_graph.specs.Nets.{IsNet};
 ghost use Rattle.net_picture.specs.Captures as captures;
 
 use ij_io::{Sink, StoreFault, SureSink};
 use net_graph::{Net, Sig};
-use path_names::{put_instance_path, put_name};
+use net_list::put_output;
 
 /// What the bits of a register capture, position 0 first.
 fn signals_of(net: &Net, reg: u32) -> &[Sig]
@@ -55,41 +54,6 @@ fn captured_at(signals: &[Sig], pos: usize) -> Sig
     ensures { result ≡ captures.signal_at signals.now pos }
 {
     signals[pos]
-}
-
-/// The node of an instrument.
-fn node_of(net: &Net, inst: u32) -> u32
-    requires well_formed { IsNet net.now }
-    requires there { inst < length net.now.insts.items }
-    ensures node { result ≡ captures.node_of net.now inst }
-    ensures there { result < length net.now.nodes.items }
-{
-    net.insts.get(inst as usize).node
-}
-
-/// Writes the name of an output of an instrument.
-fn put_port(net: &Net, inst: u32, port: u32, text: &mut SureSink) -> Result<(), StoreFault>
-    requires inst { inst < length net.now.insts.items }
-    requires port { port < length (named.output_widths net.now inst) }
-    ensures { OnOk result (Adds (Some text.old) (Some text.new) (captures.port_name net.now inst port)) }
-{
-    put_name(
-        &net.insts.get(inst as usize).outs.get(port as usize).name,
-        text,
-    )
-}
-
-/// Writes the path of an output of an instrument.
-fn put_output(net: &Net, inst: u32, port: u32, text: &mut SureSink) -> Result<(), StoreFault>
-    requires well_formed { IsNet net.now }
-    requires inst { inst < length net.now.insts.items }
-    requires port { port < length (named.output_widths net.now inst) }
-    ensures { OnOk result (Adds (Some text.old) (Some text.new) (captures.output_name net.now inst port)) }
-{
-    put_instance_path(net, node_of(net, inst), text)?;
-    text.write(b".")?;
-    put_port(net, inst, port, text)?;
-    Ok(())
 }
 
 /// Writes the line of a captured signal, nothing where it is of no instrument.

@@ -5,7 +5,7 @@ ghost use Rattle.net_graph.specs.Named.{IsPointOf};
 ghost use Rattle.net_graph.specs.Nets.{IsNet};
 ghost use Rattle.net_graph.specs.Path.{mux_source};
 ghost use Rattle.net_graph.specs.declared.net.Point.TheVariants as point;
-ghost use Rattle.net_picture.specs.Dot as dot;
+ghost use Rattle.net_picture.specs.Met as mets;
 ghost use Rattle.net_picture.specs.Plan.{has_path};
 
 use ij_bits::{List, OutOfMemory};
@@ -16,7 +16,7 @@ use std::alloc::Global;
 
 /// Whether a point is met.
 pub(crate) fn is_met(met: &[Point], point: Point) -> bool
-    ensures { result ≡ dot.is_met met.now point }
+    ensures { result ≡ mets.is_met met.now point }
 {
     for other in met {
         if same_point(point, *other) {
@@ -28,7 +28,7 @@ pub(crate) fn is_met(met: &[Point], point: Point) -> bool
 
 /// Whether a point is marked.
 pub(crate) fn is_marked(marked: Option<Point>, point: Point) -> bool
-    ensures { result ≡ dot.is_marked marked point }
+    ensures { result ≡ mets.is_marked marked point }
 {
     match marked {
         Some(other) => same_point(other, point),
@@ -62,7 +62,7 @@ fn before(net: &Net, holds: &Holds, point: Point) -> Option<Point>
     requires well_formed { IsNet net.now }
     requires holds { AreHolds net.now holds.now }
     requires there { IsPointOf net.now point }
-    ensures before { result ≡ dot.before net.now holds.now point }
+    ensures before { result ≡ mets.before net.now holds.now point }
     ensures there { IfSome result (IsPointOf net.now) }
 {
     match point {
@@ -82,7 +82,7 @@ pub(crate) fn met(
     requires well_formed { IsNet net.now }
     requires holds { AreHolds net.now holds.now }
     requires on { on ≡ has_path net.now holds.now }
-    ensures { IfOk result (λ points. points.items ≡ dot.met net.now holds.now) }
+    ensures { IfOk result (λ points. points.items ≡ mets.met net.now holds.now) }
 {
     if on {
         met_back(alloc, net, holds)
@@ -95,7 +95,7 @@ pub(crate) fn met(
 fn met_back(alloc: Global, net: &Net, holds: &Holds) -> Result<Vec<Point>, OutOfMemory>
     requires well_formed { IsNet net.now }
     requires holds { AreHolds net.now holds.now }
-    ensures { IfOk result (λ points. points.items ≡ dot.met_back net.now holds.now) }
+    ensures { IfOk result (λ points. points.items ≡ mets.met_back net.now holds.now) }
 {
     let mut points = Vec::new(alloc);
     let mut next = Some(net.out);
@@ -117,7 +117,7 @@ fn meet(
     requires holds { AreHolds net.now holds.now }
     requires there { IfSome now (IsPointOf net.now) }
     ensures there { IfOk result (λ next. IfSome next (IsPointOf net.now)) }
-    ensures left { IfOk result (λ next. (n : ℕ) → points.new.items ++ dot.met_from net.now holds.now n next ≡ points.old.items ++ dot.met_from net.now holds.now (suc n) now) }
+    ensures left { IfOk result (λ next. (n : ℕ) → points.new.items ++ mets.met_from net.now holds.now n next ≡ points.old.items ++ mets.met_from net.now holds.now (suc n) now) }
 {
     match now {
         Some(point) => {

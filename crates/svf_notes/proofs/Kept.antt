@@ -14,12 +14,12 @@ use Rattle.svf_notes.specs.Laws.{IsScanOf, ScansKeepTheirPath}
 use Rattle.svf_notes.proofs.Compared.{quiet_map, quiet_scans, shifted_bits, shifts_scan}
 
 -- the controller moves on, and nothing is updated
-record Moved (s t : State Counts) (tap : TapState) : Type 0 where
-  tap_is : t.tap ≡ tap
-  holds : t.holds ≡ s.holds
-  instruction : t.ir_hold ≡ s.ir_hold
+pub record Moved (s t : State Counts) (tap : TapState) : Type 0 where
+  pub tap_is : t.tap ≡ tap
+  pub holds : t.holds ≡ s.holds
+  pub instruction : t.ir_hold ≡ s.ir_hold
 
-moved_on : (s t u : State Counts) (a b : TapState) → Moved s t a → Moved t u b → Moved s u b
+pub moved_on : (s t u : State Counts) (a b : TapState) → Moved s t a → Moved t u b → Moved s u b
 moved_on s t u a b one two =
     record { tap_is = two.tap_is; holds = two.holds ∙ one.holds; instruction = two.instruction ∙ one.instruction }
 
@@ -35,14 +35,14 @@ module _ (chip : Chip Counts) where
   put_instruction Bypass bits s = refl
 
   -- a clock, by the state of the controller in which it comes
-  abbrev clock_in : TapState → Bool → Bool → State Counts → State Counts
+  abbrev pub clock_in : TapState → Bool → Bool → State Counts → State Counts
   clock_in tap tms tdi s = enter chip tap (next tap tms) (record (act chip tap tdi s) { tap = next tap tms })
 
   clock_is : (tap : TapState) (tms tdi : Bool) (s : State Counts) → s.tap ≡ tap → clock chip tms tdi s ≡ clock_in tap tms tdi s
   unfolding clock
   clock_is tap tms tdi s e = ap (λ (t : TapState). clock_in t tms tdi s) e
 
-  moves : (tap : TapState) (tms tdi : Bool) (s : State Counts) (b : TapState) → s.tap ≡ tap → Moved s (clock_in tap tms tdi s) b → Moved s (clock chip tms tdi s) b
+  pub moves : (tap : TapState) (tms tdi : Bool) (s : State Counts) (b : TapState) → s.tap ≡ tap → Moved s (clock_in tap tms tdi s) b → Moved s (clock chip tms tdi s) b
   moves tap tms tdi s b e m = subst (λ (t : State Counts). Moved s t b) (sym (clock_is tap tms tdi s e)) m
 
   to_select : (s : State Counts) → s.tap ≡ RunTestIdle → Moved s (clock chip true false s) SelectDrScan
@@ -66,28 +66,28 @@ module _ (chip : Chip Counts) where
   to_shift_ir : (s : State Counts) → s.tap ≡ CaptureIr → Moved s (clock chip false false s) ShiftIr
   to_shift_ir s e = moves CaptureIr false false s ShiftIr e (record { tap_is = refl; holds = refl; instruction = refl })
 
-  shift_on : (tdi : Bool) (s : State Counts) → s.tap ≡ ShiftDr → Moved s (clock chip false tdi s) ShiftDr
+  pub shift_on : (tdi : Bool) (s : State Counts) → s.tap ≡ ShiftDr → Moved s (clock chip false tdi s) ShiftDr
   shift_on tdi s e =
       let sel = select_of chip s in
       let bits = shift (dr_bits chip sel s) tdi in
       moves ShiftDr false tdi s ShiftDr e (record { tap_is = refl; holds = put_holds sel bits s; instruction = put_instruction sel bits s })
 
-  shift_off : (tdi : Bool) (s : State Counts) → s.tap ≡ ShiftDr → Moved s (clock chip true tdi s) Exit1Dr
+  pub shift_off : (tdi : Bool) (s : State Counts) → s.tap ≡ ShiftDr → Moved s (clock chip true tdi s) Exit1Dr
   shift_off tdi s e =
       let sel = select_of chip s in
       let bits = shift (dr_bits chip sel s) tdi in
       moves ShiftDr true tdi s Exit1Dr e (record { tap_is = refl; holds = put_holds sel bits s; instruction = put_instruction sel bits s })
 
-  shift_on_ir : (tdi : Bool) (s : State Counts) → s.tap ≡ ShiftIr → Moved s (clock chip false tdi s) ShiftIr
+  pub shift_on_ir : (tdi : Bool) (s : State Counts) → s.tap ≡ ShiftIr → Moved s (clock chip false tdi s) ShiftIr
   shift_on_ir tdi s e = moves ShiftIr false tdi s ShiftIr e (record { tap_is = refl; holds = refl; instruction = refl })
 
-  shift_off_ir : (tdi : Bool) (s : State Counts) → s.tap ≡ ShiftIr → Moved s (clock chip true tdi s) Exit1Ir
+  pub shift_off_ir : (tdi : Bool) (s : State Counts) → s.tap ≡ ShiftIr → Moved s (clock chip true tdi s) Exit1Ir
   shift_off_ir tdi s e = moves ShiftIr true tdi s Exit1Ir e (record { tap_is = refl; holds = refl; instruction = refl })
 
   -- ---- the shift clocks of one scan
 
   module _ (in_shift out : TapState) (on : (tdi : Bool) (s : State Counts) → s.tap ≡ in_shift → Moved s (clock chip false tdi s) in_shift) (off : (tdi : Bool) (s : State Counts) → s.tap ≡ in_shift → Moved s (clock chip true tdi s) out) where
-    shifts_move : (n k : ℕ) (t : Bool) (ts : List Bool) (es : List (Option Bool)) (s : State Counts) → s.tap ≡ in_shift → Moved s (after_pins chip (shifts n k (t ∷ ts) es) s) out
+    pub shifts_move : (n k : ℕ) (t : Bool) (ts : List Bool) (es : List (Option Bool)) (s : State Counts) → s.tap ≡ in_shift → Moved s (after_pins chip (shifts n k (t ∷ ts) es) s) out
     shifts_move n k t [] es s e = off t s e
     shifts_move n k t (u ∷ us) es s e =
         let one = on t s e in
@@ -117,7 +117,7 @@ module _ (chip : Chip Counts) where
           instruction = all.instruction;
         }
 
-  to_dr : (s : State Counts) → s.tap ≡ RunTestIdle → Moved s (after_pins chip (map no_shift (true ∷ false ∷ false ∷ [])) s) ShiftDr
+  pub to_dr : (s : State Counts) → s.tap ≡ RunTestIdle → Moved s (after_pins chip (map no_shift (true ∷ false ∷ false ∷ [])) s) ShiftDr
   to_dr s e =
       let a = clock chip true false s in
       let b = clock chip false false a in
@@ -126,7 +126,7 @@ module _ (chip : Chip Counts) where
       let two = moved_on s a b SelectDrScan CaptureDr one (to_capture a one.tap_is) in
       moved_on s b c CaptureDr ShiftDr two (to_shift b two.tap_is)
 
-  to_ir : (s : State Counts) → s.tap ≡ RunTestIdle → Moved s (after_pins chip (map no_shift (true ∷ true ∷ false ∷ false ∷ [])) s) ShiftIr
+  pub to_ir : (s : State Counts) → s.tap ≡ RunTestIdle → Moved s (after_pins chip (map no_shift (true ∷ true ∷ false ∷ false ∷ [])) s) ShiftIr
   to_ir s e =
       let a = clock chip true false s in
       let b = clock chip true false a in

@@ -12,3 +12,9 @@ pub mod Scanning
 pub mod Texts
 pub mod Numbered
 pub mod Earlier
+pub mod Effects
+pub mod Parting
+pub mod InWords
+pub mod NotesRead
+pub mod Begun
+pub mod Noting

@@ -64,7 +64,7 @@ line_reads kept (b ∷ bs) rest cs on reads =
     (blank_reads kept (plain_from true more) cs (line_reads kept bs rest cs on.1 reads))
 
 -- a note begins with a line feed, and what stands after it, too
-after_lines : (lines : List (List ℕ)) (rest : List ℕ) → (tail : List ℕ) × (note_text lines ++ 10 ∷ rest ≡ 10 ∷ tail)
+pub after_lines : (lines : List (List ℕ)) (rest : List ℕ) → (tail : List ℕ) × (note_text lines ++ 10 ∷ rest ≡ 10 ∷ tail)
 after_lines [] rest = (rest, refl)
 after_lines (line ∷ lines) rest = (codes "!:" ++ (line ++ note_text lines) ++ 10 ∷ rest, refl)
 
@@ -108,7 +108,7 @@ left_on_line true [] on = ([], refl, tt)
 left_on_line true (n ∷ ns) on = (ns, refl, on.1)
 
 -- a text with notes begins as it does without
-same_first : (ts : List (List ℕ)) (notes : List (List ℕ)) (src : List ℕ) → texts (plain src) ≡ ts → first (with_notes ts notes src) ≡ first src
+pub same_first : (ts : List (List ℕ)) (notes : List (List ℕ)) (src : List ℕ) → texts (plain src) ≡ ts → first (with_notes ts notes src) ≡ first src
 same_first [] notes src e = refl
 same_first (t ∷ []) notes src e = refl
 same_first (t ∷ (u ∷ us)) notes [] e = absurd (cc)

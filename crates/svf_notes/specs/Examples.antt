@@ -4,7 +4,6 @@ use Rattle.svf_notes.specs.declared.scan.Shifted.{Shifted}
 use Rattle.svf_notes.specs.declared.scan.Shown.TheVariants.{Written, Expected, Found}
 use Rattle.svf_notes.specs.Notes.{digits, note_text, positions_text, values_text}
 use Rattle.svf_notes.specs.Explained.{explained}
-use Rattle.svf_notes.specs.Places.{index_between}
 
 abbrev two : List (List ℕ)
 two = map note_text ((codes " scan 1" ∷ []) ∷ (codes " scan 2 path 1" ∷ codes "   0..0 R writes 1" ∷ []) ∷ [])
@@ -51,10 +50,3 @@ kept = refl
 positions : positions_text 11 4 ≡ codes "   14..11 "
 unfolding Rattle.std.specs.Fmt.digits
 positions = refl
-
--- [4:1] and [1:4]
-left_is_high : index_between 4 1 0 ≡ 1
-left_is_high = refl
-
-left_is_low : index_between 1 4 3 ≡ 1
-left_is_low = refl

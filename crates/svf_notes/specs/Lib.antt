@@ -7,4 +7,6 @@ pub mod Left
 pub mod Places
 pub mod Before
 pub mod Laws
+pub mod Reader
+pub mod Noted
 pub mod Examples

@@ -6,12 +6,12 @@ use Rattle.net_graph.specs.declared.net.BitId.{BitId}
 use Rattle.net_graph.specs.declared.net.Net.{Net}
 use Rattle.net_graph.specs.declared.net.Sig.{Sig}
 use Rattle.net_graph.specs.declared.net.Sig.TheVariants.{Absent, Zero, One, Bit, Out}
-use Rattle.net_graph.specs.Named.{thing_of}
 use Rattle.net_graph.specs.Path.{route_of}
 use Rattle.net_graph.specs.Signals.{Holds, bits_at, capture_signal}
 use Rattle.instruments.specs.declared.Counts.{Counts}
 use Rattle.instruments.specs.Seen.{SeenModel}
-use Rattle.report.specs.Paths.{instrument_path, register_path}
+use Rattle.net_list.specs.Drivers.{bit_name}
+use Rattle.net_list.specs.Outputs.{output_index, output_path}
 use Rattle.report.specs.Registers.{digit}
 use Rattle.svf_writer.specs.SeenCommands.{SeenCommand}
 use Rattle.net_bench.specs.Instruction.{Network, Identity, Bypass}
@@ -23,29 +23,12 @@ use Rattle.svf_notes.specs.Scans.{Scan}
 
 -- ---- names of bits
 
--- position 0 has the right index
-abbrev pub index_between : ℕ → ℕ → ℕ → ℕ
-index_between left right pos = cond (nat_lt left right) (right - pos) (right + pos)
-
-abbrev pub index_of : Net → BitId → ℕ
-index_of net b =
-    let t = thing_of net b.reg in
-    index_between (get_or (map (λ thing. thing.left) net.things.items) t 0) (get_or (map (λ thing. thing.right) net.things.items) t 0) b.pos
-
 abbrev pub index_text : ℕ → List ℕ
 index_text index = codes "[" ++ (decimal index ++ codes "]")
 
-abbrev pub bit_name : Net → BitId → List ℕ
-bit_name net b = register_path net b.reg ++ index_text (index_of net b)
-
--- an output of an instrument
-abbrev pub port_name : Net → ℕ → ℕ → List ℕ
-port_name net inst port =
-    get_or (get_or (map (λ i. map (λ p. p.name.items) i.outs.items) net.insts.items) inst []) port []
-
+-- a bit of an output of an instrument, with its index of the ICL text
 abbrev pub output_name : Net → ℕ → ℕ → ℕ → List ℕ
-output_name net inst port pos =
-    instrument_path net inst ++ (codes "." ++ (port_name net inst port ++ index_text pos))
+output_name net inst port pos = output_path net inst port ++ index_text (output_index net inst port pos)
 
 -- ~ is the inverse
 abbrev pub tilde_if : Bool → List ℕ

@@ -1,8 +1,9 @@
 // What holds of all texts with notes.
 ghost use Rattle.svf_notes.specs.Explained.{ExplainedIsSame, SameCommands};
+ghost use Rattle.svf_notes.specs.Noted.{NotesFollowTheirScans, ScansBegin};
 ghost use Rattle.svf_notes.specs.Laws.{ReadScansAreNumbered, ReadScansHaveBits, ScansAreNumbered, ScansCompare, ScansKeepTheirPath};
 
-use svf_reader::read_commands_fit;
+use svf_reader::{read_commands_are_within_limits, read_commands_fit};
 
 /// Notes change no command: whatever they are, as long as none of their lines has a line feed, an SVF text has the same
 /// commands with them as without them (Serial Vector Format, revision E: comments).
@@ -48,4 +49,26 @@ pub fn read_scans_are_numbered()
 {
     read_scans_have_bits();
     scans_are_numbered();
+}
+
+/// The k-th scan of a play of any text that is read has the number k, begins in the state that the commands before it leave,
+/// so with their path and instruction, and has the bits of its command: those at TDI, and of TDO those under MASK (Serial
+/// Vector Format, revision E: SIR, SDR, TDI, TDO, MASK; IEEE 1687-2014: active scan path).
+pub fn scans_begin()
+    ensures { ScansBegin }
+{
+    read_commands_fit();
+}
+
+/// A text that is read and explained is the old text, byte for byte, with a note after the `;` of each scan, where a reader
+/// of SVF has read exactly the commands up to this scan. A reader of notes, which shares no word with what writes them, finds
+/// there the number of the scan and, if it goes through the network and is as long as its path, each register of the active
+/// path: its name and positions, and of the bits of the scan at these positions those that are written, expected and found
+/// (Serial Vector Format, revision E: comments, SIR, SDR).
+pub fn notes_follow_their_scans()
+    ensures { NotesFollowTheirScans }
+{
+    read_commands_fit();
+    read_scans_are_numbered();
+    read_commands_are_within_limits();
 }

@@ -17,8 +17,8 @@ mod scan;
 pub use before::holds_at;
 pub use explained::{explained_len, put_explained_file};
 pub use laws::{
-    commands_stay, explained_commands_stay, read_scans_are_numbered, read_scans_have_bits,
-    scans_are_numbered, scans_compare, scans_keep_their_path,
+    commands_stay, explained_commands_stay, notes_follow_their_scans, read_scans_are_numbered,
+    read_scans_have_bits, scans_are_numbered, scans_begin, scans_compare, scans_keep_their_path,
 };
 pub use most::explained_most;
 pub use place::{BitAnswer, FoundBit, find_bit};

@@ -2,15 +2,16 @@
 ghost use Rattle.std.specs.Prelude.{◌≡◌, ◌<◌, ◌++◌, [], Some, codes, cond, get_or, length, map, OnOk};
 ghost use Rattle.ij_io.specs.Bytes.{Adds};
 ghost use Rattle.net_graph.specs.Named as named;
-ghost use Rattle.net_graph.specs.Named.{IsBitOf, IsSignalOf};
+ghost use Rattle.net_graph.specs.Named.{IsSignalOf};
 ghost use Rattle.net_graph.specs.Nets.{IsNet};
-ghost use Rattle.report.specs.Paths.{instrument_path, register_path};
+ghost use Rattle.report.specs.Paths.{register_path};
 ghost use Rattle.svf_notes.specs.Notes.{range_text};
 ghost use Rattle.svf_notes.specs.Places as places;
 
 use ij_io::{Sink, StoreFault, SureSink, Word, put_words};
-use net_graph::{BitId, Net, Sig};
-use path_names::{put_instance_path, put_name, put_thing_path};
+use net_graph::{Net, Sig};
+use net_list::{output_index, put_bit_name, put_output};
+use path_names::put_thing_path;
 
 /// The thing by which a register is named.
 fn register_thing(net: &Net, reg: u32) -> u32
@@ -77,28 +78,6 @@ pub(crate) fn put_range(
     )
 }
 
-/// The index at a position, between the left and the right index.
-fn index_between(left: u32, right: u32, pos: u32) -> u64
-    ensures { result ≡ places.index_between left right pos }
-{
-    let right_index = u64::from(right);
-    if left < right {
-        right_index.saturating_sub(u64::from(pos))
-    } else {
-        right_index + u64::from(pos)
-    }
-}
-
-/// The index of a bit in its register.
-fn bit_index(net: &Net, bit: BitId) -> u64
-    requires well_formed { IsNet net.now }
-    requires there { bit.reg < length net.now.regs.items }
-    ensures { result ≡ places.index_of net.now bit }
-{
-    let thing = register_thing(net, bit.reg);
-    index_between(left_index(net, thing), right_index(net, thing), bit.pos)
-}
-
 /// Writes an index in brackets.
 #[tactic(auto, unfolding(ij_io::specs::Words::words_text))]
 fn put_index(index: u64, note: &mut SureSink) -> Result<(), StoreFault>
@@ -107,40 +86,6 @@ fn put_index(index: u64, note: &mut SureSink) -> Result<(), StoreFault>
     put_words(
         note,
         &[Word::Text(b"["), Word::Number(index), Word::Text(b"]")],
-    )
-}
-
-/// Writes the name of a register bit.
-pub(crate) fn put_bit_name(net: &Net, bit: BitId, note: &mut SureSink) -> Result<(), StoreFault>
-    requires well_formed { IsNet net.now }
-    requires there { bit.reg < length net.now.regs.items }
-    ensures { OnOk result (Adds (Some note.old) (Some note.new) (places.bit_name net.now bit)) }
-{
-    let index = bit_index(net, bit);
-    put_register_path(net, bit.reg, note)?;
-    put_index(index, note)?;
-    Ok(())
-}
-
-/// The node of an instrument.
-fn instrument_node(net: &Net, inst: u32) -> u32
-    requires well_formed { IsNet net.now }
-    requires there { inst < length net.now.insts.items }
-    ensures node { result ≡ get_or (map (λ inst. inst.node) net.now.insts.items) inst 0 }
-    ensures there { result < length net.now.nodes.items }
-{
-    net.insts.get(inst as usize).node
-}
-
-/// Writes the name of an output of an instrument.
-fn put_port_name(net: &Net, inst: u32, port: u32, note: &mut SureSink) -> Result<(), StoreFault>
-    requires inst { inst < length net.now.insts.items }
-    requires port { port < length (named.output_widths net.now inst) }
-    ensures { OnOk result (Adds (Some note.old) (Some note.new) (places.port_name net.now inst port)) }
-{
-    put_name(
-        &net.insts.get(inst as usize).outs.get(port as usize).name,
-        note,
     )
 }
 
@@ -157,10 +102,9 @@ fn put_output_name(
     requires port { port < length (named.output_widths net.now inst) }
     ensures { OnOk result (Adds (Some note.old) (Some note.new) (places.output_name net.now inst port pos)) }
 {
-    put_instance_path(net, instrument_node(net, inst), note)?;
-    note.write(b".")?;
-    put_port_name(net, inst, port, note)?;
-    put_index(u64::from(pos), note)?;
+    let index = output_index(net, inst, port, pos);
+    put_output(net, inst, port, note)?;
+    put_index(index, note)?;
     Ok(())
 }
 

@@ -15,7 +15,7 @@ ghost use Rattle.tap_machine.specs.Play.{scans_in};
 
 use crate::digits::{differs, digit, expected_digit};
 use crate::instruction::register_name;
-use crate::names::{put_bit_name, put_signal};
+use crate::names::put_signal;
 use crate::note::{ScanTarget, path_len, target};
 use crate::playing::Playing;
 use crate::scan::Shifted;
@@ -24,6 +24,7 @@ use ij_io::{Sink, StoreFault, SureSink, Word, put_words};
 use instruments::Model;
 use net_bench::{Bench, DataRegister};
 use net_graph::{BitId, Device, Holds, Net, Sig};
+use net_list::put_bit_name;
 use std::alloc::Global;
 use svf_writer::Commands;
 

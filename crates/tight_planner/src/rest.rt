@@ -1,26 +1,28 @@
 // The rows of multiplexers that nobody asks for.
 
-use crate::access::{at, copy_at};
+use crate::access::{at, copy_at, put_at};
 use crate::segments::{MuxInfo, Segments, row_segment};
 use crate::stop::Stop;
 use crate::stretch::{Stretch, Want};
 use crate::visits::{Visits, early_scan};
 
-/// At most so many wants are looked ahead.
-const AHEAD: usize = 64;
+/// The place of the first want from this one on that asks for a row; their number where none does.
+fn place_of_row(list: &[Want], from: usize, row: usize) -> usize {
+    for i in from..list.len() {
+        if list[i].row == row {
+            return i;
+        }
+    }
+    list.len()
+}
 
 /// How many scans from this one on ask for no row, up to the one that asks for the row with the fewest bits.
-fn free_scans(list: &[Want], next: usize, scan: usize, scans: usize, rest: usize) -> u64 {
-    let mut others: usize = 0;
-    let mut end = scans;
-    for want in list.iter().skip(next).take(AHEAD) {
-        end = want.scan;
-        if want.row == rest {
-            break;
-        }
-        others = others.saturating_add(1);
-        end = scans;
-    }
+fn free_scans(list: &[Want], next: usize, rest_want: usize, scan: usize, scans: usize) -> u64 {
+    let end = match list.get(rest_want) {
+        Some(want) => want.scan,
+        None => scans,
+    };
+    let others = rest_want.saturating_sub(next);
     end.saturating_sub(scan).saturating_sub(others) as u64
 }
 
@@ -29,7 +31,7 @@ fn free_scans(list: &[Want], next: usize, scan: usize, scans: usize, rest: usize
 pub(crate) fn rest_row(
     all: &Segments,
     stretch: &Stretch,
-    visits: &Visits,
+    visits: &mut Visits,
     m: usize,
     scan: usize,
 ) -> Result<usize, Stop> {
@@ -40,13 +42,11 @@ pub(crate) fn rest_row(
         return Ok(info.rest_row);
     }
     let next = copy_at(&visits.next, m)?;
-    let times = free_scans(
-        at(&stretch.wants, m)?,
-        next,
-        scan,
-        stretch.scans.len(),
-        info.rest_row,
-    );
+    let list = at(&stretch.wants, m)?;
+    let from = copy_at(&visits.next_rest, m)?.max(next);
+    let rest_want = place_of_row(list, from, info.rest_row);
+    put_at(&mut visits.next_rest, m, rest_want)?;
+    let times = free_scans(list, next, rest_want, scan, stretch.scans.len());
     let mut best = info.rest_row;
     let mut least = cost_of(all, visits, rest, times)?;
     for row in 0..info.rows {

@@ -20,6 +20,8 @@ pub(crate) struct Visits {
     pub before: Vec<Option<usize>>,
     /// The next want of each mux.
     pub next: Vec<usize>,
+    /// The next want of each mux that asks for its row with the fewest bits, as far as it was looked for.
+    pub next_rest: Vec<usize>,
     /// The bits of all scans.
     pub bits: u64,
 }
@@ -46,6 +48,7 @@ impl Visits {
             last: vec![in alloc; None; all.segments.len()]?,
             before: vec![in alloc; None; all.segments.len()]?,
             next: vec![in alloc; 0; all.muxes.len()]?,
+            next_rest: vec![in alloc; 0; all.muxes.len()]?,
             bits: 0,
         })
     }
@@ -157,7 +160,7 @@ impl Stretch {
     fn choice(
         &self,
         all: &Segments,
-        visits: &Visits,
+        visits: &mut Visits,
         m: usize,
         wanted: Option<usize>,
         scan: usize,

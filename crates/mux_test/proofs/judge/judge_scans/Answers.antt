@@ -1,4 +1,4 @@
-use Rattle.mux_test.proofs.Judged.{all_judged, next_alike, next_can, next_judged, was_empty}
+use Rattle.mux_test.proofs.Judged.{all_judged, next_alike, next_can, next_judged, was_empty, writes_held}
 use Rattle.mux_test.proofs.judge.judge_scans.Goals as goal
 
 pub loop-scan-preserved : goal.loop-scan-preserved
@@ -13,3 +13,7 @@ loop-scan-preserved c =
       alike = λ same. next_alike net h c.advance.new.holds c.scan-item.result.plan.writes.items c.loop-scan.rows.items c.judge_changed.new.rows.items c.advance.ensures (c.is_empty-changed.ensures.0 (was_empty c.is_empty-changed.result same)) c.judge_changed.ensures.rows;
       room = c.judge_changed.ensures.room;
     }
+
+pub advance-requires : goal.advance-requires
+advance-requires c =
+    writes_held c.args.net.now c.args.scans.now c.loop-scan.scan-index c.scan-item.result c.loop-scan-test.true c.scan-item.is c.loop-scan.holds c.loop-scan.invariant.can

@@ -5,7 +5,8 @@ use Rattle.net_graph.specs.declared.net.BitId.{BitId}
 use Rattle.net_graph.specs.declared.net.Point.TheVariants.{Mux}
 use Rattle.net_graph.specs.Path.{row_of, rows_of}
 use Rattle.net_list.specs.Listing.{lines_from}
-use Rattle.net_picture.specs.Dot.{is_met, row_line, select_edge}
+use Rattle.net_picture.specs.Dot.{row_line, select_edge}
+use Rattle.net_picture.specs.Met.{is_met}
 use Rattle.net_picture.proofs.dot.put_mux_edges.Goals as goal
 
 pub returns-in_err-put_row_edges-clause-part : goal.returns-in_err-put_row_edges-clause-part

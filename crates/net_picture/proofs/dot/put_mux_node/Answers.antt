@@ -3,7 +3,8 @@ use Rattle.std.specs.Prelude.{codes}
 use Rattle.ij_io.proofs.Adding.{part_as}
 use Rattle.net_graph.specs.PathNames.{mux_path}
 use Rattle.net_graph.specs.declared.net.Point.TheVariants.{Mux}
-use Rattle.net_picture.specs.Dot.{is_marked, node_style, node_text}
+use Rattle.net_picture.specs.Dot.{node_style, node_text}
+use Rattle.net_picture.specs.Met.{is_marked}
 use Rattle.net_picture.proofs.dot.put_mux_node.Goals as goal
 
 pub returns-clause-part : goal.returns-clause-part

@@ -1,6 +1,6 @@
 use Rattle.std.proofs.Common.{◌≡◌, ◌-◌, ◌+◌, suc, arith}
 use Rattle.std.specs.Prelude.{Some}
-use Rattle.net_picture.specs.Dot.{met_from}
+use Rattle.net_picture.specs.Met.{met_from}
 use Rattle.net_picture.proofs.Rooms.{met_turn}
 use Rattle.net_picture.proofs.met.met_back.Goals as goal
 

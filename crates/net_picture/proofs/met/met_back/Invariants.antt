@@ -1,7 +1,7 @@
 use Rattle.std.proofs.Common.{◌≡◌, ◌-◌, ◌++◌}
 use Rattle.std.specs.Prelude.{IfSome, Some}
 use Rattle.net_graph.specs.Named.{IsPointOf}
-use Rattle.net_picture.specs.Dot.{met_from}
+use Rattle.net_picture.specs.Met.{met_from}
 use Rattle.net_picture.proofs.met.met_back.Given as goal
 
 abbrev pub invariant-loop-turn : goal.invariant-loop-turn
