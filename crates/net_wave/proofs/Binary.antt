@@ -58,7 +58,7 @@ trim_small (suc w) n h =
     ap (λ (d : ℕ). trimmed (d ∷ number_digits (suc w) n)) (zero_high n w h) ∙ trim_small w n h
 
 -- whether there is another digit than 0
-marked : List ℕ → Bool
+abbrev marked : List ℕ → Bool
 marked [] = false
 marked (x ∷ xs) = not (x == 48) || marked xs
 

@@ -69,11 +69,15 @@ module _ (net : Net) (models : List SeenModel) where
       (all_up_to Is (mux_item net k) (length net.muxes.items) (λ m l. all_if Is (mux_node net m == k) (mux_items m) (mux_there m l)))
       (all_up_to Is close_item (suc (depth net k) - depth net (suc k)) (λ i l. one Close tt)))))
 
+  pub later_there : (kind : WaveKind) → length models ≡ length net.insts.items → All Is (cond (has_state kind) (up_to (node_items kind net models) (length net.nodes.items)) (Close ∷ []))
+  later_there kind same =
+      let nodes = up_to (node_items kind net models) (length net.nodes.items) in
+      either Is (has_state kind) nodes (Close ∷ []) (all_up_to Is (node_items kind net models) (length net.nodes.items) (λ k l. node_there kind k same l)) (one Close tt)
+
   pub items_there : (kind : WaveKind) → length models ≡ length net.insts.items → All Is (items kind net models)
   items_there kind same =
       let nodes = up_to (node_items kind net models) (length net.nodes.items) in
-      All-append Is pin_items (cond (has_state kind) nodes (Close ∷ [])) pins_there
-      (either Is (has_state kind) nodes (Close ∷ []) (all_up_to Is (node_items kind net models) (length net.nodes.items) (λ k l. node_there kind k same l)) (one Close tt))
+      All-append Is pin_items (cond (has_state kind) nodes (Close ∷ [])) pins_there (later_there kind same)
 
   pub vars_there : (is : List Item) → All Is is → All (IsVar net models) (vars_of is)
   vars_there [] h = All-nil (IsVar net models)
