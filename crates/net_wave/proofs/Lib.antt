@@ -21,7 +21,6 @@ pub mod Changing
 pub mod PinTexts
 pub mod Counting
 pub mod Binary
-pub mod Placed
 pub mod OnePin
 pub mod Counted
 pub mod Wholeness

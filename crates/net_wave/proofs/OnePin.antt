@@ -44,19 +44,12 @@ small_code v h =
     let low : 33 + v % 94 ≡ 33 + v = omega (arith, h) in
     ap (λ (b : Bool). (33 + v % 94) ∷ cond b [] (code_digits 9 (v / 94 - 1))) none ∙ ap (λ (x : ℕ). x ∷ []) low
 
--- of one digit
-pub one_digit : (v n : ℕ) → v < 94 → said v (n ∷ []) ≡ n ∷ (33 + v) ∷ 10 ∷ []
-one_digit v n h = ap (λ (c : List ℕ). n ∷ (c ++ 10 ∷ [])) (small_code v h)
-
--- of more
+-- of more digits than one
 pub more_digits : (v : ℕ) (ds : List ℕ) → v < 94 → (length ds == 1) ≡ false → said v ds ≡ codes "b" ++ (trimmed ds ++ (codes " " ++ (33 + v) ∷ codes "\n"))
 more_digits v ds h many =
     ap (λ (b : Bool). cond b ds (codes "b" ++ (trimmed ds ++ codes " ")) ++ (code v ++ codes "\n")) many
     ∙ ap (λ (c : List ℕ). (98 ∷ (trimmed ds ++ 32 ∷ [])) ++ (c ++ 10 ∷ [])) (small_code v h)
     ∙ ap (λ (l : List ℕ). 98 ∷ l) (append_assoc (trimmed ds) (32 ∷ []) ((33 + v) ∷ 10 ∷ []))
-
-pub other_digit : (b n : ℕ) → (b ≡ n → ⊥) → b ∷ [] ≡ n ∷ [] → ⊥
-other_digit b n other e = other (cc)
 
 -- ---- numbers of 32 bits, of which some are shown
 

@@ -1,6 +1,6 @@
 -- What scopes and variables name is there.
-use Rattle.std.proofs.Common.{◌≡◌, ℕ, zero, suc, ◌+◌, ◌-◌, ◌<◌, Bool, true, false, cond, All, List, [], ◌∷◌, ◌++◌, length, get_or, take, add-one, append-nil, refl, ap, sym, ◌∙◌, arith}
-use Rattle.std.proofs.Math.Seq.{take-suc}
+use Rattle.std.proofs.Common.{◌≡◌, ℕ, zero, suc, ◌+◌, ◌-◌, ◌<◌, Bool, true, false, cond, All, List, [], ◌∷◌, ◌++◌, length, get_or, take, drop, add-one, append-nil, refl, ap, sym, ◌∙◌, arith}
+use Rattle.std.proofs.Math.Seq.{take-length, take-suc}
 use Rattle.std.proofs.lemmas.List.Elements.{All-append, All-cons, All-head, All-nil, All-tail}
 use Rattle.instruments.specs.Seen.{SeenModel}
 use Rattle.net_graph.specs.declared.net.Net.{Net}
@@ -69,15 +69,25 @@ module _ (net : Net) (models : List SeenModel) where
       (all_up_to Is (mux_item net k) (length net.muxes.items) (λ m l. all_if Is (mux_node net m == k) (mux_items m) (mux_there m l)))
       (all_up_to Is close_item (suc (depth net k) - depth net (suc k)) (λ i l. one Close tt)))))
 
-  pub later_there : (kind : WaveKind) → length models ≡ length net.insts.items → All Is (cond (has_state kind) (up_to (node_items kind net models) (length net.nodes.items)) (Close ∷ []))
+  -- those after the pins
+  abbrev pub later_items : WaveKind → List Item
+  later_items kind = cond (has_state kind) (up_to (node_items kind net models) (length net.nodes.items)) (Close ∷ [])
+
+  pub later_there : (kind : WaveKind) → length models ≡ length net.insts.items → All Is (later_items kind)
   later_there kind same =
       let nodes = up_to (node_items kind net models) (length net.nodes.items) in
       either Is (has_state kind) nodes (Close ∷ []) (all_up_to Is (node_items kind net models) (length net.nodes.items) (λ k l. node_there kind k same l)) (one Close tt)
 
   pub items_there : (kind : WaveKind) → length models ≡ length net.insts.items → All Is (items kind net models)
   items_there kind same =
-      let nodes = up_to (node_items kind net models) (length net.nodes.items) in
-      All-append Is pin_items (cond (has_state kind) nodes (Close ∷ [])) pins_there (later_there kind same)
+      All-append Is pin_items (later_items kind) pins_there (later_there kind same)
+
+  pub after_pins : (kind : WaveKind) (is : List Item) → is ≡ items kind net models → take (length is - 9) (drop 9 is) ≡ later_items kind
+  after_pins kind is same =
+      let count : length (items kind net models) - 9 ≡ length (later_items kind) = omega arith in
+      ap (λ (l : List Item). take (length l - 9) (drop 9 l)) same
+      ∙ ap (λ (n : ℕ). take n (later_items kind)) count
+      ∙ take-length (later_items kind)
 
   pub vars_there : (is : List Item) → All Is is → All (IsVar net models) (vars_of is)
   vars_there [] h = All-nil (IsVar net models)

@@ -12,8 +12,8 @@ use ij_bits::OutOfMemory;
 use ij_io::SureSink;
 use tap_machine::TapState;
 
-/// Puts the digit of a variable of one bit at a place of a line, if it is written first or has changed; answers the place after
-/// it.
+/// Puts the digit of a variable of one bit at a place of a line, if it is written first or has changed; answers the place
+/// after it.
 fn put_digit(
     variable: u8,
     first: bool,

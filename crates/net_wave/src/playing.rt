@@ -50,9 +50,10 @@ const NOTHING: Shown = Shown {
 };
 
 /// A play on the bench of a network: its shift stages, the variables after the nine pins with the digits that were written
-/// last, those of the instruction, whether none was written yet, the number of the next clock with the digits of its time, and
-/// how many clocks are still to be written, and whether a compare differed so far. `last` is what the clock before showed at the pins, `pins` a place among the
-/// variables from which on there is no pin, `shifts` whether there are shift stages, which are kept only then.
+/// last, those of the instruction, whether none was written yet, the number of the next clock with the digits of its time, how
+/// many clocks are still to be written, and whether a compare differed so far. `last` is what the clock before showed at the
+/// pins, `pins` a place among the variables from which on there is no pin, `shifts` whether there are shift stages, which are
+/// kept only then.
 #[derive(Drop)]
 pub(crate) struct Playing<'a> {
     pub net: &'a Net,

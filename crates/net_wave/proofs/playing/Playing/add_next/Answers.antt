@@ -9,11 +9,11 @@ returns-in_ok-add_falling-in-None-clause-end c e =
 
 pub returns-in_ok-add_falling-in-None-clause-differs : goal.returns-in_ok-add_falling-in-None-clause-differs
 returns-in_ok-add_falling-in-None-clause-differs c =
-    differs_kept c.args.self.now c.next_pins.new.self c.next_pins.ensures.same c.add_falling-in-None.new.self c.in_ok-add_falling-in-None.ensures.same (c.in-None.ensures.kept refl)
+    differs_kept c.args.self.now c.next_pins.new.self c.next_pins.ensures.same c.add_falling.new.self c.in_ok-add_falling-in-None.ensures.same (c.in-None.ensures.kept refl)
 
 pub returns-in_ok-add_falling-in-None-clause-step : goal.returns-in_ok-add_falling-in-None-clause-step
 returns-in_ok-add_falling-in-None-clause-step c =
-    step_kept c.args.self.now c.next_pins.new.self c.next_pins.ensures.same c.add_falling-in-None.new.self c.in_ok-add_falling-in-None.ensures.same c.requires
+    step_kept c.args.self.now c.next_pins.new.self c.next_pins.ensures.same c.add_falling.new.self c.in_ok-add_falling-in-None.ensures.same c.requires
 
 pub returns-in_ok-add_clock-in-Some-clause-text : goal.returns-in_ok-add_clock-in-Some-clause-text
 returns-in_ok-add_clock-in-Some-clause-text c e =
@@ -27,4 +27,4 @@ returns-in_ok-add_clock-in-Some-clause-differs c =
     c.in_ok-add_clock-in-Some.ensures.differs ∙ differs_given c.args.self.now c.next_pins.new.self c.next_pins.ensures.same c.in-Some.pins c.in-Some.ensures.given
 
 pub returns-in_ok-add_clock-in-Some-clause-step : goal.returns-in_ok-add_clock-in-Some-clause-step
-returns-in_ok-add_clock-in-Some-clause-step c = can_step c.add_clock-in-Some.new.self c.in_ok-add_clock-in-Some.ensures.playing
+returns-in_ok-add_clock-in-Some-clause-step c = can_step c.add_clock.new.self c.in_ok-add_clock-in-Some.ensures.playing
