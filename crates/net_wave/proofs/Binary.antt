@@ -1,5 +1,5 @@
 -- Binary digits without zeros at the left, from the lowest on.
-use Rattle.std.proofs.Common.{◌≡◌, ◌≢◌, ℕ, zero, suc, ◌+◌, ◌-◌, ◌*◌, ◌/◌, ◌%◌, ◌^◌, ◌<◌, ◌≤◌, ◌⊎◌, inl, inr, Bool, true, false, not, cond, List, [], ◌∷◌, ◌++◌, length, get_or, take, drop, set, refl, ap, sym, ◌∙◌, subst, arith, append_assoc, add-one, length-append}
+use Rattle.std.proofs.Common.{◌≡◌, ℕ, zero, suc, ◌+◌, ◌/◌, ◌%◌, ◌^◌, ◌<◌, ◌≤◌, ◌⊎◌, inl, inr, Bool, true, false, not, cond, List, [], ◌∷◌, ◌++◌, length, get_or, drop, set, refl, ap, sym, ◌∙◌, subst, arith, append_assoc, add-one}
 use Rattle.std.specs.Prelude.{◌==◌, ◌||◌}
 use Rattle.std.proofs.Math.Nat.{div-div-eq-div-mul, div-eq_of_lt, pow-succ', two-pow-succ}
 use Rattle.std.proofs.Math.Seq.{drop-cons}
@@ -8,7 +8,7 @@ use Rattle.std.proofs.lemmas.Bool.Decides.{nat_tests}
 use Rattle.std.proofs.lemmas.List.{drop-set-lt}
 use Rattle.report.specs.Registers.{digit}
 use Rattle.net_wave.specs.Moments.{trimmed}
-use Rattle.net_wave.specs.Values.{digits, is_odd_at, number_digits}
+use Rattle.net_wave.specs.Values.{is_odd_at, number_digits}
 use Rattle.net_wave.proofs.Counting.{last_same}
 
 -- ---- the lowest digit

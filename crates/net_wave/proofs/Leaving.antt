@@ -1,6 +1,6 @@
 -- What is left of a play, clock by clock.
-use Rattle.std.proofs.Common.{◌≡◌, ℕ, zero, suc, ◌+◌, ◌-◌, ◌*◌, ◌^◌, Bool, true, false, Option, Some, None, List, [], ◌∷◌, ◌++◌, decimal, drop, length, map, take, refl, ap, sym, ◌∙◌, subst, arith, not, cond, append-nil, append_assoc, length-append, Vec, Global}
-use Rattle.std.specs.Prelude.{IfSome, MatchOption, ◌<◌, ◌||◌}
+use Rattle.std.proofs.Common.{◌≡◌, ℕ, zero, suc, ◌+◌, ◌-◌, ◌*◌, Bool, true, false, Option, Some, None, List, [], ◌∷◌, ◌++◌, decimal, drop, length, map, take, refl, ap, sym, ◌∙◌, subst, arith, not, cond, append-nil, append_assoc, length-append, Vec, Global}
+use Rattle.std.specs.Prelude.{IfSome, MatchOption, ◌||◌}
 use Rattle.std.proofs.lemmas.List.{length-map}
 use Rattle.bench_report.specs.Report.{chip, chip_of, differs_of}
 use Rattle.ij_bits.specs.BitLists.{same_bit}
@@ -28,9 +28,9 @@ use Rattle.net_wave.specs.declared.playing.Playing.{Playing}
 use Rattle.net_wave.specs.declared.shown.Shown.{Shown}
 use Rattle.net_wave.specs.declared.var.Var.{Var}
 use Rattle.net_wave.specs.declared.var.Window.{Window}
-use Rattle.net_wave.specs.Changes.{WasTold, pin_digits, pin_vars, shown_at}
+use Rattle.net_wave.specs.Changes.{WasTold, pin_digits, shown_at}
 use Rattle.net_wave.specs.Left.{CanStep, IsPlaying, after_text, all_vars, before_of, clock_text, differs_with, falling_text, left_text, models_of, skipped_text, some_differs, text_from, told_of, values_at}
-use Rattle.net_wave.specs.Moments.{change_at, changes, counted, falling, moment_text, moments_from, moments_text, next_clock, nothing, rising, untold}
+use Rattle.net_wave.specs.Moments.{change_at, counted, falling, moment_text, moments_from, moments_text, next_clock, nothing, rising, untold}
 use Rattle.net_wave.specs.Values.{differs, value, values}
 use Rattle.net_wave.specs.Wave.{is_any, moments_of}
 use Rattle.net_wave.proofs.PinTexts.{up_alike}
@@ -214,16 +214,16 @@ next_time k time rise next is up on = omega (arith, is, up, on)
 
 -- ---- compares
 
-pub differs_next : (e : Option Bool) (scan bit : ℕ) (found so_far : Bool) (rest : List Compare) → ((so_far || differs e found) || is_any (differing rest)) ≡ (so_far || is_any (differing (compare_of e scan bit found ++ rest)))
-differs_next e scan bit found true rest = refl
-differs_next None scan bit found false rest = refl
-differs_next (Some e) scan bit found false rest = cases (same_bit e found) refl
+pub differs_next : (e : Option Bool) (scan bit : ℕ) (found so_far : Bool) (others : List Compare) → ((so_far || differs e found) || is_any (differing others)) ≡ (so_far || is_any (differing (compare_of e scan bit found ++ others)))
+differs_next e scan bit found true others = refl
+differs_next None scan bit found false others = refl
+differs_next (Some e) scan bit found false others = cases (same_bit e found) refl
   where
-    cases : (b : Bool) → same_bit e found ≡ b → (not (same_bit e found) || is_any (differing rest)) ≡ is_any (cond (same_bit e found) (differing rest) (record { scan = scan; bit = bit; expect = e; found = found } ∷ differing rest))
+    cases : (b : Bool) → same_bit e found ≡ b → (not (same_bit e found) || is_any (differing others)) ≡ is_any (cond (same_bit e found) (differing others) (record { scan = scan; bit = bit; expect = e; found = found } ∷ differing others))
     cases true is =
-        ap (λ (b : Bool). not b || is_any (differing rest)) is ∙ sym (ap (λ (b : Bool). is_any (cond b (differing rest) (record { scan = scan; bit = bit; expect = e; found = found } ∷ differing rest))) is)
+        ap (λ (b : Bool). not b || is_any (differing others)) is ∙ sym (ap (λ (b : Bool). is_any (cond b (differing others) (record { scan = scan; bit = bit; expect = e; found = found } ∷ differing others))) is)
     cases false is =
-        ap (λ (b : Bool). not b || is_any (differing rest)) is ∙ sym (ap (λ (b : Bool). is_any (cond b (differing rest) (record { scan = scan; bit = bit; expect = e; found = found } ∷ differing rest))) is)
+        ap (λ (b : Bool). not b || is_any (differing others)) is ∙ sym (ap (λ (b : Bool). is_any (cond b (differing others) (record { scan = scan; bit = bit; expect = e; found = found } ∷ differing others))) is)
 
 -- a clock of a play, with what it compares
 pub compared : (c d : Chip Counts) (p : Pins) (ps : List Pins) (s t : State Counts) (so_far here some : Bool) → c ≡ d → t ≡ clock d p.tms p.tdi s → here ≡ differs p.expect (tdo d s) → some ≡ (so_far || here)

@@ -1,5 +1,5 @@
 -- The text of the pins, and that of the variables after them.
-use Rattle.std.proofs.Common.{◌≡◌, ℕ, zero, suc, ◌+◌, ◌*◌, ◌<◌, Bool, true, false, cond, List, [], ◌∷◌, ◌++◌, length, get_or, map, drop, decimal, codes, refl, ap, sym, ◌∙◌, arith, append-nil, append_assoc}
+use Rattle.std.proofs.Common.{◌≡◌, ℕ, zero, suc, ◌+◌, ◌*◌, Bool, true, false, cond, List, [], ◌∷◌, ◌++◌, length, get_or, drop, decimal, codes, refl, ap, sym, ◌∙◌, arith, append-nil, append_assoc}
 use Rattle.std.specs.List.{flat_map}
 use Rattle.instruments.specs.declared.Counts.{Counts}
 use Rattle.instruments.specs.Seen.{SeenModel}
@@ -8,7 +8,7 @@ use Rattle.tap_machine.specs.declared.Pins.{Pins}
 use Rattle.net_wave.specs.declared.shown.Shown.{Shown}
 use Rattle.net_wave.specs.declared.var.Var.{Var}
 use Rattle.net_wave.specs.declared.var.Var.TheVariants.{Instruction}
-use Rattle.net_wave.specs.Changes.{WasTold, fall_text, later_at, later_changes, pin_digits, pin_vars, pins_text, scan_text, shown_at, told_if}
+use Rattle.net_wave.specs.Changes.{WasTold, later_at, later_changes, pin_digits, pin_vars, pins_text, shown_at, told_if}
 use Rattle.net_wave.specs.Moments.{Change, change_at, change_if, change_text, changes, counted, falling, moment_text, rising}
 use Rattle.report.specs.Registers.{digit}
 use Rattle.net_wave.specs.Values.{bits_digits, differs, expect_digit, number_digits, tap_code, values}

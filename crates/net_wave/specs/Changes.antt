@@ -1,6 +1,6 @@
 -- What may change from one clock to the next: at the pins what stands there, on the chip what a clock between two states of the TAP
 -- controller can move (IEEE 1149.1-2013, clause 6; IEEE 1687-2014, hardware rules: capture, shift, update, reset and instruments).
-use Rattle.std.specs.Prelude.{◌≡◌, ◌<◌, ◌≤◌, ℕ, ◌+◌, ◌==◌, ◌||◌, ◌&&◌, not, Bool, true, false, cond, codes, List, [], ◌∷◌, ◌++◌, get_or, length}
+use Rattle.std.specs.Prelude.{◌≡◌, ◌<◌, ◌≤◌, ℕ, ◌+◌, ◌==◌, ◌||◌, ◌&&◌, not, Bool, true, false, codes, List, [], ◌∷◌, ◌++◌, get_or, length}
 use Rattle.std.specs.List.{flat_map}
 use Rattle.ij_bits.specs.BitLists.{same_bit}
 use Rattle.instruments.specs.declared.Counts.{Counts}

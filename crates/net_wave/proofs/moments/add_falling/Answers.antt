@@ -1,4 +1,4 @@
-use Rattle.std.proofs.Common.{◌≡◌, ◌++◌, ℕ, List, [], codes, cond, ap, sym, ◌∙◌, map}
+use Rattle.std.proofs.Common.{◌++◌, ℕ, List, [], codes, cond, ap, ◌∙◌, map}
 use Rattle.std.specs.List.{flat_map}
 use Rattle.bench_report.specs.Report.{chip_of}
 use Rattle.instruments.specs.Seen.{seen_model}

@@ -1,5 +1,4 @@
 use Rattle.std.proofs.Common.{◌++◌, ℕ, List, codes, ap, ◌∙◌}
-use Rattle.std.specs.Prelude.{OnOk}
 use Rattle.std.proofs.lemmas.Result.{on_ok_weaker}
 use Rattle.net_wave.proofs.Joined.{two}
 use Rattle.net_wave.proofs.PinTexts.{rising_is}

@@ -5,7 +5,7 @@ use Rattle.net_wave.specs.declared.var.Item.{Item}
 use Rattle.net_wave.specs.declared.var.Var.{Var}
 use Rattle.net_wave.specs.Header.{header}
 use Rattle.net_wave.specs.Changes.{pin_vars}
-use Rattle.net_wave.specs.Vars.{IsItem, IsVar, items, vars_of}
+use Rattle.net_wave.specs.Vars.{IsItem, IsVar, vars_of}
 use Rattle.net_wave.proofs.There.{after_pins, items_there, later_items, later_there, vars_there}
 use Rattle.net_wave.proofs.wave.declare.Goals as goal
 

@@ -1,4 +1,4 @@
-use Rattle.std.proofs.Common.{◌≡◌, ◌+◌, ◌*◌, ◌∷◌, ℕ, Bool, true, false, decimal, ap, sym, ◌∙◌, subst, arith}
+use Rattle.std.proofs.Common.{◌≡◌, ◌+◌, ◌*◌, ◌∷◌, ℕ, true, false, decimal, ap, sym, ◌∙◌, subst, arith}
 use Rattle.std.specs.Prelude.{◌||◌}
 use Rattle.bench_report.specs.Report.{chip_of}
 use Rattle.net_bench.specs.Bench.{clock, tdo}
@@ -19,7 +19,7 @@ tick-requires c =
 pub add_rising-requires : goal.add_rising-requires
 add_rising-requires c =
     let time : c.saturating_mul-time.result ≡ counted (2 * c.args.self.now.clock) = omega (arith, c.saturating_mul-time.ensures) in
-    record { digits = c.deref.ensures ∙ c.in_ok-tick.ensures ∙ ap (λ (t : ℕ). 35 ∷ decimal t) (rise_time c.args.self.now.clock c.saturating_mul-time.result time) }
+    record { digits = c.deref.ensures.value ∙ c.in_ok-tick.ensures ∙ ap (λ (t : ℕ). 35 ∷ decimal t) (rise_time c.args.self.now.clock c.saturating_mul-time.result time) }
 
 pub tick-requires-2 : goal.tick-requires-2
 tick-requires-2 c =

@@ -1,9 +1,9 @@
-use Rattle.std.proofs.Common.{◌≡◌, ap, sym, ◌∙◌, subst, refl}
+use Rattle.std.proofs.Common.{◌≡◌, ap, sym, ◌∙◌, subst}
 use Rattle.net_bench.specs.Board.{SeenBench}
 use Rattle.net_graph.specs.declared.net.Net.{Net}
 use Rattle.net_graph.specs.Held.{AreHolds}
 use Rattle.net_graph.specs.Nets.{IsNet}
-use Rattle.net_wave.proofs.Leaving.{differs_end, differs_none, differs_on}
+use Rattle.net_wave.proofs.Leaving.{differs_end, differs_on}
 use Rattle.net_wave.proofs.playing.Playing.finish.Goals as goal
 
 pub loop-pins-preserved : goal.loop-pins-preserved

@@ -8,7 +8,7 @@ use Rattle.net_bench.specs.Board.{SeenBench}
 use Rattle.net_graph.specs.Held.{AreHolds}
 use Rattle.net_graph.specs.Signals.{Holds}
 use Rattle.net_graph.proofs.Widths.{zeros_held}
-use Rattle.net_wave.specs.Left.{skipped_text, some_differs, text_from, told_of}
+use Rattle.net_wave.specs.Left.{skipped_text, some_differs, text_from}
 use Rattle.net_wave.specs.Moments.{counted, untold}
 use Rattle.net_wave.proofs.Leaving.{start_differs, start_text, told_count}
 use Rattle.net_wave.proofs.playing.Playing.new.Goals as goal
