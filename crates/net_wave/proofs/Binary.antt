@@ -15,17 +15,17 @@ use Rattle.net_wave.proofs.Counting.{last_same}
 
 lowest : (n : ℕ) → digit (is_odd_at n 0) ≡ 48 + n % 2
 lowest n = elim (cases_lt (n % 2) 1) [
-    | inl none ↦
-        let is : (n / 2 ^ 0) % 2 ≡ 0 = omega (arith, none) in
-        let test : ((n / 2 ^ 0) % 2 == 1) ≡ false = grind (arith, nat_tests) in
-        let here : 48 ≡ 48 + n % 2 = omega (arith, none) in
-        ap digit test ∙ here
-    | inr one ↦
-        let is : (n / 2 ^ 0) % 2 ≡ 1 = omega (arith, one) in
-        let test : ((n / 2 ^ 0) % 2 == 1) ≡ true = grind (arith, nat_tests) in
-        let here : 49 ≡ 48 + n % 2 = omega (arith, one) in
-        ap digit test ∙ here
-  ]
+  | inl none ↦
+      let is : (n / 2 ^ 0) % 2 ≡ 0 = omega (arith, none) in
+      let test : ((n / 2 ^ 0) % 2 == 1) ≡ false = grind (arith, nat_tests) in
+      let here : 48 ≡ 48 + n % 2 = omega (arith, none) in
+      ap digit test ∙ here
+  | inr one ↦
+      let is : (n / 2 ^ 0) % 2 ≡ 1 = omega (arith, one) in
+      let test : ((n / 2 ^ 0) % 2 == 1) ≡ true = grind (arith, nat_tests) in
+      let here : 49 ≡ 48 + n % 2 = omega (arith, one) in
+      ap digit test ∙ here
+]
 
 halved : (n i : ℕ) → is_odd_at n (suc i) ≡ is_odd_at (n / 2) i
 halved n i =

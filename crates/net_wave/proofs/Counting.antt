@@ -31,57 +31,57 @@ ends_with front d m x =
 -- the digit before some nines counts up
 count_digit : (m n d x : ℕ) (front : List ℕ) → n + 1 < 2 ^ 64 → d ≢ 57 → x ≡ min (d + 1) 255 → decimal n ≡ front ++ d ∷ replicate m 57 → decimal (n + 1) ≡ front ++ x ∷ replicate m 48
 count_digit zero n d x front small other next is = elim (cases_lt n 10) [
-    | inl one ↦
-        let ends = last_same [] front (48 + n) d (sym (decimal_digit n one) ∙ is) in
-        let here : x ≡ 48 + (n + 1) = omega (arith, ends.1, next, other) in
-        let fits : n + 1 < 10 = omega (arith, ends.1, other, one) in
-        decimal_digit (n + 1) fits ∙ ap (λ (y : ℕ). y ∷ []) (sym here) ∙ ap (λ (l : List ℕ). l ++ x ∷ []) ends.0
-    | inr more ↦
-        let ends = last_same (decimal (n / 10)) front (48 + n % 10) d (sym (decimal_step n more (omega (arith, small))) ∙ is) in
-        let here : 48 + (n + 1) % 10 ≡ x = omega (arith, ends.1, next, other) in
-        let same : (n + 1) / 10 ≡ n / 10 = omega (arith, ends.1, other) in
-        decimal_step (n + 1) (omega (arith, more)) small
-        ∙ ap (λ (q : ℕ). decimal q ++ (48 + (n + 1) % 10) ∷ []) same
-        ∙ ap (λ (y : ℕ). decimal (n / 10) ++ y ∷ []) here
-        ∙ ap (λ (l : List ℕ). l ++ x ∷ []) ends.0
-  ]
+  | inl one ↦
+      let ends = last_same [] front (48 + n) d (sym (decimal_digit n one) ∙ is) in
+      let here : x ≡ 48 + (n + 1) = omega (arith, ends.1, next, other) in
+      let fits : n + 1 < 10 = omega (arith, ends.1, other, one) in
+      decimal_digit (n + 1) fits ∙ ap (λ (y : ℕ). y ∷ []) (sym here) ∙ ap (λ (l : List ℕ). l ++ x ∷ []) ends.0
+  | inr more ↦
+      let ends = last_same (decimal (n / 10)) front (48 + n % 10) d (sym (decimal_step n more (omega (arith, small))) ∙ is) in
+      let here : 48 + (n + 1) % 10 ≡ x = omega (arith, ends.1, next, other) in
+      let same : (n + 1) / 10 ≡ n / 10 = omega (arith, ends.1, other) in
+      decimal_step (n + 1) (omega (arith, more)) small
+      ∙ ap (λ (q : ℕ). decimal q ++ (48 + (n + 1) % 10) ∷ []) same
+      ∙ ap (λ (y : ℕ). decimal (n / 10) ++ y ∷ []) here
+      ∙ ap (λ (l : List ℕ). l ++ x ∷ []) ends.0
+]
 count_digit (suc m) n d x front small other next is = elim (cases_lt n 10) [
-    | inl one ↦
-        let ends = last_same [] (front ++ d ∷ replicate m 57) (48 + n) 57 (sym (decimal_digit n one) ∙ is ∙ ends_with front d m 57) in
-        absurd (let long = ap length ends.0 in omega (arith, long, length-append front (d ∷ replicate m 57)))
-    | inr more ↦
-        let ends = last_same (decimal (n / 10)) (front ++ d ∷ replicate m 57) (48 + n % 10) 57 (sym (decimal_step n more (omega (arith, small))) ∙ is ∙ ends_with front d m 57) in
-        let nine : n % 10 ≡ 9 = omega (arith, ends.1) in
-        let up : (n + 1) / 10 ≡ n / 10 + 1 = omega (arith, nine) in
-        let zero_digit : (n + 1) % 10 ≡ 0 = omega (arith, nine) in
-        let higher = count_digit m (n / 10) d x front (omega (arith, small)) other next ends.0 in
-        decimal_step (n + 1) (omega (arith, more)) small
-        ∙ ap (λ (r : ℕ). decimal ((n + 1) / 10) ++ (48 + r) ∷ []) zero_digit
-        ∙ ap (λ (q : ℕ). decimal q ++ 48 ∷ []) up
-        ∙ ap (λ (l : List ℕ). l ++ 48 ∷ []) higher
-        ∙ sym (ends_with front x m 48)
-  ]
+  | inl one ↦
+      let ends = last_same [] (front ++ d ∷ replicate m 57) (48 + n) 57 (sym (decimal_digit n one) ∙ is ∙ ends_with front d m 57) in
+      absurd (let long = ap length ends.0 in omega (arith, long, length-append front (d ∷ replicate m 57)))
+  | inr more ↦
+      let ends = last_same (decimal (n / 10)) (front ++ d ∷ replicate m 57) (48 + n % 10) 57 (sym (decimal_step n more (omega (arith, small))) ∙ is ∙ ends_with front d m 57) in
+      let nine : n % 10 ≡ 9 = omega (arith, ends.1) in
+      let up : (n + 1) / 10 ≡ n / 10 + 1 = omega (arith, nine) in
+      let zero_digit : (n + 1) % 10 ≡ 0 = omega (arith, nine) in
+      let higher = count_digit m (n / 10) d x front (omega (arith, small)) other next ends.0 in
+      decimal_step (n + 1) (omega (arith, more)) small
+      ∙ ap (λ (r : ℕ). decimal ((n + 1) / 10) ++ (48 + r) ∷ []) zero_digit
+      ∙ ap (λ (q : ℕ). decimal q ++ 48 ∷ []) up
+      ∙ ap (λ (l : List ℕ). l ++ 48 ∷ []) higher
+      ∙ sym (ends_with front x m 48)
+]
 
 -- nines alone become a one before zeros
 count_nines : (m n : ℕ) → n + 1 < 2 ^ 64 → decimal n ≡ replicate m 57 → decimal (n + 1) ≡ 49 ∷ replicate m 48
 count_nines zero n small is = absurd (let long = ap length is in omega (arith, long, decimal_nonempty n (omega (arith, small))))
 count_nines (suc m) n small is = elim (cases_lt n 10) [
-    | inl one ↦
-        let ends = last_same [] (replicate m 57) (48 + n) 57 (sym (decimal_digit n one) ∙ is ∙ one_more m 57) in
-        let nine : n ≡ 9 = omega (arith, ends.1) in
-        none m (sym ends.0) n nine
-    | inr more ↦
-        let ends = last_same (decimal (n / 10)) (replicate m 57) (48 + n % 10) 57 (sym (decimal_step n more (omega (arith, small))) ∙ is ∙ one_more m 57) in
-        let nine : n % 10 ≡ 9 = omega (arith, ends.1) in
-        let up : (n + 1) / 10 ≡ n / 10 + 1 = omega (arith, nine) in
-        let zero_digit : (n + 1) % 10 ≡ 0 = omega (arith, nine) in
-        let higher = count_nines m (n / 10) (omega (arith, small)) ends.0 in
-        decimal_step (n + 1) (omega (arith, more)) small
-        ∙ ap (λ (r : ℕ). decimal ((n + 1) / 10) ++ (48 + r) ∷ []) zero_digit
-        ∙ ap (λ (q : ℕ). decimal q ++ 48 ∷ []) up
-        ∙ ap (λ (l : List ℕ). l ++ 48 ∷ []) higher
-        ∙ ap (λ (l : List ℕ). 49 ∷ l) (sym (one_more m 48))
-  ]
+  | inl one ↦
+      let ends = last_same [] (replicate m 57) (48 + n) 57 (sym (decimal_digit n one) ∙ is ∙ one_more m 57) in
+      let nine : n ≡ 9 = omega (arith, ends.1) in
+      none m (sym ends.0) n nine
+  | inr more ↦
+      let ends = last_same (decimal (n / 10)) (replicate m 57) (48 + n % 10) 57 (sym (decimal_step n more (omega (arith, small))) ∙ is ∙ one_more m 57) in
+      let nine : n % 10 ≡ 9 = omega (arith, ends.1) in
+      let up : (n + 1) / 10 ≡ n / 10 + 1 = omega (arith, nine) in
+      let zero_digit : (n + 1) % 10 ≡ 0 = omega (arith, nine) in
+      let higher = count_nines m (n / 10) (omega (arith, small)) ends.0 in
+      decimal_step (n + 1) (omega (arith, more)) small
+      ∙ ap (λ (r : ℕ). decimal ((n + 1) / 10) ++ (48 + r) ∷ []) zero_digit
+      ∙ ap (λ (q : ℕ). decimal q ++ 48 ∷ []) up
+      ∙ ap (λ (l : List ℕ). l ++ 48 ∷ []) higher
+      ∙ ap (λ (l : List ℕ). 49 ∷ l) (sym (one_more m 48))
+]
   where
     ten : decimal 10 ≡ 49 ∷ 48 ∷ []
     ten = decimal_step 10 (omega arith) (omega arith) ∙ ap (λ (l : List ℕ). l ++ 48 ∷ []) (decimal_digit 1 (omega arith))

@@ -119,12 +119,7 @@ fn add_scan_number(
 }
 
 /// Adds the position, of which 16 bits are shown, if it is written first or has changed.
-fn add_position(
-    first: bool,
-    before: u32,
-    now: u32,
-    piece: &mut SureSink,
-) -> Result<(), OutOfMemory>
+fn add_position(first: bool, before: u32, now: u32, piece: &mut SureSink) -> Result<(), OutOfMemory>
     ensures { OnOk result (piece.new ≡ piece.old ++ told_if first 9 (values.number_digits 16 before) (values.number_digits 16 now)) }
 {
     if first || before % 65536 != now % 65536 {

@@ -13,9 +13,9 @@ returns-then-first c =
     let m = c.args.now % 65536 in
     let text : told_if c.args.first 9 before now ≡ codes "b" ++ (binary m ++ (codes " " ++ 42 ∷ codes "\n")) =
     elim c.then-first.branch [
-        | then-first-via-then-first w ↦ said_first c.args.first 9 before now w.if-first.true ∙ position_said c.args.now m refl
-        | then-first-via-else-first+then-before-now w ↦ said_new c.args.first 9 before now (other_position c.args.before c.args.now w.if-before-now.true) ∙ position_said c.args.now m refl
-      ] in
+      | then-first-via-then-first w ↦ said_first c.args.first 9 before now w.if-first.true ∙ position_said c.args.now m refl
+      | then-first-via-else-first+then-before-now w ↦ said_new c.args.first 9 before now (other_position c.args.before c.args.now w.if-before-now.true) ∙ position_said c.args.now m refl
+    ] in
     on_ok_weaker c.add_binary.result (λ e. e ∙ append_assoc c.args.piece.now (codes "b") (binary m ++ (codes " " ++ 42 ∷ codes "\n")) ∙ ap (λ (l : List ℕ). c.args.piece.now ++ l) (sym text)) c.add_binary.ensures
 
 pub returns : goal.returns

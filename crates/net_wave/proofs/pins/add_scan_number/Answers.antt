@@ -12,9 +12,9 @@ returns-then-first c =
     let now = number_digits 32 c.args.now in
     let text : told_if c.args.first 8 before now ≡ codes "b" ++ (binary c.args.now ++ (codes " " ++ 41 ∷ codes "\n")) =
     elim c.then-first.branch [
-        | then-first-via-then-first w ↦ said_first c.args.first 8 before now w.if-first.true ∙ scan_said c.args.now
-        | then-first-via-else-first+then-before-now w ↦ said_new c.args.first 8 before now (other_scan c.args.before c.args.now c.ranges.before.fits c.ranges.now.fits w.if-before-now.true) ∙ scan_said c.args.now
-      ] in
+      | then-first-via-then-first w ↦ said_first c.args.first 8 before now w.if-first.true ∙ scan_said c.args.now
+      | then-first-via-else-first+then-before-now w ↦ said_new c.args.first 8 before now (other_scan c.args.before c.args.now c.ranges.before.fits c.ranges.now.fits w.if-before-now.true) ∙ scan_said c.args.now
+    ] in
     on_ok_weaker c.add_binary.result (λ e. e ∙ append_assoc c.args.piece.now (codes "b") (binary c.args.now ++ (codes " " ++ 41 ∷ codes "\n")) ∙ ap (λ (l : List ℕ). c.args.piece.now ++ l) (sym text)) c.add_binary.ensures
 
 pub returns : goal.returns
