@@ -20,3 +20,4 @@ pub mod Leaving
 pub mod Changing
 pub mod Counted
 pub mod Wholeness
+pub mod Wide

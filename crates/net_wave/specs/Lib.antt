@@ -10,3 +10,4 @@ pub mod Reader
 pub mod Names
 pub mod Laws
 pub mod Whole
+pub mod Widths

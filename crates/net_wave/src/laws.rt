@@ -1,6 +1,7 @@
 // What holds of all waves.
 ghost use Rattle.net_wave.specs.Laws.{CodesDiffer, DeclarationsAreRead, HalvesAreRead, MomentsAreRead, MomentsReplay, ScopesAreRead, TckIsRead, WavesAreRead};
 ghost use Rattle.net_wave.specs.Whole.{VarsAreWhole};
+ghost use Rattle.net_wave.specs.Widths.{WidthsAgree};
 
 /// The changes of a wave, replayed over nothing, are what happens: after the moment at which a clock begins each variable has
 /// the value of that clock (IEEE 1364-2005, 18.2: value changes).
@@ -52,4 +53,9 @@ pub fn codes_differ()
 /// registers, multiplexers and ports; the words are those of the models).
 pub fn vars_are_whole()
     ensures { VarsAreWhole }
+{}
+
+/// A variable is declared with as many bits as its value has digits at each clock of each play (IEEE 1364-2005, 18.2.3: $var).
+pub fn widths_agree()
+    ensures { WidthsAgree }
 {}
