@@ -21,3 +21,6 @@ pub mod Changing
 pub mod Counted
 pub mod Wholeness
 pub mod Wide
+pub mod Named
+pub mod Bounded
+pub mod FilesRead

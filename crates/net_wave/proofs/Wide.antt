@@ -43,7 +43,7 @@ row_long width None = unknown_long width
 row_long width (Some q) = digits_long _ width
 
 -- one bit has no range, and is as wide all the same
-wide_is : (width : ℕ) → (wide width).width ≡ width
+pub wide_is : (width : ℕ) → (wide width).width ≡ width
 wide_is width = by (width == 1) refl
   where
     by : (b : Bool) → (width == 1) ≡ b → (cond b one_bit (ranged width)).width ≡ width
@@ -88,22 +88,22 @@ module _ (c : Chip Counts) where
   enter_held before _ s stage hold = hold
 
   -- a register has its bits, and the instruction register its own
-  record Fits (s : State Counts) : Type 0 where
-    shaped : IsShaped c s
-    held : length s.ir_hold ≡ c.device.ir
+  pub record Fits (s : State Counts) : Type 0 where
+    pub shaped : IsShaped c s
+    pub held : length s.ir_hold ≡ c.device.ir
 
   clock_held : (tms tdi : Bool) (s : State Counts) → IsShaped c (clock c tms tdi s) → length s.ir_hold ≡ c.device.ir → length (clock c tms tdi s).ir_hold ≡ c.device.ir
   unfolding clock
   clock_held tms tdi s after held =
       enter_held s.tap (next s.tap tms) (record (act c s.tap tdi s) { tap = next s.tap tms }) after.ir (ap length (act_held s.tap tdi s) ∙ held)
 
-  played_fits : capture_widths c.net ≡ widths c.net → (ps : List Pins) (s : State Counts) → Fits s → Fits (after_pins c ps s)
+  pub played_fits : capture_widths c.net ≡ widths c.net → (ps : List Pins) (s : State Counts) → Fits s → Fits (after_pins c ps s)
   played_fits wide [] s h = h
   played_fits wide (p ∷ ps) s h =
       let after = clock_shaped c wide p.tms p.tdi s h.shaped in
       played_fits wide ps (clock c p.tms p.tdi s) (record { shaped = after; held = clock_held p.tms p.tdi s after h.held })
 
-  begins : Fits (power_up c)
+  pub begins : Fits (power_up c)
   begins = record { shaped = power_up_shaped c; held = reset_long c.device }
 
 -- ---- values
@@ -115,7 +115,7 @@ module _ (net : Net) (device : Device) (models : List SeenModel) where
   abbrev it : Chip Counts
   it = chip net device models
 
-  value_long : (v : Var) (p : Pins) (s : State Counts) → Fits it s → length (value it models v p s) ≡ (shape net device models v).width
+  pub value_long : (v : Var) (p : Pins) (s : State Counts) → Fits it s → length (value it models v p s) ≡ (shape net device models v).width
   value_long Tms p s h = refl
   value_long Tdi p s h = refl
   value_long Tdo p s h = refl

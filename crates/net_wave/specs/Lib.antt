@@ -11,3 +11,4 @@ pub mod Names
 pub mod Laws
 pub mod Whole
 pub mod Widths
+pub mod Files

@@ -1,4 +1,5 @@
 // What holds of all waves.
+ghost use Rattle.net_wave.specs.Files.{FilesAreRead};
 ghost use Rattle.net_wave.specs.Laws.{CodesDiffer, DeclarationsAreRead, HalvesAreRead, MomentsAreRead, MomentsReplay, ScopesAreRead, TckIsRead, WavesAreRead};
 ghost use Rattle.net_wave.specs.Whole.{VarsAreWhole};
 ghost use Rattle.net_wave.specs.Widths.{WidthsAgree};
@@ -58,4 +59,10 @@ pub fn vars_are_whole()
 /// A variable is declared with as many bits as its value has digits at each clock of each play (IEEE 1364-2005, 18.2.3: $var).
 pub fn widths_agree()
     ensures { WidthsAgree }
+{}
+
+/// A reader finds in the text of a file, and in this text alone, which variables there are, in which scopes they stand, and the
+/// digits of each at the times of both halves of each clock, of which it has as many as it is declared with.
+pub fn files_are_read()
+    ensures { FilesAreRead }
 {}
