@@ -24,3 +24,4 @@ pub mod Wide
 pub mod Named
 pub mod Bounded
 pub mod FilesRead
+pub mod Scoped

@@ -12,3 +12,4 @@ pub mod Laws
 pub mod Whole
 pub mod Widths
 pub mod Files
+pub mod Scopes

@@ -1,6 +1,7 @@
 // What holds of all waves.
 ghost use Rattle.net_wave.specs.Files.{FilesAreRead};
 ghost use Rattle.net_wave.specs.Laws.{CodesDiffer, DeclarationsAreRead, HalvesAreRead, MomentsAreRead, MomentsReplay, ScopesAreRead, TckIsRead, WavesAreRead};
+ghost use Rattle.net_wave.specs.Scopes.{ScopesArePaths};
 ghost use Rattle.net_wave.specs.Whole.{VarsAreWhole};
 ghost use Rattle.net_wave.specs.Widths.{WidthsAgree};
 
@@ -65,4 +66,10 @@ pub fn widths_agree()
 /// digits of each at the times of both halves of each clock, of which it has as many as it is declared with.
 pub fn files_are_read()
     ensures { FilesAreRead }
+{}
+
+/// The scopes in which a variable is declared are the instance path of what it shows, with the top's name before it and the
+/// name of the register or multiplexer after it, where the nodes of the network are in preorder.
+pub fn scopes_are_paths()
+    ensures { ScopesArePaths }
 {}
