@@ -1,5 +1,5 @@
 -- How wide variables are at most, and how many lines declare them.
-use Rattle.std.proofs.Common.{◌≡◌, ℕ, zero, suc, ◌+◌, ◌-◌, ◌*◌, ◌/◌, ◌^◌, ◌<◌, ◌≤◌, Bool, true, false, cond, List, [], ◌∷◌, ◌++◌, length, map, get_or, refl, ap, sym, ◌∙◌, arith, length-append}
+use Rattle.std.proofs.Common.{ℕ, zero, suc, ◌-◌, ◌*◌, ◌/◌, ◌^◌, ◌<◌, ◌≤◌, Bool, true, false, cond, List, [], ◌∷◌, ◌++◌, length, map, get_or, arith, length-append}
 use Rattle.std.specs.Prelude.{◌==◌, All, sum}
 use Rattle.std.proofs.lemmas.List.Elements.{All-cons, All-head, All-nil, All-tail}
 use Rattle.std.proofs.lemmas.List.Sums.{sum_by-cons}
@@ -127,9 +127,18 @@ module _ (net : Net) (models : List SeenModel) (is : IsNet net) (are : All IsMod
       let ins = up_to (input_item i) (input_count net i) in
       let outs = up_to (output_item i) (output_count net i) in
       let words = up_to (word_item i) (word_count models i) in
-      omega (arith, length-append ins (outs ++ (Open Words ∷ (words ++ Close ∷ []))), length-append outs (Open Words ∷ (words ++ Close ∷ [])), length-append words (Close ∷ []),
-      up_to_short (input_item i) (input_count net i) 1 (λ k l. omega arith), up_to_short (output_item i) (output_count net i) 1 (λ k l. omega arith), up_to_short (word_item i) (word_count models i) 1 (λ k l. omega arith),
-      counts_few (IsInst net) (λ (inst : Inst). inst.ins.items) 16 (λ inst h. h.few_inputs) net.insts.items i is.insts, counts_few (IsInst net) (λ (inst : Inst). inst.outs.items) 16 (λ inst h. h.few_outputs) net.insts.items i is.insts, words_few models i are)
+      omega (
+        arith,
+        length-append ins (outs ++ (Open Words ∷ (words ++ Close ∷ []))),
+        length-append outs (Open Words ∷ (words ++ Close ∷ [])),
+        length-append words (Close ∷ []),
+        up_to_short (input_item i) (input_count net i) 1 (λ k l. omega arith),
+        up_to_short (output_item i) (output_count net i) 1 (λ k l. omega arith),
+        up_to_short (word_item i) (word_count models i) 1 (λ k l. omega arith),
+        counts_few (IsInst net) (λ (inst : Inst). inst.ins.items) 16 (λ inst h. h.few_inputs) net.insts.items i is.insts,
+        counts_few (IsInst net) (λ (inst : Inst). inst.outs.items) 16 (λ inst h. h.few_outputs) net.insts.items i is.insts,
+        words_few models i are,
+      )
 
   deep : (k : ℕ) → depth net k ≤ 64
   deep k = counts_few (λ (node : NodeOf). length node.path.items ≤ 64) (λ (node : NodeOf). node.path.items) 64 (λ node h. h) net.nodes.items k is.few_levels
@@ -140,13 +149,22 @@ module _ (net : Net) (models : List SeenModel) (is : IsNet net) (are : All IsMod
       let regs = registers_in kind net k in
       let muxes = muxes_in net k in
       let ends = closing net k in
-      omega (arith, length-append (opening k) (insts ++ (regs ++ (muxes ++ ends))), length-append insts (regs ++ (muxes ++ ends)), length-append regs (muxes ++ ends), length-append muxes ends,
-      either_short (k == 0) [] (Open (Node k) ∷ []) 1 (omega arith) (omega arith),
-      up_to_short (inst_item net models k) (length net.insts.items) 42 (λ i l. either_short (inst_node net i == k) (inst_items net models i) [] 42 (inst_short i) (omega arith)),
-      up_to_short (register_item kind net k) (length net.regs.items) 5 (λ r l. either_short (register_node net r == k) (register_items kind r) [] 5 (register_short kind r) (omega arith)),
-      up_to_short (mux_item net k) (length net.muxes.items) 3 (λ m l. either_short (mux_node net m == k) (mux_items m) [] 3 (omega arith) (omega arith)),
-      up_to_short close_item (suc (depth net k) - depth net (suc k)) 1 (λ i l. omega arith),
-      deep k, is.few_insts, reg_count net is, is.few_muxes)
+      omega (
+        arith,
+        length-append (opening k) (insts ++ (regs ++ (muxes ++ ends))),
+        length-append insts (regs ++ (muxes ++ ends)),
+        length-append regs (muxes ++ ends),
+        length-append muxes ends,
+        either_short (k == 0) [] (Open (Node k) ∷ []) 1 (omega arith) (omega arith),
+        up_to_short (inst_item net models k) (length net.insts.items) 42 (λ i l. either_short (inst_node net i == k) (inst_items net models i) [] 42 (inst_short i) (omega arith)),
+        up_to_short (register_item kind net k) (length net.regs.items) 5 (λ r l. either_short (register_node net r == k) (register_items kind r) [] 5 (register_short kind r) (omega arith)),
+        up_to_short (mux_item net k) (length net.muxes.items) 3 (λ m l. either_short (mux_node net m == k) (mux_items m) [] 3 (omega arith) (omega arith)),
+        up_to_short close_item (suc (depth net k) - depth net (suc k)) 1 (λ i l. omega arith),
+        deep k,
+        is.few_insts,
+        reg_count net is,
+        is.few_muxes,
+      )
 
   pub vars_few : (kind : WaveKind) → length (vars kind net models) < 2 ^ 32
   vars_few kind =

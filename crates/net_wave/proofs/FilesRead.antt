@@ -1,17 +1,15 @@
 -- What a reader finds in the text of a file, and in it alone.
-use Rattle.std.proofs.Common.{◌≡◌, ◌≢◌, ℕ, zero, suc, ◌+◌, ◌*◌, ◌^◌, ◌<◌, ◌≤◌, Bool, true, false, cond, List, [], ◌∷◌, ◌++◌, length, map, take, drop, get_or, refl, ap, sym, ◌∙◌, arith, add-one, append-nil}
+use Rattle.std.proofs.Common.{◌≡◌, ℕ, zero, suc, ◌+◌, ◌*◌, ◌^◌, ◌<◌, ◌≤◌, Bool, true, false, cond, List, [], ◌∷◌, length, take, drop, get_or, refl, ap, sym, ◌∙◌, arith}
 use Rattle.std.specs.Prelude.{◌==◌, codes}
-use Rattle.std.specs.Str.{bytes_eq}
 use Rattle.std.proofs.lemmas.Bool.Decides.{nat_tests}
 use Rattle.bench_report.specs.Report.{chip}
 use Rattle.instruments.specs.declared.Counts.{Counts}
 use Rattle.instruments.specs.Seen.{SeenModel}
-use Rattle.net_bench.specs.Bench.{Chip, State, power_up}
+use Rattle.net_bench.specs.Bench.{State, power_up}
 use Rattle.net_bench.specs.Playing.{after_pins}
 use Rattle.net_bench.proofs.Wide.{captures_wide}
 use Rattle.net_graph.specs.declared.device.Device.{Device}
 use Rattle.net_graph.specs.declared.net.Net.{Net}
-use Rattle.net_graph.specs.Nets.{IsNet}
 use Rattle.net_graph.proofs.Shapes.{capture_widths, widths}
 use Rattle.tap_machine.specs.declared.Pins.{Pins}
 use Rattle.tap_machine.specs.declared.Stable.TheVariants.{Reset as InReset}
@@ -20,10 +18,10 @@ use Rattle.net_wave.specs.declared.var.Var.{Var}
 use Rattle.net_wave.specs.declared.var.Var.TheVariants.{Tms}
 use Rattle.net_wave.specs.Codes.{code}
 use Rattle.net_wave.specs.Files.{FilesAreRead, width_in}
-use Rattle.net_wave.specs.Header.{shape, var_name}
+use Rattle.net_wave.specs.Header.{shape}
 use Rattle.net_wave.specs.Laws.{declared_from}
 use Rattle.net_wave.specs.Reader.{Declared, read_declared, read_value}
-use Rattle.net_wave.specs.Values.{value, values}
+use Rattle.net_wave.specs.Values.{values}
 use Rattle.net_wave.specs.Vars.{vars}
 use Rattle.net_wave.specs.Wave.{wave_text}
 use Rattle.net_wave.proofs.Bounded.{all_narrow, vars_few}
@@ -31,6 +29,7 @@ use Rattle.net_wave.proofs.DeclaredRead.{declarations_found}
 use Rattle.net_wave.proofs.Filed.{waves_found}
 use Rattle.net_wave.proofs.Named.{names_without}
 use Rattle.net_wave.proofs.Read.{same_code}
+use Rattle.net_wave.proofs.Scoped.{scopes_are_paths}
 use Rattle.net_wave.proofs.ScopesRead.{scopes_found}
 use Rattle.net_wave.proofs.Wide.{Fits, begins, played_fits, value_long}
 
@@ -88,10 +87,13 @@ files_found kind net device models top commands window is are count short free s
     let declared = declarations_found kind net device models top commands window feeds blanks (all_narrow net device models is are short seen) in
     let told = waves_found kind net device models top commands window feeds few small in
     let wide_at = λ (i j : ℕ) (l : i < length seen). found_wide net device models seen text few declared i (get_or shown j (no_shift false)) (after_pins it (take j shown) start) (played_fits it wide (take j shown) start fits) l in
+    let scopes = scopes_found kind net device models top commands window feeds blanks in
     record {
       declared = declared;
-      scopes = scopes_found kind net device models top commands window feeds blanks;
+      scopes = scopes;
+      paths = λ pre. scopes ∙ ap (λ l. (top ∷ []) ∷ l) (scopes_are_paths kind net models top is pre);
       values = record {
+        widths = λ i j l h. wide_at i j l;
         starts = λ i j l h. ap (λ (w : ℕ). read_value text (code (i + 1)) w (2 * (window.from + j))) (wide_at i j l) ∙ told.starts i j l h;
         halves = λ i j l h. ap (λ (w : ℕ). read_value text (code (i + 1)) w (2 * (window.from + j) + 1)) (wide_at i j l) ∙ told.halves i j l h;
         tck_low = λ j h. ap (λ (w : ℕ). read_value text (code 0) w (2 * (window.from + j))) (tck_wide net device models seen text few declared) ∙ told.tck_low j h;

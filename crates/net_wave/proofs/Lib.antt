@@ -23,5 +23,5 @@ pub mod Wholeness
 pub mod Wide
 pub mod Named
 pub mod Bounded
-pub mod FilesRead
 pub mod Scoped
+pub mod FilesRead

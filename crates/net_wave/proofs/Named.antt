@@ -1,6 +1,6 @@
 -- Names of ICL have no line feed and no blank; so none of the names that a wave declares has where the free ones have none.
-use Rattle.std.proofs.Common.{◌≡◌, ◌≢◌, ℕ, zero, suc, ◌-◌, Bool, true, false, List, [], ◌∷◌, ◌++◌, length, map, get_or, refl, ap, sym, ◌∙◌}
-use Rattle.std.specs.Prelude.{◌==◌, ◌||◌, All, IsTrue, codes, cond}
+use Rattle.std.proofs.Common.{◌≡◌, ◌≢◌, ℕ, zero, suc, ◌-◌, true, false, List, [], ◌∷◌, length, map, get_or, refl, ap, sym, ◌∙◌}
+use Rattle.std.specs.Prelude.{All, IsTrue, codes}
 use Rattle.std.specs.Char.{is_ascii_digit}
 use Rattle.std.specs.List.{list_all}
 use Rattle.std.proofs.lemmas.Bool.{and_parts, or_left}
@@ -28,7 +28,6 @@ use Rattle.net_wave.specs.Files.{FreeNamesAreWords, IsWord}
 use Rattle.net_wave.specs.Header.{scope_name, var_name}
 use Rattle.net_wave.specs.Names.{NamedWithout, NamesWithout, Without}
 use Rattle.net_wave.specs.Vars.{has_state, items}
-use Rattle.net_wave.proofs.Headed.{has_no}
 
 all_map : {X Y : Type 0} (P : Y → Type 0) (f : X → Y) (xs : List X) → All (λ x. P (f x)) xs → All P (map f xs)
 all_map P f [] h = All-nil P

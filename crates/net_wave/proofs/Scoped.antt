@@ -1,5 +1,5 @@
 -- Each variable is declared in the scopes of its node.
-use Rattle.std.proofs.Common.{◌≡◌, ℕ, zero, suc, ◌+◌, ◌-◌, ◌<◌, ◌≤◌, Bool, true, false, cond, List, [], ◌∷◌, ◌++◌, drop, take, length, map, get_or, refl, ap, sym, ◌∙◌, subst, arith, length-append, length-take, append_assoc}
+use Rattle.std.proofs.Common.{◌≡◌, ℕ, zero, suc, ◌-◌, ◌<◌, ◌≤◌, Bool, true, false, cond, List, [], ◌∷◌, ◌++◌, drop, take, length, map, get_or, refl, ap, sym, ◌∙◌, subst, arith, length-append, length-take}
 use Rattle.std.specs.Prelude.{◌==◌, codes}
 use Rattle.std.proofs.lemmas.Bool.Decides.{nat_tests}
 use Rattle.std.proofs.lemmas.List.{get_or_push, length-map}
@@ -11,15 +11,15 @@ use Rattle.net_graph.specs.Nets.{IsNet, path_of}
 use Rattle.net_graph.specs.PathNames.{node_names}
 use Rattle.net_wave.specs.declared.var.Item.{Item}
 use Rattle.net_wave.specs.declared.var.Item.TheVariants.{Open, Declare, Close}
-use Rattle.net_wave.specs.declared.var.Scope.TheVariants.{Node, Register, Multiplexer, Words}
+use Rattle.net_wave.specs.declared.var.Scope.TheVariants.{Node, Words}
 use Rattle.net_wave.specs.declared.var.Var.{Var}
-use Rattle.net_wave.specs.declared.var.Var.TheVariants.{Tms, Tdi, Tdo, Expect, Differs, Tap, Instruction, Scan, Bit, Update, Shift, OnPath, Row, Input, Output, Word}
+use Rattle.net_wave.specs.declared.var.Var.TheVariants.{Update, Input, Output, Word}
 use Rattle.net_wave.specs.declared.var.WaveKind.{WaveKind}
 use Rattle.net_wave.specs.declared.var.WaveKind.TheVariants.{Pins, State, All as AllOf}
 use Rattle.net_wave.specs.Header.{mux_name, node_name, register_name, scope_name}
 use Rattle.net_wave.specs.Laws.{scopes_from}
-use Rattle.net_wave.specs.Scopes.{Follows, IsPreorder, ScopesArePaths, inside, node_scopes, path_at, scopes_of}
-use Rattle.net_wave.specs.Vars.{close_item, closing, depth, has_state, input_count, input_item, inst_item, inst_items, inst_node, insts_in, items, mux_item, mux_items, mux_node, muxes_in, node_items, opening, output_count, output_item, pin_items, register_item, register_items, register_node, registers_in, up_to, vars, vars_of, word_count, word_item}
+use Rattle.net_wave.specs.Scopes.{IsPreorder, ScopesArePaths, inside, node_scopes, path_at, scopes_of}
+use Rattle.net_wave.specs.Vars.{close_item, closing, depth, has_state, input_count, input_item, inst_item, inst_items, inst_node, insts_in, mux_item, mux_items, mux_node, muxes_in, node_items, opening, output_count, output_item, pin_items, register_item, register_items, register_node, registers_in, up_to, vars_of, word_count, word_item}
 
 abbrev Scopes : Type 0
 Scopes = List (List ℕ)
@@ -110,12 +110,12 @@ module _ (net : Net) (top : List ℕ) where
   lead_both s t u is js h g =
       record {
         found =
-        from_both is js s
-        ∙ ap (λ (l : List Scopes). l ++ scopes_from net (after s is) js) h.found
-        ∙ ap (λ (x : Scopes). map (scopes_of net top) (vars_of is) ++ scopes_from net x js) h.ends
-        ∙ ap (λ (l : List Scopes). map (scopes_of net top) (vars_of is) ++ l) g.found
-        ∙ sym (map_both (scopes_of net top) (vars_of is) (vars_of js))
-        ∙ sym (ap (map (scopes_of net top)) (vars_both is js));
+            from_both is js s
+            ∙ ap (λ (l : List Scopes). l ++ scopes_from net (after s is) js) h.found
+            ∙ ap (λ (x : Scopes). map (scopes_of net top) (vars_of is) ++ scopes_from net x js) h.ends
+            ∙ ap (λ (l : List Scopes). map (scopes_of net top) (vars_of is) ++ l) g.found
+            ∙ sym (map_both (scopes_of net top) (vars_of is) (vars_of js))
+            ∙ sym (ap (map (scopes_of net top)) (vars_both is js));
         ends = after_both is js s ∙ ap (λ (x : Scopes). after x js) h.ends ∙ g.ends;
       }
 

@@ -1,6 +1,6 @@
 -- What a reader of value change dumps finds in the text of a file, and in this text alone: which variables there are, in which scopes they
 -- stand, and the digits of each at each time, of which it has as many as the variable is declared with.
-use Rattle.std.specs.Prelude.{◌≡◌, ◌≢◌, ◌<◌, ◌≤◌, ◌+◌, ◌*◌, ◌^◌, ℕ, All, true, false, codes, cond, List, [], ◌∷◌, drop, get_or, length, take}
+use Rattle.std.specs.Prelude.{◌≡◌, ◌≢◌, ◌<◌, ◌≤◌, ◌+◌, ◌*◌, ◌^◌, ℕ, All, true, false, codes, cond, List, [], ◌∷◌, drop, get_or, length, map, take}
 use Rattle.std.specs.Str.{bytes_eq}
 use Rattle.bench_report.specs.Report.{chip}
 use Rattle.instruments.specs.declared.Counts.{Counts}
@@ -21,7 +21,8 @@ use Rattle.net_wave.specs.declared.var.Window.{Window}
 use Rattle.net_wave.specs.Codes.{code}
 use Rattle.net_wave.specs.Laws.{declared_from, scopes_from}
 use Rattle.net_wave.specs.Reader.{Declared, read_declared, read_scopes, read_value}
-use Rattle.net_wave.specs.Values.{value, values}
+use Rattle.net_wave.specs.Scopes.{IsPreorder, scopes_of}
+use Rattle.net_wave.specs.Values.{values}
 use Rattle.net_wave.specs.Vars.{has_state, items, vars}
 use Rattle.net_wave.specs.Wave.{wave_text}
 
@@ -51,8 +52,10 @@ pub record FreeNamesAreWords (kind : WaveKind) (net : Net) (models : List SeenMo
 
 -- ---- files
 
--- each variable at the times of both halves of a clock, TCK, and so at the end of the last clock
+-- how wide each variable is, what it is at the times of both halves of a clock, TCK, and so at the end of the last clock
 pub record TellsAll (text : List ℕ) (chip : Chip Counts) (models : List SeenModel) (vars : List Var) (ps : List Pins) (s : State Counts) (from : ℕ) : Type 0 where
+  pub widths : (i j : ℕ) → i < length vars → j ≤ length ps
+      → width_in (read_declared text) (code (i + 1)) ≡ length (get_or (values chip models vars (get_or ps j (no_shift false)) (after_pins chip (take j ps) s)) i [])
   pub starts : (i j : ℕ) → i < length vars → j ≤ length ps
       → read_variable text (code (i + 1)) (2 * (from + j)) ≡ get_or (values chip models vars (get_or ps j (no_shift false)) (after_pins chip (take j ps) s)) i []
   pub halves : (i j : ℕ) → i < length vars → j < length ps
@@ -63,6 +66,7 @@ pub record TellsAll (text : List ℕ) (chip : Chip Counts) (models : List SeenMo
 pub record IsRead (kind : WaveKind) (net : Net) (device : Device) (models : List SeenModel) (top : List ℕ) (commands : List SeenCommand) (window : Window) : Type 0 where
   pub declared : read_declared (wave_text kind net device models top commands window) ≡ record { code = code 0; width = 1; name = codes "TCK" } ∷ declared_from net device models 1 (vars kind net models)
   pub scopes : read_scopes (wave_text kind net device models top commands window) ≡ (top ∷ []) ∷ scopes_from net (top ∷ []) (items kind net models)
+  pub paths : IsPreorder net → read_scopes (wave_text kind net device models top commands window) ≡ (top ∷ []) ∷ map (scopes_of net top) (vars kind net models)
   pub values : let it = chip net device models in
       let played = pins InReset 0 commands in
       TellsAll (wave_text kind net device models top commands window) it models (vars kind net models) (take window.count (drop window.from played)) (after_pins it (take window.from played) (power_up it)) window.from

@@ -11,5 +11,5 @@ pub mod Names
 pub mod Laws
 pub mod Whole
 pub mod Widths
-pub mod Files
 pub mod Scopes
+pub mod Files

@@ -5,7 +5,7 @@ use Rattle.instruments.specs.Seen.{SeenModel}
 use Rattle.net_graph.specs.declared.net.Net.{Net}
 use Rattle.net_graph.specs.Nets.{IsNet, path_of}
 use Rattle.net_wave.specs.declared.var.Var.{Var}
-use Rattle.net_wave.specs.declared.var.Var.TheVariants.{Tms, Tdi, Tdo, Expect, Differs, Tap, Instruction, Scan, Bit, Update, Shift, OnPath, Row, Input, Output, Word}
+use Rattle.net_wave.specs.declared.var.Var.TheVariants.{Update, Shift, OnPath, Row, Input, Output, Word}
 use Rattle.net_wave.specs.declared.var.WaveKind.{WaveKind}
 use Rattle.net_wave.specs.Header.{mux_name, register_name}
 use Rattle.net_wave.specs.Laws.{scopes_from}
