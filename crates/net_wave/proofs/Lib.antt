@@ -24,3 +24,8 @@ pub mod Binary
 pub mod OnePin
 pub mod Counted
 pub mod Wholeness
+pub mod Wide
+pub mod Named
+pub mod Bounded
+pub mod Scoped
+pub mod FilesRead

@@ -107,7 +107,7 @@ changes_small first before now zero h = tt
 changes_small first before now (suc n) h =
     small_both (up_to (change_at first before now) n) (change_at first before now n) (changes_small first before now n (omega (arith, h))) (if_small (first || not (bytes_eq (get_or before n []) (get_or now n []))) (record { number = suc n; digits = get_or now n [] }) h)
 
-same_code : (a b : ℕ) → a < 2 ^ 32 → b < 2 ^ 32 → bytes_eq (code a) (code b) ≡ (a == b)
+pub same_code : (a b : ℕ) → a < 2 ^ 32 → b < 2 ^ 32 → bytes_eq (code a) (code b) ≡ (a == b)
 same_code a b h g = cases (a == b) refl (bytes_eq (code a) (code b)) refl
   where
     cases : (x : Bool) → (a == b) ≡ x → (y : Bool) → bytes_eq (code a) (code b) ≡ y → y ≡ x

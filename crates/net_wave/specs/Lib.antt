@@ -10,3 +10,6 @@ pub mod Reader
 pub mod Names
 pub mod Laws
 pub mod Whole
+pub mod Widths
+pub mod Scopes
+pub mod Files

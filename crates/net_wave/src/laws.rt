@@ -1,6 +1,9 @@
 // What holds of all waves.
+ghost use Rattle.net_wave.specs.Files.{FilesAreRead};
 ghost use Rattle.net_wave.specs.Laws.{CodesDiffer, DeclarationsAreRead, HalvesAreRead, MomentsAreRead, MomentsReplay, ScopesAreRead, TckIsRead, WavesAreRead};
+ghost use Rattle.net_wave.specs.Scopes.{ScopesArePaths};
 ghost use Rattle.net_wave.specs.Whole.{VarsAreWhole};
+ghost use Rattle.net_wave.specs.Widths.{WidthsAgree};
 
 /// The changes of a wave, replayed over nothing, are what happens: after the moment at which a clock begins each variable has
 /// the value of that clock (IEEE 1364-2005, 18.2: value changes).
@@ -52,4 +55,21 @@ pub fn codes_differ()
 /// registers, multiplexers and ports; the words are those of the models).
 pub fn vars_are_whole()
     ensures { VarsAreWhole }
+{}
+
+/// A variable is declared with as many bits as its value has digits at each clock of each play (IEEE 1364-2005, 18.2.3: $var).
+pub fn widths_agree()
+    ensures { WidthsAgree }
+{}
+
+/// A reader finds in the text of a file, and in this text alone, which variables there are, in which scopes they stand, and the
+/// digits of each at the times of both halves of each clock, of which it has as many as it is declared with.
+pub fn files_are_read()
+    ensures { FilesAreRead }
+{}
+
+/// The scopes in which a variable is declared are the instance path of what it shows, with the top's name before it and the
+/// name of the register or multiplexer after it, where the nodes of the network are in preorder.
+pub fn scopes_are_paths()
+    ensures { ScopesArePaths }
 {}

@@ -20,8 +20,9 @@ mod var;
 mod wave;
 
 pub use laws::{
-    codes_differ, declarations_are_read, halves_are_read, moments_are_read, moments_replay,
-    scopes_are_read, tck_is_read, vars_are_whole, waves_are_read,
+    codes_differ, declarations_are_read, files_are_read, halves_are_read, moments_are_read,
+    moments_replay, scopes_are_paths, scopes_are_read, tck_is_read, vars_are_whole, waves_are_read,
+    widths_agree,
 };
 pub use var::{WaveKind, Window};
 pub use wave::put_wave_file;
