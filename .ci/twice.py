@@ -56,7 +56,7 @@ LATER = {('mux_test', 'no_line_end'), ('mux_test', 'in_names'), ('mux_test', 'na
          ('path_planner', 'inner_more'), ('report', 'node_of'), ('report', 'thing_of'), ('net_graph', 'row_source'), ('net_list', 'lines_next'),
          ('net_list', 'lines_done'), ('net_list', 'mux_count'), ('least_clocks', 'is_on'),
          ('net_graph', 'length-shift'), ('net_graph', 'some_mux'), ('svf_notes', 'on_both'), ('svf_notes', 'four_digits'), ('svf_notes', 'split_first'), ('svf_notes', 'split_last'),
-         ('net_wave', 'first'), ('net_wave', 'is_itself'), ('net_wave', 'not_tck')}
+         ('net_wave', 'first'), ('net_wave', 'is_itself'), ('net_wave', 'not_tck'), ('net_wave', 'drop_next'), ('net_wave', 'words_narrow')}
 
 
 def main():
