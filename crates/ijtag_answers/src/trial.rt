@@ -133,9 +133,24 @@ impl Trial {
             return;
         };
         tell_status(&mut self.told, answer.status, self.status);
-        tell_text(&mut self.told, "output", Some(answer.out.bytes()), Some(self.out.as_slice()));
-        tell_text(&mut self.told, "error stream", Some(answer.err.bytes()), Some(self.err.as_slice()));
-        tell_files(&mut self.told, self.names.as_slice(), &self.files, &self.wanted);
+        tell_text(
+            &mut self.told,
+            "output",
+            Some(answer.out.bytes()),
+            Some(self.out.as_slice()),
+        );
+        tell_text(
+            &mut self.told,
+            "error stream",
+            Some(answer.err.bytes()),
+            Some(self.err.as_slice()),
+        );
+        tell_files(
+            &mut self.told,
+            self.names.as_slice(),
+            &self.files,
+            &self.wanted,
+        );
         self.status = 0;
         self.out.clear();
         self.err.clear();
