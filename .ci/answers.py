@@ -1,21 +1,11 @@
 #!/usr/bin/env python3
-"""Hands texts to the program and compares what it answers: answers.py PROGRAM [TITLE..], run at the top of a checkout; where titles are
-given, only the cases whose title begins with one of them. A title begins with its topic, as in `pdl: texts`.
+"""Hands texts to the program and compares what it answers: answers.py PROGRAM [TITLE..], run at the top of a checkout. A title begins with
+its topic, as in `pdl: texts`. Where some are given, the cases whose titles begin with one of them are run; else all that are run nowhere
+else: those of .ci/answers/, which are about a real disk or about ijtag-tools, and those whose texts are computed here. All others, of
+crates/ijtag_answers/data/, are run by ijtag_answers, the program of the gate. docs/DEVELOPING.md says how a case is written; two lines are
+for this script alone:
 
-Each file of .ci/answers/ has cases of one topic, in these lines:
-
-    text NAME = TEXT       a text that any case names as <NAME>
-    case TITLE             begins a case, in an empty folder of its own
-      file NAME = TEXT     a file of that folder
-      run WORDS            a call of the program, and then what is wanted of it:
-      tools WORDS          the same of the second program, ijtag-tools, which is beside PROGRAM
-      status N             0, where no such line stands
-      out = TEXT           what it prints, and err = TEXT on the error stream: nothing, where no such line stands
-      holds NAME = TEXT    a file that it wrote; without TEXT, whatever it holds. All other files stay as they were
-      row A => B           the case is run for each row, whose texts are <1>, <2>
-
-Where nothing is after `=`, the text is the lines below that are indented by two blanks more, each with a line feed, but for a line that is
-<NAME> alone; else it has no line feed at its end. \\n, \\t, \\r, \\xNN and \\\\ are bytes, <7 * ab> is seven times `ab`, and # begins a comment."""
+      tools WORDS          a call of the second program, ijtag-tools, which is beside PROGRAM"""
 import concurrent.futures
 import functools
 import os
@@ -26,7 +16,8 @@ import sys
 import tempfile
 
 ANY = None
-ESCAPES = {'n': '\n', 't': '\t', 'r': '\r', '\\': '\\'}
+ESCAPES = {'n': '\n', 't': '\t', 'r': '\r'}
+SHARED = pathlib.Path('crates/ijtag_answers')
 MADE = ('t.icl', 't.pdl', 't.dev', 't.tab', 't.svf')
 texts = {}
 
@@ -42,7 +33,7 @@ class Case:
     """Files, as names and texts, and runs, in their order."""
 
     def __init__(self, title, *steps):
-        self.title, self.steps, self.rows = title, list(steps), []
+        self.title, self.steps = title, list(steps)
 
 
 # ---- the files of cases
@@ -52,71 +43,71 @@ def block(lines, indent):
     text = ''
     while lines and lines[0].startswith(indent):
         line = lines.pop(0)[len(indent):]
-        text += line if re.fullmatch(r'<[A-Z]+>', line) else line + '\\n'
+        text += line if re.fullmatch('<[^ ]*>', line) else line + '\\n'
     return text
 
 
 def read_topic(path):
-    """The cases of a file, with their rows; its texts are added to the others."""
-    lines, cases = path.read_text().splitlines(), []
+    """The cases of a file, one for each row; its texts are added to the others."""
+    first, *parts = path.read_text().split('\ncase ')
+    read_case('', first, '')
+    for part in parts:
+        title = f'{path.stem}: {part.splitlines()[0]}'
+        rows = re.findall('(?m)^  row (.*)$', part)
+        yield from (read_case(f'{title}: {row}', part, row) for row in rows)
+        if not rows:
+            yield read_case(title, part, '')
+
+
+def with_row(line, row):
+    """A line with the parts of a row in their places."""
+    for k, part in enumerate(row.split(' => '), 1):
+        line = line.replace(f'<{k}>', part)
+    return line
+
+
+def read_case(title, part, row):
+    """A case with the parts of a row."""
+    case, lines = Case(title), [with_row(line, row) for line in part.splitlines()[1:]]
     while lines:
         line = lines.pop(0)
         indent = len(line) - len(line.lstrip())
         kind, _, rest = line[indent:].partition(' ')
-        if kind == 'row':
-            cases[-1].rows.append(rest.split(' => '))
-        elif kind == 'case':
-            cases.append(Case(f'{path.stem}: {rest}'))
-        elif kind in ('run', 'tools'):
-            cases[-1].steps.append(Run(rest.split(), tools=kind == 'tools'))
+        if kind in ('run', 'tools'):
+            case.steps.append(Run([full(word) for word in rest.split()], tools=kind == 'tools'))
         elif kind == 'status':
-            cases[-1].steps[-1].status = int(rest)
-        elif kind and not kind.startswith('#'):
+            case.steps[-1].status = int(rest)
+        elif kind not in ('', 'row') and not kind.startswith('#'):
             name, equals, text = rest.partition('=')
-            text = ANY if not equals else text[1:] or block(lines, ' ' * (indent + 2))
-            put(cases, kind, name.strip(), text)
-    return cases
+            text = full(text.removeprefix(' ') or block(lines, ' ' * (indent + 2))) if equals else ANY
+            put(case, kind, name.strip(), text)
+    return case
 
 
-def put(cases, kind, name, text):
+def put(case, kind, name, text):
     if kind == 'text':
-        if name in texts:
+        if texts.setdefault(name, text) != text:
             sys.exit(f'answers: two texts are named {name}')
-        texts[name] = text
     elif kind == 'file':
-        cases[-1].steps.append((name, text))
+        case.steps.append((name, text))
     elif kind == 'holds':
-        cases[-1].steps[-1].holds[name] = text
+        case.steps[-1].holds[name] = text
     elif kind in ('out', 'err'):
-        setattr(cases[-1].steps[-1], kind, text)
+        setattr(case.steps[-1], kind, text)
     else:
         sys.exit(f'answers: a line begins with {kind}')
 
 
-def full(text, row=()):
+def full(text):
     """The bytes of a text, with those that it names in their places."""
-    def named(it):
-        count, times, piece = it[1].partition(' * ')
-        return piece * int(count) if times else filled(row[int(count) - 1] if count.isdigit() else texts[count])
+    def escaped(plain):
+        return re.sub(r'\\(x[0-9a-f]{2}|[ntr])', lambda it: ESCAPES.get(it[1]) or chr(int(it[1][1:], 16)), plain)
 
-    def filled(part):
-        return re.sub(r'<([^>]*)>', named, part)
-
-    def escaped(it):
-        return ESCAPES.get(it[1]) or chr(int(it[1][1:], 16))
-    return re.sub(r'\\(x[0-9a-f]{2}|.)', escaped, filled(text))
-
-
-def of_row(case, row):
-    """A case with the texts of a row."""
-    made = Case(f'{case.title}: {" => ".join(row)}' if row else case.title)
-    for step in case.steps:
-        if isinstance(step, Run):
-            holds = {name: text if text is ANY else full(text, row) for name, text in step.holds.items()}
-            made.steps.append(Run([full(word, row) for word in step.words], step.status, full(step.out, row), full(step.err, row), holds, step.tools))
-        else:
-            made.steps.append((full(step[0], row), full(step[1], row)))
-    return made
+    def named(name):
+        count, times, piece = name.partition(' * ')
+        return escaped(piece) * int(count) if times else texts[name]
+    parts = re.split('<([^>]*)>', text)
+    return ''.join(named(part) if k % 2 else escaped(part) for k, part in enumerate(parts))
 
 
 # ---- cases whose texts are computed
@@ -283,14 +274,18 @@ def wrong(program, case):
 
 
 def all_cases():
-    """The cases of all topics, one for each row, and those whose texts are computed."""
-    topics = [case for path in sorted(pathlib.Path('.ci/answers').glob('*.txt')) for case in read_topic(path)]
-    cases = [of_row(case, row) for case in topics for row in case.rows or [()]]
-    return cases + [*hierarchies(), *chains(), *most_scans(), *calls(), *pieces(), *segments(), longest_scan(), *made_designs()]
+    """The cases that only this script runs, and then those of the gate's program, whose texts all may name."""
+    shared = [SHARED / 'data' / name for name in (SHARED / 'args').read_text().split()]
+    if {*shared} != {*SHARED.glob('data/*.txt')}:
+        sys.exit(f'answers: {SHARED}/args has not each topic of {SHARED}/data, once')
+    gate = [case for path in shared for case in read_topic(path)]
+    own = [case for path in sorted(pathlib.Path('.ci/answers').glob('*.txt')) for case in read_topic(path)]
+    return [*own, *hierarchies(), *chains(), *most_scans(), *calls(), *pieces(), *segments(), longest_scan(), *made_designs()], gate
 
 
 def main(program, *titles):
-    cases = [case for case in all_cases() if case.title.startswith(titles or '')]
+    own, gate = all_cases()
+    cases = [case for case in own + gate if case.title.startswith(titles)] if titles else own
     with concurrent.futures.ThreadPoolExecutor(os.cpu_count() or 1) as workers:
         failed = [lines for lines in workers.map(functools.partial(wrong, os.path.abspath(program)), cases) if lines]
     for lines in failed:

@@ -4,6 +4,7 @@ has a case at its number and one at the next number. Run at the top of a checkou
 
 The refusals are the variants of the enumerations of faults in the sources, and the limits those below, all of docs/MANUAL.md's section on
 them among them. The cases are those of .ci/answers.py."""
+import itertools
 import pathlib
 import re
 import sys
@@ -102,7 +103,7 @@ LIMITS = {
         ('at most 4096 bits', 'BadNumber', "elab: the greatest numbers: 'h<1024", "elab: the greatest numbers: 'h<1025"))}
 
 # the lines that each case wants on the error stream
-wanted = [(case.title, [step.err for step in case.steps if isinstance(step, answers.Run)]) for case in answers.all_cases()]
+wanted = [(case.title, [step.err for step in case.steps if isinstance(step, answers.Run)]) for case in itertools.chain(*answers.all_cases())]
 sized = pathlib.Path('.ci/limits.py').read_text()
 missing = []
 count = 0

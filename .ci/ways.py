@@ -5,7 +5,7 @@ import pathlib
 import re
 import sys
 
-CRATES, LEVELS, WAYS = 56, 13, 15_000
+CRATES, LEVELS, WAYS = 57, 13, 15_000
 PROGRAM = "ijtag_cli"
 
 
