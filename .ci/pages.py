@@ -2,7 +2,7 @@
 """Looks at the pages' form: pages.py, run at the top of a checkout.
 
 Prose has at most 100 columns (tables, code and headings may have more), README.md at most 160 lines, and no sentence more than 32 words.
-README.md and docs/ have at most 189,000 bytes in all, without the table that .ci/minutes.py writes. Each link leads to a file, and to a
+README.md and docs/ have at most 190,000 bytes in all, without the table that .ci/minutes.py writes. Each link leads to a file, and to a
 heading of it. No page has one of the words that this project writes otherwise. The time of the first build is that of README.md wherever
 it is said."""
 import pathlib
@@ -63,7 +63,7 @@ for page in pages:
                 failed.append(f'{page}: {len(sentence.split())} words: {sentence}')
 
 texts = [re.sub(r'(?m)^\|.*\n', '', page.read_text()) if page.name == 'GATE.md' else page.read_text() for page in pages if page.parts[0] != 'examples']
-if (size := sum(len(text.encode()) for text in texts)) > 189_000:
+if (size := sum(len(text.encode()) for text in texts)) > 190_000:
     failed.append(f'README.md and docs/ have {size} bytes')
 first_build = re.search(r'proves and builds all of the program: (.+?)\. ', re.sub(r'\s+', ' ', first))
 for name in ('docs/ARCHITECTURE.md', 'ijtag', '.ci/build.py'):
