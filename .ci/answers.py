@@ -204,6 +204,26 @@ def segments():
         Run(['run', *files, 'chip', 'p', 'a.svf'], out=report, holds={'a.svf': svf}))
 
 
+def far_wants():
+    """A multiplexer that the rounds don't ask for takes the row of its next want, also where 65 wants of the other row come before."""
+    parts = ("  ScanRegister S { ScanInSource SI; CaptureSource S; ResetValue 1'b1; }\n"
+             "  ScanMux M0 SelectedBy S[0] { 1'b0 : M1; 1'b1 : B; }\n"
+             "  ScanRegister X { ScanInSource S; CaptureSource X; ResetValue 1'b1; }\n"
+             "  ScanMux M1 SelectedBy X[0] { 1'b0 : X; 1'b1 : D; }\n"
+             "  ScanRegister D[1:0] { ScanInSource X; CaptureSource D; ResetValue 2'b00; }\n"
+             "  ScanRegister B[1:0] { ScanInSource S; CaptureSource B; ResetValue 2'b00; }\n"
+             "  ScanMux M2 SelectedBy E[0] { 1'b0 : M0; 1'b1 : W; }\n"
+             "  ScanRegister W { ScanInSource M0; CaptureSource W; ResetValue 1'b0; }\n"
+             "  ScanRegister E { ScanInSource M2; CaptureSource E; ResetValue 1'b0; }\n")
+    icl = 'Module Net {\n  ScanInPort SI; ScanOutPort SO { Source E; }\n  ScanInterface client { Port SI; Port SO; }\n' + parts + '}\n' + full('<CHIP>')
+    rounds = ['net.W 0b1', *(f'net.B 0b{"01"[k % 2] * 2}' for k in range(1, 66))]
+    pdl = 'iProcsForModule chip\niProc p {} {\n' + ''.join(f'  iWrite {it}\n  iApply\n' for it in rounds) + '}\n'
+    return Case(
+        'tools: a row that is wanted late', ('a.icl', icl), ('a.pdl', pdl), ('a.dev', full('<DEVICE>')),
+        Run(['tighten', 'full', 'a.icl', 'a.pdl', 'a.dev', 'chip', 'p', 'a.svf'], out='scans 68 clocks 624 were scans 68 clocks 689 least 617\n',
+            holds={'a.svf': ANY}, tools=True))
+
+
 def longest_scan():
     """A scan of 65,536 bits through a register of four: TDO has what went in four clocks before, and is compared where MASK has a 1."""
     digits = '8' + '0123456789abcde' * 1092 + '123'
@@ -280,7 +300,7 @@ def all_cases():
         sys.exit(f'answers: {SHARED}/args has not each topic of {SHARED}/data, once')
     gate = [case for path in shared for case in read_topic(path)]
     own = [case for path in sorted(pathlib.Path('.ci/answers').glob('*.txt')) for case in read_topic(path)]
-    return [*own, *hierarchies(), *chains(), *most_scans(), *calls(), *pieces(), *segments(), longest_scan(), *made_designs()], gate
+    return [*own, *hierarchies(), *chains(), *most_scans(), *calls(), *pieces(), *segments(), far_wants(), longest_scan(), *made_designs()], gate
 
 
 def main(program, *titles):
