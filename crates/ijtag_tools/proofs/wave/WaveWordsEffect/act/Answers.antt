@@ -31,7 +31,7 @@ returns-in-Ok-clause-done g c =
     let old = g.S.Shelf.files c.args.shelf.now in
     let new = g.S.Shelf.files c.write_waves.new.shelf in
     let printed = g.O.Sink.taken c.args._out.now in
-    subst (λ (d : Bool). IsDone (waved w it) (record { files = old; printed = printed }) (record { files = new; printed = printed }) d) (sym c.in_ok-verdict.ensures)
+    subst (λ (d : Bool). IsDone (waved w it) (record { files = old; printed = printed }) (record { files = new; printed = printed }) d) (sym c.in-Ok.ensures.differs)
     (silent_done (waved w it) old new printed w.new (waves_of w.kind w.top window it) (any_differs (differs_at it it.commands)) (window, c.in_ok-window.ensures, refl) c.in-Ok.ensures.whole)
 
 pub returns-in-Err-clause-stop : goal.returns-in-Err-clause-stop
