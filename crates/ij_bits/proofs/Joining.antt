@@ -148,6 +148,60 @@ two_below old i here next k there low below =
     word_bit_is (slice_set one (i / 64 + 1) next) k (k / 64) (k % 64) at here_low ∙ ap (λ w. bit_at w (k % 64) == 1) (get_or-set_other one (i / 64 + 1) (k / 64) next 0 apart)
     ∙ sym (word_bit_is one k (k / 64) (k % 64) at here_low) ∙ one_below old i here k there low below
 
+-- what stands after the 64 bits stays
+pub one_after : (old : List ℕ) (i here k : ℕ) → i + 64 ≤ k → word_bit (slice_set old (i / 64) here) k ≡ word_bit old k
+unfolding word_bit
+one_after old i here k after =
+    let apart : k / 64 ≢ i / 64 = omega arith in
+    ap (λ w. bit_at w (k % 64) == 1) (get_or-set_other old (i / 64) (k / 64) here 0 apart)
+
+pub two_after : (old : List ℕ) (i here next k : ℕ) → i / 64 + 1 < length old → ((j : ℕ) → j < 64 - i % 64 → bit_at next (i % 64 + j) ≡ bit_at (get_or old (i / 64 + 1) 0) (i % 64 + j)) → i + 64 ≤ k
+    → word_bit (slice_set (slice_set old (i / 64) here) (i / 64 + 1) next) k ≡ word_bit old k
+two_after old i here next k there kept after =
+    let one : List ℕ = slice_set old (i / 64) here in
+    let length_one : length one ≡ length old = length-set old (i / 64) here in
+    let at : k ≡ 64 * (k / 64) + k % 64 = omega arith in
+    let low : k % 64 < 64 = omega arith in
+    elim (cases_lt (i / 64 + 1) (k / 64)) [
+      | inl far ↦
+          let apart : k / 64 ≢ i / 64 + 1 = omega arith in
+          word_bit_is (slice_set one (i / 64 + 1) next) k (k / 64) (k % 64) at low ∙ ap (λ w. bit_at w (k % 64) == 1) (get_or-set_other one (i / 64 + 1) (k / 64) next 0 apart)
+          ∙ sym (word_bit_is one k (k / 64) (k % 64) at low) ∙ one_after old i here k after
+      | inr near ↦
+          let place : k ≡ 64 * (i / 64 + 1) + k % 64 = omega arith in
+          let back : i % 64 + (k % 64 - i % 64) ≡ k % 64 = omega arith in
+          word_bit_is (slice_set one (i / 64 + 1) next) k (i / 64 + 1) (k % 64) place low ∙ ap (λ w. bit_at w (k % 64) == 1) (get_or-set_same one (i / 64 + 1) next 0 (omega arith))
+          ∙ ap (λ j. bit_at next j == 1) (sym back) ∙ ap (λ b. b == 1) (kept (k % 64 - i % 64) (omega arith)) ∙ ap (λ j. bit_at (get_or old (i / 64 + 1) 0) j == 1) back
+          ∙ sym (word_bit_is old k (i / 64 + 1) (k % 64) place low)
+    ]
+
+pub kept_high : (old : List ℕ) (i here next j : ℕ) → ((k : ℕ) → k < 64 - i % 64 → bit_at next (64 - (64 - i % 64) + k) ≡ bit_at (get_or (slice_set old (i / 64) here) (i / 64 + 1) 0 / 2 ^ (i % 64)) k) → j < 64 - i % 64
+    → bit_at next (i % 64 + j) ≡ bit_at (get_or old (i / 64 + 1) 0) (i % 64 + j)
+kept_high old i here next j high low =
+    let place : 64 - (64 - i % 64) + j ≡ i % 64 + j = omega arith in
+    let apart : i / 64 + 1 ≢ i / 64 = omega arith in
+    ap (bit_at next) (sym place) ∙ high j low ∙ down (get_or (slice_set old (i / 64) here) (i / 64 + 1) 0) (i % 64) j
+    ∙ ap (λ w. bit_at w (i % 64 + j)) (get_or-set_other old (i / 64) (i / 64 + 1) here 0 apart)
+
+-- a word's lowest n bits, and on top of them those that stand in a list after these
+pub covered_bit : (words : List ℕ) (at n word rest full k : ℕ) → ((j : ℕ) → n + j < 64 → bit_at full (n + j) ≡ bit_at rest j) → ((j : ℕ) → j < 64 → at + n + j < 64 * length words → (bit_at rest j == 1) ≡ word_bit words (at + n + j))
+    → at + n ≤ k → k < at + 64 → k < 64 * length words → (bit_at full (k - at) == 1) ≡ word_bit words k
+covered_bit words at n word rest full k high read after near within =
+    let j : ℕ = k - at - n in
+    let back : n + j ≡ k - at = omega arith in
+    let place : at + n + j ≡ k = omega arith in
+    ap (λ i. bit_at full i == 1) (sym back) ∙ ap (λ b. b == 1) (high j (omega arith)) ∙ read j (omega arith) (omega arith) ∙ ap (word_bit words) place
+
+pub put_kept : (old new : List ℕ) (at full k : ℕ) → ((j : ℕ) → j < 64 → at + j < 64 * length old → word_bit new (at + j) ≡ (bit_at full j == 1)) → ((j : ℕ) → at + 64 ≤ j → word_bit new j ≡ word_bit old j)
+    → (k < at + 64 → (bit_at full (k - at) == 1) ≡ word_bit old k) → at ≤ k → k < 64 * length old → word_bit new k ≡ word_bit old k
+put_kept old new at full k put following kept after within =
+    elim (cases_lt k (at + 64)) [
+      | inl near ↦
+          let place : at + (k - at) ≡ k = omega arith in
+          ap (word_bit new) (sym place) ∙ put (k - at) (omega arith) (omega arith) ∙ kept near
+      | inr far ↦ following k far
+    ]
+
 -- ---- the lowest n bits of a word
 
 pub lowest : (x n : ℕ) → n ≤ 64 → bit_and x (18446744073709551615 / 2 ^ (64 - n)) ≡ x % 2 ^ n

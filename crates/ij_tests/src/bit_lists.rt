@@ -130,6 +130,21 @@ fn a_ring_gives_its_bits_in_order_while_it_turns(rt: HostRuntime) {
 }
 
 #[test]
+fn a_ring_shifts_many_bits_at_once_over_its_end(rt: HostRuntime) {
+    let alloc = rt.alloc();
+    let bits = two_numbers(alloc).expect(&rt, "two numbers");
+    let mut ring = Ring::zeros(alloc, 72).expect(&rt, "zeros");
+    ring.copy_from(&bits);
+    assert!(rt; ring.shift_number(0x7654_3210_FEDC_BA98, 60) == 0x0123_4567_89AB_CDEF);
+    assert!(rt; ring.shift_number(0x0FED_CBA9_8765_4321, 64) == 0x4321_0FED_CBA9_85A0);
+    let mut part = Bits::zeros(alloc, 8).expect(&rt, "zeros");
+    ring.part_into(0, &mut part);
+    check_parts(&rt, alloc, &part, &[(0, 8, b"65")]);
+    ring.part_into(64, &mut part);
+    check_parts(&rt, alloc, &part, &[(0, 8, b"0F")]);
+}
+
+#[test]
 fn a_ring_made_with_room_takes_the_bits_it_was_made_for(rt: HostRuntime) {
     let alloc = rt.alloc();
     let bits = two_numbers(alloc).expect(&rt, "two numbers");

@@ -1,7 +1,7 @@
 use Rattle.std.proofs.Common.{◌≡◌, ◌+◌, ◌%◌, ap, inl, inr, arith}
 use Rattle.std.specs.Int.{bit_at}
 use Rattle.std.proofs.Math.ListN.{length-set}
-use Rattle.ij_bits.proofs.Joining.{one_at, one_below, two_at, two_below}
+use Rattle.ij_bits.proofs.Joining.{kept_high, one_after, one_at, one_below, two_after, two_at, two_below}
 use Rattle.ij_bits.proofs.words.put_word.Goals as goal
 
 pub returns-then-r-eq0-clause-at : goal.returns-then-r-eq0-clause-at
@@ -28,3 +28,14 @@ returns-else-at-words-clause-at c j low within =
 pub returns-else-at-words-clause-below : goal.returns-else-at-words-clause-below
 returns-else-at-words-clause-below c k below =
     one_below c.args.words.now c.args.i c.covered.result k c.requires c.covered.ensures.low below
+
+pub returns-then-r-eq0-clause-following : goal.returns-then-r-eq0-clause-following
+returns-then-r-eq0-clause-following c k after = one_after c.args.words.now c.args.i c.args.word k after
+
+pub returns-then-at-words-clause-following : goal.returns-then-at-words-clause-following
+returns-then-at-words-clause-following c k after =
+    two_after c.args.words.now c.args.i c.covered.result c.joined.result k (simp length-set at c.if-at-words.true)
+    (λ j low. kept_high c.args.words.now c.args.i c.covered.result c.joined.result j c.joined.ensures.high low) after
+
+pub returns-else-at-words-clause-following : goal.returns-else-at-words-clause-following
+returns-else-at-words-clause-following c k after = one_after c.args.words.now c.args.i c.covered.result k after
