@@ -2,11 +2,11 @@
 ghost use Rattle.std.specs.Prelude.{◌≡◌, ◌+◌, ◌<◌, ◌^◌, length, IfOk, IsSomeAnd};
 ghost use Rattle.tap_machine.specs.Play.{scans_in};
 
-use ij_bits::{Bits, OutOfMemory};
+use ij_bits::{Bits, OutOfMemory, bit_of_number};
 use std::alloc::Global;
 use std::test::Fail;
 use svf_writer::{Command, Commands, Part, Scan};
-use tap_machine::{Pins, Player, Stable, Tap, TapState};
+use tap_machine::{Pins, Player, Shifts, Stable, Tap, TapState};
 
 /// The levels of TMS from Test-Logic-Reset on, and the state to which each leads: through a data and an instruction scan, and back.
 const WALK: [(bool, TapState); 20] = [
@@ -156,5 +156,104 @@ fn tdi_and_mask_hold_up_to_a_new_length(rt: HostRuntime) -> Result<(), Fail> {
         shifts(10, 0, true, true, Some(true)),
     ];
     assert_eq!(rt; clocks.shifted.as_slice(), shifted.as_slice());
+    Ok(())
+}
+
+/// Seventy bits, the lowest 64 in the first number.
+fn seventy(alloc: Global, low: u64, high: u64) -> Result<Part, OutOfMemory>
+    ensures { IfOk result (λ part. IsSomeAnd part (λ bits. length bits ≡ 70)) }
+{
+    let mut bits = Bits::with_room(alloc, 70)?;
+    bits.append_number_reserved(low, 64);
+    bits.append_number_reserved(high, 6);
+    Part::of_bits(alloc, bits)
+}
+
+/// Scans of seventy bits with TDO and MASK, and without them; and one of 65 bits without MASK.
+fn long_commands(alloc: Global) -> Result<Commands, OutOfMemory>
+    ensures { IfOk result (λ commands. scans_in commands ≡ 3) }
+{
+    let tdi = seventy(alloc, 0x0123_4567_89AB_CDEF, 0x2A)?;
+    let tdo = seventy(alloc, 0xFEDC_BA98_7654_3210, 0x15)?;
+    let mask = seventy(alloc, 0x00FF_FF00_F0F0_0FF0, 0x33)?;
+    let mut commands = Commands::new(alloc);
+    commands.push(Command::Sdr(Scan {
+        len: 70,
+        tdi,
+        tdo,
+        mask,
+        smask: Part::absent(),
+    }))?;
+    commands.push(Command::Sdr(Scan {
+        len: 70,
+        tdi: Part::absent(),
+        tdo: Part::absent(),
+        mask: Part::absent(),
+        smask: Part::absent(),
+    }))?;
+    commands.push(Command::Sir(Scan {
+        len: 5,
+        tdi: Part::of_number(5, 0b10110),
+        tdo: Part::of_number(5, 0b01101),
+        mask: Part::absent(),
+        smask: Part::absent(),
+    }))?;
+    Ok(commands)
+}
+
+/// A clock of those that were handed out at once.
+fn clock_of(piece: &Shifts, at: u32) -> Pins {
+    let place = at.min(63);
+    let expect = if bit_of_number(piece.compared, place) {
+        Some(bit_of_number(piece.expected, place))
+    } else {
+        None
+    };
+    let bit = piece.bit.saturating_add(at);
+    shifts(
+        piece.scan,
+        bit,
+        false,
+        bit_of_number(piece.tdi, place),
+        expect,
+    )
+}
+
+/// Whether the next clocks of a play are those that were handed out at once.
+fn are_next(player: &mut Player, piece: &Shifts) -> bool {
+    for at in 0..piece.count {
+        if player.next() != Some(clock_of(piece, at)) {
+            return false;
+        }
+    }
+    true
+}
+
+/// The position and the number of the clocks that a play hands out at once, as far as it hands out the same clocks as one that goes
+/// clock by clock.
+fn pieces(alloc: Global, commands: &Commands) -> Vec<(u32, u32)>
+    requires { scans_in commands.now < 2 ^ 32 }
+{
+    let mut many = Player::new(Stable::Reset, 0, commands);
+    let mut single = Player::new(Stable::Reset, 0, commands);
+    let mut told = Vec::new(alloc);
+    for _ in 0..40 {
+        match many.next_shifts() {
+            Some(piece) => if are_next(&mut single, &piece) {
+                let _ = told.push((piece.bit, piece.count));
+            },
+            None => if many.next() != single.next() {
+                return told;
+            },
+        }
+    }
+    told
+}
+
+#[test]
+fn clocks_that_come_at_once_are_those_that_come_one_by_one(rt: HostRuntime) -> Result<(), Fail> {
+    let commands = long_commands(rt.alloc())?;
+    let told = pieces(rt.alloc(), &commands);
+    assert!(rt; told.as_slice() == [(0, 64), (64, 5), (0, 64), (64, 5), (0, 4)].as_slice());
     Ok(())
 }

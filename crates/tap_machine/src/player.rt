@@ -1,9 +1,10 @@
 // The pins of a list of commands, one clock at a time.
-ghost use Rattle.std.specs.Prelude.{◌≡◌, ◌+◌, ◌^◌, ◌<◌, [], ◌∷◌, IsNone, MatchOption};
+ghost use Rattle.std.specs.Prelude.{◌≡◌, ◌+◌, ◌^◌, ◌<◌, ◌≤◌, [], ◌∷◌, ◌++◌, IsNone, IfSome, MatchOption};
 ghost use Rattle.tap_machine.specs.Play.{pins, rests_after, scans_in};
+ghost use Rattle.tap_machine.specs.Shifting.{shift_pins, IsZeroPast};
 
 use crate::progress::{HeldBits, Phase, Progress};
-use crate::{Pins, Stable};
+use crate::{Pins, Shifts, Stable};
 use std::marker::Model;
 use svf_writer::Commands;
 
@@ -67,6 +68,18 @@ impl<'a> Player<'a> {
         ensures rests { self.new.rests ≡ self.old.rests }
     {
         self.progress.next()
+    }
+
+    /// The next clocks, as far as they shift one scan and don't end its shifting, at most 64; `None` where the next clock
+    /// is another one. It takes no memory.
+    pub fn next_shifts(&mut self) -> Option<Shifts>
+        ensures given { MatchOption result (self.old.pins ≡ self.new.pins) (λ s. self.old.pins ≡ shift_pins s ++ self.new.pins) }
+        ensures some { IfSome result (λ s. 1 ≤ s.count) }
+        ensures few { IfSome result (λ s. s.count ≤ 64) }
+        ensures zeros { IfSome result (λ s. IsZeroPast s) }
+        ensures rests { self.new.rests ≡ self.old.rests }
+    {
+        self.progress.next_shifts()
     }
 
     /// The state in which the play rests once all pins were given. It takes no memory.

@@ -1,12 +1,14 @@
 // How far a play has come in its list of commands.
-ghost use Rattle.std.specs.Prelude.{◌≡◌, ◌<◌, ◌+◌, ◌^◌, ◌∷◌, length, drop, get_or, replicate, true, false, Some, None, unwrap_or};
-ghost use Rattle.svf_writer.specs.Fits.{FitsAfter};
+ghost use Rattle.std.specs.Prelude.{◌≡◌, ◌<◌, ◌≤◌, ◌+◌, ◌^◌, ◌∷◌, ◌++◌, [], length, drop, get_or, slice_range, replicate, true, false, Some, None, unwrap_or, IfSome, MatchOption};
+ghost use Rattle.ij_bits.specs.BitLists.{bits_of};
+ghost use Rattle.svf_writer.specs.Fits.{FitsAfter, HasLength};
 ghost use Rattle.svf_writer.specs.Lent.{lent};
 ghost use Rattle.svf_writer.specs.SeenCommands.{SIR, SDR, seen_scan, seen_command};
 ghost use Rattle.tap_machine.specs.Remaining.{seen_held, last_length, AreHeldBits, scan_under_way, phase_pins, pins_at_hand, later_pins, remaining_pins, rests_at_end, remaining_commands, to_begin, IsWithin, IsUnderWay, first_of};
-ghost use Rattle.tap_machine.specs.Play.{no_shift, after_scan};
+ghost use Rattle.tap_machine.specs.Play.{no_shift, after_scan, masked};
+ghost use Rattle.tap_machine.specs.Shifting.{shift_pins, IsZeroPast};
 
-use crate::{Pins, Stable};
+use crate::{Pins, Shifts, Stable};
 use svf_writer::{Command, Commands, Part, Scan, lend};
 
 /// The length of the last scan of a kind, and the bits of the commands that it took its TDI and MASK from. Without
@@ -93,6 +95,16 @@ fn clock_without_shift(tms: bool) -> Pins
         scan: 0,
         bit: 0,
     }
+}
+
+/// The number of so many bits that are 1.
+fn ones(n: u32) -> u64
+    requires some { 1 ≤ n }
+    requires few { n ≤ 64 }
+    ensures bits { bits_of n result ≡ replicate n true }
+    ensures small { result < 2 ^ n }
+{
+    u64::MAX >> (64 - n)
 }
 
 impl<'a> Progress<'a> {
@@ -306,6 +318,83 @@ impl<'a> Progress<'a> {
                     return None;
                 },
             }
+        }
+    }
+
+    /// The `n` bits of a part of the scan at hand from a position on, zeros without the part.
+    fn part_bits(&self, part: Option<&Part>, k: u32, n: u32) -> u64
+        requires few { n ≤ 64 }
+        requires within { k + n ≤ self.now.scan.len }
+        requires sound { HasLength self.now.scan.len (lent part) }
+        ensures bits { bits_of n result ≡ slice_range (unwrap_or (lent part) (replicate self.now.scan.len false)) k (k + n) }
+        ensures small { result < 2 ^ n }
+    {
+        match part {
+            Some(part) => part.number(k, n),
+            None => 0,
+        }
+    }
+
+    /// At which of the `n` positions from `k` on TDO is compared.
+    fn compared(&self, k: u32, n: u32) -> u64
+        requires some { 1 ≤ n }
+        requires few { n ≤ 64 }
+        requires within { k + n ≤ self.now.scan.len }
+        requires sound { IsUnderWay self.now }
+        ensures bits { masked (slice_range (unwrap_or (lent self.now.tdo) (replicate self.now.scan.len false)) k (k + n)) (bits_of n result) ≡ slice_range (scan_under_way self.now).expects k (k + n) }
+        ensures small { result < 2 ^ n }
+    {
+        if self.tdo.is_none() {
+            return 0;
+        }
+        match self.scan.mask {
+            Some(mask) => mask.number(k, n),
+            None => ones(n),
+        }
+    }
+
+    /// The `n` shift clocks of the scan at hand from a position on, which don't end its shifting.
+    fn shifts_from(&self, k: u32, n: u32) -> Shifts
+        requires some { 1 ≤ n }
+        requires few { n ≤ 64 }
+        requires within { k + n < self.now.scan.len }
+        requires sound { IsUnderWay self.now }
+        ensures pins { phase_pins self.now.scans (scan_under_way self.now) (Phase.Shift k) ≡ shift_pins result ++ phase_pins self.now.scans (scan_under_way self.now) (Phase.Shift (k + n)) }
+        ensures count { result.count ≡ n }
+        ensures zeros { IsZeroPast result }
+    {
+        Shifts {
+            count: n,
+            tdi: self.part_bits(self.scan.tdi, k, n),
+            compared: self.compared(k, n),
+            expected: self.part_bits(self.tdo, k, n),
+            scan: self.scans,
+            bit: k,
+        }
+    }
+
+    /// The next shift clocks of the scan at hand that don't end its shifting, at most 64; `None` where the next clock is
+    /// another one.
+    pub(crate) fn next_shifts(&mut self) -> Option<Shifts>
+        requires { IsUnderWay self.old }
+        ensures pins { MatchOption result (remaining_pins self.old ≡ remaining_pins self.new) (λ s. remaining_pins self.old ≡ shift_pins s ++ remaining_pins self.new) }
+        ensures some { IfSome result (λ s. 1 ≤ s.count) }
+        ensures few { IfSome result (λ s. s.count ≤ 64) }
+        ensures zeros { IfSome result (λ s. IsZeroPast s) }
+        ensures rests { rests_at_end self.new ≡ rests_at_end self.old }
+        ensures sound { IsUnderWay self.new }
+    {
+        match self.phase {
+            Phase::Shift(k) => {
+                let n = (self.scan.len - 1 - k).min(64);
+                if n == 0 {
+                    return None;
+                }
+                let shifts = self.shifts_from(k, n);
+                self.phase = Phase::Shift(k + n);
+                Some(shifts)
+            },
+            _ => None,
         }
     }
 }
