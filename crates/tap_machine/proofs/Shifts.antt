@@ -28,7 +28,7 @@ expected_at len k tdo bits mask compared has given within is =
     ∙ masked_at bits mask k (omega (arith, has_length len tdo bits has given))
     ∙ ap (λ b. cond b (Some (get_or bits k false)) None) is
 
-drop_twice : {X : Type 0} (k : ℕ) (xs : List X) → drop 1 (drop k xs) ≡ drop (suc k) xs
+pub drop_twice : {X : Type 0} (k : ℕ) (xs : List X) → drop 1 (drop k xs) ≡ drop (suc k) xs
 drop_twice zero xs = refl
 drop_twice (suc k) [] = refl
 drop_twice (suc k) (x ∷ xs) = drop_twice k xs
@@ -41,7 +41,7 @@ module _ (scan : ℕ) (p : Played) (k : ℕ) (within : k < length p.tdi) where
   abbrev pub pin : Bool → Pins
   pin last = record { tms = last; tdi = get_or p.tdi k false; expect = get_or p.expects k None; scan = scan; bit = k }
 
-  expects_here : get_or (drop k p.expects) 0 None ≡ get_or p.expects k None
+  pub expects_here : get_or (drop k p.expects) 0 None ≡ get_or p.expects k None
   expects_here =
       let z : k + 0 ≡ k = omega arith in get_or-drop k p.expects 0 None ∙ ap (λ i. get_or p.expects i None) z
 

@@ -97,14 +97,14 @@ fn clock_without_shift(tms: bool) -> Pins
     }
 }
 
-/// The number of so many bits that are 1.
-fn ones(n: u32) -> u64
+/// The number of so many bits of one value.
+fn same_bits(n: u32, value: bool) -> u64
     requires some { 1 ≤ n }
     requires few { n ≤ 64 }
-    ensures bits { bits_of n result ≡ replicate n true }
+    ensures bits { bits_of n result ≡ replicate n value }
     ensures small { result < 2 ^ n }
 {
-    u64::MAX >> (64 - n)
+    if value { u64::MAX >> (64 - n) } else { 0 }
 }
 
 impl<'a> Progress<'a> {
@@ -321,17 +321,18 @@ impl<'a> Progress<'a> {
         }
     }
 
-    /// The `n` bits of a part of the scan at hand from a position on, zeros without the part.
-    fn part_bits(&self, part: Option<&Part>, k: u32, n: u32) -> u64
+    /// The `n` bits of a part of the scan at hand from a position on; without the part, each of them is the given one.
+    fn part_bits(&self, part: Option<&Part>, k: u32, n: u32, value: bool) -> u64
+        requires some { 1 ≤ n }
         requires few { n ≤ 64 }
         requires within { k + n ≤ self.now.scan.len }
         requires sound { HasLength self.now.scan.len (lent part) }
-        ensures bits { bits_of n result ≡ slice_range (unwrap_or (lent part) (replicate self.now.scan.len false)) k (k + n) }
+        ensures bits { bits_of n result ≡ slice_range (unwrap_or (lent part) (replicate self.now.scan.len value)) k (k + n) }
         ensures small { result < 2 ^ n }
     {
         match part {
             Some(part) => part.number(k, n),
-            None => 0,
+            None => same_bits(n, value),
         }
     }
 
@@ -344,12 +345,9 @@ impl<'a> Progress<'a> {
         ensures bits { masked (slice_range (unwrap_or (lent self.now.tdo) (replicate self.now.scan.len false)) k (k + n)) (bits_of n result) ≡ slice_range (scan_under_way self.now).expects k (k + n) }
         ensures small { result < 2 ^ n }
     {
-        if self.tdo.is_none() {
-            return 0;
-        }
-        match self.scan.mask {
-            Some(mask) => mask.number(k, n),
-            None => ones(n),
+        match self.tdo {
+            Some(_) => self.part_bits(self.scan.mask, k, n, true),
+            None => 0,
         }
     }
 
@@ -365,9 +363,9 @@ impl<'a> Progress<'a> {
     {
         Shifts {
             count: n,
-            tdi: self.part_bits(self.scan.tdi, k, n),
+            tdi: self.part_bits(self.scan.tdi, k, n, false),
             compared: self.compared(k, n),
-            expected: self.part_bits(self.tdo, k, n),
+            expected: self.part_bits(self.tdo, k, n, false),
             scan: self.scans,
             bit: k,
         }
