@@ -1,12 +1,12 @@
 // The walk of a controller through its states, and the clocks of a play.
-ghost use Rattle.std.specs.Prelude.{◌≡◌, ◌+◌, ◌<◌, ◌^◌, length, IfOk, IsSomeAnd};
+ghost use Rattle.std.specs.Prelude.{◌≡◌, ◌+◌, ◌<◌, ◌≤◌, ◌^◌, length, IfOk, IsSomeAnd};
 ghost use Rattle.tap_machine.specs.Play.{scans_in};
 
-use ij_bits::{Bits, OutOfMemory, bit_of_number};
+use ij_bits::{Bits, OutOfMemory};
 use std::alloc::Global;
 use std::test::Fail;
 use svf_writer::{Command, Commands, Part, Scan};
-use tap_machine::{Pins, Player, Shifts, Stable, Tap, TapState};
+use tap_machine::{Piece, Pins, Player, Stable, Tap, TapState};
 
 /// The levels of TMS from Test-Logic-Reset on, and the state to which each leads: through a data and an instruction scan, and back.
 const WALK: [(bool, TapState); 20] = [
@@ -201,59 +201,45 @@ fn long_commands(alloc: Global) -> Result<Commands, OutOfMemory>
     Ok(commands)
 }
 
-/// A clock of those that were handed out at once.
-fn clock_of(piece: &Shifts, at: u32) -> Pins {
-    let place = at.min(63);
-    let expect = if bit_of_number(piece.compared, place) {
-        Some(bit_of_number(piece.expected, place))
-    } else {
-        None
-    };
-    let bit = piece.bit.saturating_add(at);
-    shifts(
-        piece.scan,
-        bit,
-        false,
-        bit_of_number(piece.tdi, place),
-        expect,
-    )
-}
-
-/// Whether the next clocks of a play are those that were handed out at once.
-fn are_next(player: &mut Player, piece: &Shifts) -> bool {
+/// Whether the next clocks of a play are those of a piece.
+fn are_next(player: &mut Player, piece: &Piece) -> bool
+    requires few { piece.now.count ≤ 64 }
+    requires short { piece.now.bit + piece.now.count < 2 ^ 32 }
+{
     for at in 0..piece.count {
-        if player.next() != Some(clock_of(piece, at)) {
+        if player.next() != Some(piece.at(at)) {
             return false;
         }
     }
     true
 }
 
-/// The position and the number of the clocks that a play hands out at once, as far as it hands out the same clocks as one that goes
-/// clock by clock.
-fn pieces(alloc: Global, commands: &Commands) -> Vec<(u32, u32)>
+/// The position and the number of the clocks of each piece that shifts, up to the first one that isn't what a play has clock by
+/// clock.
+fn pieces(alloc: Global, commands: &Commands, most: u32) -> Vec<(u32, u32)>
     requires { scans_in commands.now < 2 ^ 32 }
 {
     let mut many = Player::new(Stable::Reset, 0, commands);
     let mut single = Player::new(Stable::Reset, 0, commands);
-    let mut told = Vec::new(alloc);
-    for _ in 0..40 {
-        match many.next_shifts() {
-            Some(piece) => if are_next(&mut single, &piece) {
-                let _ = told.push((piece.bit, piece.count));
-            },
-            None => if many.next() != single.next() {
-                return told;
-            },
+    let mut shifted = Vec::new(alloc);
+    while let Some(piece) = many.next_piece(most) {
+        if !are_next(&mut single, &piece) {
+            return shifted;
+        }
+        if piece.scan > 0 {
+            let _ = shifted.push((piece.bit, piece.count));
         }
     }
-    told
+    shifted
 }
 
 #[test]
 fn clocks_that_come_at_once_are_those_that_come_one_by_one(rt: HostRuntime) -> Result<(), Fail> {
     let commands = long_commands(rt.alloc())?;
-    let told = pieces(rt.alloc(), &commands);
-    assert!(rt; told.as_slice() == [(0, 64), (64, 5), (0, 64), (64, 5), (0, 4)].as_slice());
+    let all = pieces(rt.alloc(), &commands, 64);
+    assert!(rt; all.as_slice() == [(0, 64), (64, 6), (0, 64), (64, 6), (0, 5)].as_slice());
+    let few = pieces(rt.alloc(), &commands, 40);
+    assert!(rt; few.as_slice() == [(0, 40), (40, 30), (0, 40), (40, 30), (0, 5)].as_slice());
+    assert!(rt; pieces(rt.alloc(), &commands, 0).len() == 145);
     Ok(())
 }

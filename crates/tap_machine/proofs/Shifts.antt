@@ -18,7 +18,7 @@ masked_at (x ∷ ts) [] (suc k) h = masked_at ts [] k (omega (arith, h))
 masked_at (x ∷ ts) (m ∷ ms) zero h = refl
 masked_at (x ∷ ts) (m ∷ ms) (suc k) h = masked_at ts ms k (omega (arith, h))
 
-has_length : (n : ℕ) (o : Option (List Bool)) (bits : List Bool) → HasLength n o → o ≡ Some bits → length bits ≡ n
+pub has_length : (n : ℕ) (o : Option (List Bool)) (bits : List Bool) → HasLength n o → o ≡ Some bits → length bits ≡ n
 has_length n o bits h e = subst (HasLength n) e h
 
 -- what is expected at a position of a scan with TDO

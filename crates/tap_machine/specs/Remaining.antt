@@ -1,5 +1,5 @@
 -- What is left of a play: the pins still to come, and the state in which they leave the controller.
-use Rattle.std.specs.Prelude.{◌≡◌, ◌<◌, ◌^◌, ◌+◌, ◌*◌, ℕ, true, false, List, [], ◌∷◌, ◌++◌, length, replicate, map, drop, Option, Some, None, option_map, unwrap_or}
+use Rattle.std.specs.Prelude.{◌≡◌, ◌<◌, ◌^◌, ◌+◌, ◌*◌, ◌==◌, ℕ, cond, true, false, List, [], ◌∷◌, ◌++◌, length, replicate, map, drop, Option, Some, None, option_map, unwrap_or}
 use Rattle.svf_writer.specs.Fits.{HasLength, AreFitAfter}
 use Rattle.svf_writer.specs.Lent.{lent}
 use Rattle.tap_machine.specs.declared.Pins.{Pins}
@@ -73,6 +73,10 @@ rests_at_end p = rests_after p.rests_in (remaining_commands p)
 
 abbrev pub remaining : Progress → Remaining
 remaining p = record { pins = remaining_pins p; rests = rests_at_end p }
+
+-- the phase once so many bits of a scan were shifted
+abbrev pub shifted_to : ℕ → ℕ → Phase
+shifted_to len k = cond (k == len) Exit (Shift k)
 
 -- a phase that shifts has a bit to shift
 abbrev pub IsWithin : ℕ → Phase → Type 0

@@ -1,10 +1,10 @@
 // The pins of a list of commands, one clock at a time.
 ghost use Rattle.std.specs.Prelude.{◌≡◌, ◌+◌, ◌^◌, ◌<◌, ◌≤◌, [], ◌∷◌, ◌++◌, IsNone, IfSome, MatchOption};
 ghost use Rattle.tap_machine.specs.Play.{pins, rests_after, scans_in};
-ghost use Rattle.tap_machine.specs.Shifting.{shift_pins, IsZeroPast};
+ghost use Rattle.tap_machine.specs.Pieces.{piece_pins};
 
 use crate::progress::{HeldBits, Phase, Progress};
-use crate::{Pins, Shifts, Stable};
+use crate::{Piece, Pins, Stable};
 use std::marker::Model;
 use svf_writer::Commands;
 
@@ -70,16 +70,18 @@ impl<'a> Player<'a> {
         self.progress.next()
     }
 
-    /// The next clocks, as far as they shift one scan and don't end its shifting, at most 64; `None` where the next clock
-    /// is another one. It takes no memory.
-    pub fn next_shifts(&mut self) -> Option<Shifts>
-        ensures given { MatchOption result (self.old.pins ≡ self.new.pins) (λ s. self.old.pins ≡ shift_pins s ++ self.new.pins) }
-        ensures some { IfSome result (λ s. 1 ≤ s.count) }
-        ensures few { IfSome result (λ s. s.count ≤ 64) }
-        ensures zeros { IfSome result (λ s. IsZeroPast s) }
+    /// The next clocks: up to `most` and up to 64 at once where they shift one scan, else one; `None` where all were given. It
+    /// takes no memory.
+    pub fn next_piece(&mut self, most: u32) -> Option<Piece>
+        ensures given { MatchOption result (self.old.pins ≡ []) (λ p. self.old.pins ≡ piece_pins p ++ self.new.pins) }
+        ensures end { IsNone result → self.new.pins ≡ [] }
+        ensures some { IfSome result (λ p. 1 ≤ p.count) }
+        ensures few { IfSome result (λ p. p.count ≤ 64) }
+        ensures most { IfSome result (λ p. 2 ≤ p.count → p.count ≤ most) }
+        ensures short { IfSome result (λ p. p.bit + p.count < 2 ^ 32) }
         ensures rests { self.new.rests ≡ self.old.rests }
     {
-        self.progress.next_shifts()
+        self.progress.next_piece(most)
     }
 
     /// The state in which the play rests once all pins were given. It takes no memory.

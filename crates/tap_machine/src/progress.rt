@@ -1,14 +1,14 @@
 // How far a play has come in its list of commands.
-ghost use Rattle.std.specs.Prelude.{◌≡◌, ◌<◌, ◌≤◌, ◌+◌, ◌^◌, ◌∷◌, ◌++◌, [], length, drop, get_or, slice_range, replicate, true, false, Some, None, unwrap_or, IfSome, MatchOption};
+ghost use Rattle.std.specs.Prelude.{◌≡◌, ◌<◌, ◌≤◌, ◌+◌, ◌^◌, ◌∷◌, ◌++◌, [], length, drop, get_or, slice_range, replicate, true, false, Some, None, unwrap_or, IfSome, IsNone, MatchOption};
 ghost use Rattle.ij_bits.specs.BitLists.{bits_of};
 ghost use Rattle.svf_writer.specs.Fits.{FitsAfter, HasLength};
 ghost use Rattle.svf_writer.specs.Lent.{lent};
 ghost use Rattle.svf_writer.specs.SeenCommands.{SIR, SDR, seen_scan, seen_command};
-ghost use Rattle.tap_machine.specs.Remaining.{seen_held, last_length, AreHeldBits, scan_under_way, phase_pins, pins_at_hand, later_pins, remaining_pins, rests_at_end, remaining_commands, to_begin, IsWithin, IsUnderWay, first_of};
+ghost use Rattle.tap_machine.specs.Remaining.{seen_held, last_length, AreHeldBits, scan_under_way, shifted_to, phase_pins, pins_at_hand, later_pins, remaining_pins, rests_at_end, remaining_commands, to_begin, IsWithin, IsUnderWay, first_of};
 ghost use Rattle.tap_machine.specs.Play.{no_shift, after_scan, masked};
-ghost use Rattle.tap_machine.specs.Shifting.{shift_pins, IsZeroPast};
+ghost use Rattle.tap_machine.specs.Pieces.{piece_pins};
 
-use crate::{Pins, Shifts, Stable};
+use crate::{Piece, Pins, Stable};
 use svf_writer::{Command, Commands, Part, Scan, lend};
 
 /// The length of the last scan of a kind, and the bits of the commands that it took its TDI and MASK from. Without
@@ -101,8 +101,7 @@ fn clock_without_shift(tms: bool) -> Pins
 fn same_bits(n: u32, value: bool) -> u64
     requires some { 1 ≤ n }
     requires few { n ≤ 64 }
-    ensures bits { bits_of n result ≡ replicate n value }
-    ensures small { result < 2 ^ n }
+    ensures { bits_of n result ≡ replicate n value }
 {
     if value { u64::MAX >> (64 - n) } else { 0 }
 }
@@ -138,13 +137,15 @@ impl<'a> Progress<'a> {
     fn shift_clock(&self, k: u32) -> Pins
         requires within { k < self.now.scan.len }
         requires sound { IsUnderWay self.now }
-        ensures { Some result ≡ first_of (phase_pins self.now.scans (scan_under_way self.now) (Phase.Shift k)) }
+        ensures pins { Some result ≡ first_of (phase_pins self.now.scans (scan_under_way self.now) (Phase.Shift k)) }
+        ensures short { result.bit + 1 < 2 ^ 32 }
     {
         let tdi = match self.scan.tdi {
             Some(tdi) => tdi.get(k),
             None => false,
         };
-        let last = self.scan.len - 1;
+        let len = self.scan.len;
+        let last = len - 1;
         Pins {
             tms: k == last,
             tdi,
@@ -157,7 +158,8 @@ impl<'a> Progress<'a> {
     /// The first of the pins that are left of the command at hand.
     fn first(&self) -> Option<Pins>
         requires { IsUnderWay self.now }
-        ensures { result ≡ first_of (pins_at_hand self.now) }
+        ensures pins { result ≡ first_of (pins_at_hand self.now) }
+        ensures short { IfSome result (λ p. p.bit + 1 < 2 ^ 32) }
     {
         match self.phase {
             Phase::Quiet { tms, left } => if left == 0 {
@@ -302,6 +304,7 @@ impl<'a> Progress<'a> {
     pub(crate) fn next(&mut self) -> Option<Pins>
         requires { IsUnderWay self.old }
         ensures pins { result ≡ first_of (remaining_pins self.old) }
+        ensures short { IfSome result (λ p. p.bit + 1 < 2 ^ 32) }
         ensures others { remaining_pins self.new ≡ drop 1 (remaining_pins self.old) }
         ensures rests { rests_at_end self.new ≡ rests_at_end self.old }
         ensures sound { IsUnderWay self.new }
@@ -327,8 +330,7 @@ impl<'a> Progress<'a> {
         requires few { n ≤ 64 }
         requires within { k + n ≤ self.now.scan.len }
         requires sound { HasLength self.now.scan.len (lent part) }
-        ensures bits { bits_of n result ≡ slice_range (unwrap_or (lent part) (replicate self.now.scan.len value)) k (k + n) }
-        ensures small { result < 2 ^ n }
+        ensures { bits_of n result ≡ slice_range (unwrap_or (lent part.entry) (replicate self.now.scan.len value)) k (k + n) }
     {
         match part {
             Some(part) => part.number(k, n),
@@ -342,8 +344,7 @@ impl<'a> Progress<'a> {
         requires few { n ≤ 64 }
         requires within { k + n ≤ self.now.scan.len }
         requires sound { IsUnderWay self.now }
-        ensures bits { masked (slice_range (unwrap_or (lent self.now.tdo) (replicate self.now.scan.len false)) k (k + n)) (bits_of n result) ≡ slice_range (scan_under_way self.now).expects k (k + n) }
-        ensures small { result < 2 ^ n }
+        ensures { masked (slice_range (unwrap_or (lent self.now.tdo) (replicate self.now.scan.len false)) k (k + n)) (bits_of n result) ≡ slice_range (scan_under_way self.now).expects k (k + n) }
     {
         match self.tdo {
             Some(_) => self.part_bits(self.scan.mask, k, n, true),
@@ -351,18 +352,20 @@ impl<'a> Progress<'a> {
         }
     }
 
-    /// The `n` shift clocks of the scan at hand from a position on, which don't end its shifting.
-    fn shifts_from(&self, k: u32, n: u32) -> Shifts
+    /// The `n` shift clocks of the scan at hand from a position on.
+    fn shifts_from(&self, k: u32, n: u32) -> Piece
         requires some { 1 ≤ n }
         requires few { n ≤ 64 }
-        requires within { k + n < self.now.scan.len }
+        requires within { k + n ≤ self.now.scan.len }
         requires sound { IsUnderWay self.now }
-        ensures pins { phase_pins self.now.scans (scan_under_way self.now) (Phase.Shift k) ≡ shift_pins result ++ phase_pins self.now.scans (scan_under_way self.now) (Phase.Shift (k + n)) }
+        ensures pins { phase_pins self.now.scans (scan_under_way self.now) (Phase.Shift k) ≡ piece_pins result ++ phase_pins self.now.scans (scan_under_way self.now) (shifted_to self.now.scan.len (k + n)) }
         ensures count { result.count ≡ n }
-        ensures zeros { IsZeroPast result }
+        ensures bit { result.bit ≡ k }
     {
-        Shifts {
+        let left = self.scan.len - k;
+        Piece {
             count: n,
+            tms: n == left,
             tdi: self.part_bits(self.scan.tdi, k, n, false),
             compared: self.compared(k, n),
             expected: self.part_bits(self.tdo, k, n, false),
@@ -371,28 +374,61 @@ impl<'a> Progress<'a> {
         }
     }
 
-    /// The next shift clocks of the scan at hand that don't end its shifting, at most 64; `None` where the next clock is
-    /// another one.
-    pub(crate) fn next_shifts(&mut self) -> Option<Shifts>
-        requires { IsUnderWay self.old }
-        ensures pins { MatchOption result (remaining_pins self.old ≡ remaining_pins self.new) (λ s. remaining_pins self.old ≡ shift_pins s ++ remaining_pins self.new) }
-        ensures some { IfSome result (λ s. 1 ≤ s.count) }
-        ensures few { IfSome result (λ s. s.count ≤ 64) }
-        ensures zeros { IfSome result (λ s. IsZeroPast s) }
+    /// The `n` shift clocks of the scan at hand from a position on; the play goes on after them.
+    fn shift_many(&mut self, k: u32, n: u32) -> Piece
+        requires some { 1 ≤ n }
+        requires few { n ≤ 64 }
+        requires within { k + n ≤ self.old.scan.len }
+        requires phase { self.old.phase ≡ Phase.Shift k }
+        requires sound { IsUnderWay self.old }
+        ensures pins { remaining_pins self.old ≡ piece_pins result ++ remaining_pins self.new }
+        ensures count { result.count ≡ n }
+        ensures bit { result.bit ≡ k }
         ensures rests { rests_at_end self.new ≡ rests_at_end self.old }
         ensures sound { IsUnderWay self.new }
     {
-        match self.phase {
-            Phase::Shift(k) => {
-                let n = (self.scan.len - 1 - k).min(64);
-                if n == 0 {
-                    return None;
-                }
-                let shifts = self.shifts_from(k, n);
-                self.phase = Phase::Shift(k + n);
-                Some(shifts)
-            },
-            _ => None,
+        let piece = self.shifts_from(k, n);
+        let left = self.scan.len - k;
+        self.phase = if n == left {
+            Phase::Exit
+        } else {
+            Phase::Shift(k + n)
+        };
+        piece
+    }
+
+    /// The next clock, as a piece.
+    fn next_one(&mut self) -> Option<Piece>
+        requires { IsUnderWay self.old }
+        ensures pins { MatchOption result (remaining_pins self.old ≡ []) (λ p. remaining_pins self.old ≡ piece_pins p ++ remaining_pins self.new) }
+        ensures end { IsNone result → remaining_pins self.new ≡ [] }
+        ensures one { IfSome result (λ p. p.count ≡ 1) }
+        ensures short { IfSome result (λ p. p.bit + p.count < 2 ^ 32) }
+        ensures rests { rests_at_end self.new ≡ rests_at_end self.old }
+        ensures sound { IsUnderWay self.new }
+    {
+        let pins = self.next()?;
+        Some(Piece::one(&pins))
+    }
+
+    /// The next clocks: up to `most` and up to 64 at once where they shift one scan, else one; `None` where all were given.
+    pub(crate) fn next_piece(&mut self, most: u32) -> Option<Piece>
+        requires { IsUnderWay self.old }
+        ensures pins { MatchOption result (remaining_pins self.old ≡ []) (λ p. remaining_pins self.old ≡ piece_pins p ++ remaining_pins self.new) }
+        ensures end { IsNone result → remaining_pins self.new ≡ [] }
+        ensures some { IfSome result (λ p. 1 ≤ p.count) }
+        ensures few { IfSome result (λ p. p.count ≤ 64) }
+        ensures most { IfSome result (λ p. 2 ≤ p.count → p.count ≤ most) }
+        ensures short { IfSome result (λ p. p.bit + p.count < 2 ^ 32) }
+        ensures rests { rests_at_end self.new ≡ rests_at_end self.old }
+        ensures sound { IsUnderWay self.new }
+    {
+        if let Phase::Shift(k) = self.phase {
+            let n = (self.scan.len - k).min(most).min(64);
+            if n > 1 {
+                return Some(self.shift_many(k, n));
+            }
         }
+        self.next_one()
     }
 }
