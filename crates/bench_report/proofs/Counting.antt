@@ -1,9 +1,13 @@
 -- Compares clock by clock.
-use Rattle.std.proofs.Common.{◌≡◌, ℕ, ◌+◌, ◌≤◌, Bool, true, false, cond, List, [], ◌∷◌, ◌++◌, length, Option, Some, None, refl, ap, sym, ◌∙◌, arith, append_assoc, append-nil, length-append}
+use Rattle.std.proofs.Common.{◌≡◌, ℕ, ◌+◌, ◌≤◌, Bool, true, false, cond, List, [], ◌∷◌, ◌++◌, length, drop, Option, Some, None, refl, ap, sym, ◌∙◌, arith, append_assoc, append-nil, length-append}
+use Rattle.std.proofs.lemmas.List.{drop_all}
 use Rattle.net_graph.specs.declared.step.ReadBit.{ReadBit}
 use Rattle.ij_bits.specs.BitLists.{same_bit}
 use Rattle.net_bench.specs.Bench.{Chip, State, clock, tdo}
 use Rattle.report.specs.Differs.{differ_text}
+use Rattle.instruments.specs.declared.Counts.{Counts}
+use Rattle.net_bench.specs.Board.{SeenBench}
+use Rattle.net_bench.specs.Pieces.{pin_compares}
 use Rattle.net_bench.specs.Playing.{Compare, compare_of, compares, after_pins, differing}
 use Rattle.tap_machine.specs.declared.Pins.{Pins}
 use Rattle.bench_report.specs.Report.{Names, compare_at, named_lines}
@@ -42,24 +46,36 @@ few_differ chip (p ∷ ps) s =
     let rest = compares chip ps (clock chip p.tms p.tdi s) in
     omega (arith, ap length (differing_both here rest), length-append (differing here) (differing rest), few_of p.expect p.scan p.bit (tdo chip s), few_differ chip ps (clock chip p.tms p.tdi s))
 
--- ---- one clock
+-- ---- the compares of some clocks, and those that follow
 
-module _ {L : Type 0} (chip : Chip L) (p : Pins) (ps qs : List Pins) (s t : State L) (found : Bool) (given : qs ≡ p ∷ ps) (is : found ≡ tdo chip s) (next : t ≡ clock chip p.tms p.tdi s) where
-  pub here_and_later : differing (compares chip qs s) ≡ differing (compare_of p.expect p.scan p.bit found) ++ differing (compares chip ps t)
-  here_and_later =
-      let u = clock chip p.tms p.tdi s in
-      ap (λ l. differing (compares chip l s)) given
-      ∙ differing_both (compare_of p.expect p.scan p.bit (tdo chip s)) (compares chip ps u)
-      ∙ ap (λ b. differing (compare_of p.expect p.scan p.bit b) ++ differing (compares chip ps u)) (sym is)
-      ∙ ap (λ v. differing (compare_of p.expect p.scan p.bit found) ++ differing (compares chip ps v)) (sym next)
+module _ (all cs rest : List Compare) (given : all ≡ cs ++ rest) where
+  here_and_later : differing all ≡ differing cs ++ differing rest
+  here_and_later = ap differing given ∙ differing_both cs rest
 
-  pub lines_here : (names : Names) → named_lines names (differing (compares chip qs s)) ≡ named_lines names (differing (compare_of p.expect p.scan p.bit found)) ++ named_lines names (differing (compares chip ps t))
-  lines_here names =
-      ap (named_lines names) here_and_later ∙ lines_both names (differing (compare_of p.expect p.scan p.bit found)) (differing (compares chip ps t))
+  pub lines_here : (names : Names) → named_lines names (differing all) ≡ named_lines names (differing cs) ++ named_lines names (differing rest)
+  lines_here names = ap (named_lines names) here_and_later ∙ lines_both names (differing cs) (differing rest)
 
-  pub count_here : length (differing (compares chip qs s)) ≡ length (differing (compare_of p.expect p.scan p.bit found)) + length (differing (compares chip ps t))
-  count_here =
-      ap length here_and_later ∙ length-append (differing (compare_of p.expect p.scan p.bit found)) (differing (compares chip ps t))
+  pub count_here : length (differing all) ≡ length (differing cs) + length (differing rest)
+  count_here = ap length here_and_later ∙ length-append (differing cs) (differing rest)
 
-  pub after_here : after_pins chip ps t ≡ after_pins chip qs s
-  after_here = ap (after_pins chip ps) next ∙ sym (ap (λ l. after_pins chip l s) given)
+-- one of some clocks, and those after it
+pub compares_step : (p : Pins) (ps qs : List Pins) (f : Bool) (fs gs : List Bool) → qs ≡ p ∷ ps → gs ≡ f ∷ fs → pin_compares qs gs ≡ compare_of p.expect p.scan p.bit f ++ pin_compares ps fs
+compares_step p ps qs f fs gs given is = ap (λ l. pin_compares l gs) given ∙ ap (pin_compares (p ∷ ps)) is
+
+-- at most one of each clock differs
+pub few_compare : (qs : List Pins) (gs : List Bool) → length (differing (pin_compares qs gs)) ≤ length qs
+few_compare [] gs = omega arith
+few_compare (p ∷ ps) [] = omega arith
+few_compare (p ∷ ps) (f ∷ fs) =
+    let here = compare_of p.expect p.scan p.bit f in
+    let rest = pin_compares ps fs in
+    omega (arith, ap length (differing_both here rest), length-append (differing here) (differing rest), few_of p.expect p.scan p.bit f, few_compare ps fs)
+
+-- after the last of them
+pub compares_end : (qs : List Pins) (gs : List Bool) (n : ℕ) → length qs ≡ n → pin_compares (drop n qs) gs ≡ []
+compares_end qs gs n len = ap (λ l. pin_compares l gs) (drop_all n qs (omega arith))
+
+-- the same device, network and models after a step as at the beginning
+pub same_step : (new b first : SeenBench) (u : State Counts) → new ≡ record b { state = u } → b ≡ record first { state = b.state } → new ≡ record first { state = new.state }
+same_step new b first u is same =
+    is ∙ ap (λ (x : SeenBench). record x { state = u }) same ∙ ap (λ (v : State Counts). record first { state = v }) (sym (ap (λ (x : SeenBench). x.state) is))

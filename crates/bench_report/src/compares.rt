@@ -1,13 +1,14 @@
 // The compares of a play.
-ghost use Rattle.std.specs.Prelude.{◌≡◌, ◌≤◌, [], ◌∷◌, length, OnOk, OnErr, IfOk};
+ghost use Rattle.std.specs.Prelude.{◌≡◌, ◌+◌, ◌^◌, ◌<◌, ◌≤◌, [], ◌∷◌, length, OnOk, OnErr, IfOk};
 ghost use Rattle.ij_io.specs.Bytes.{Adds, AddsPart};
 ghost use Rattle.ij_io.specs.Causes.{HasCause};
+ghost use Rattle.net_bench.specs.Pieces.{piece_compares};
 ghost use Rattle.net_bench.specs.Playing.{compare_of, compares, after_pins, differing};
 ghost use Rattle.bench_report.specs.Report.{Names, chip_of, compare_at, named_lines};
 
 use crate::names::ReadNames;
 use ij_io::{Sink, StoreFault};
-use net_bench::Bench;
+use net_bench::{Bench, Played};
 use report::{Differ, put_differ};
 use tap_machine::{Pins, Player};
 
@@ -63,6 +64,29 @@ fn put_compare<N: ReadNames, K: Sink>(
     Ok(0)
 }
 
+/// Writes the lines of the compares of some clocks that differ; answers how many lines that are.
+fn put_piece<N: ReadNames, K: Sink>(
+    names: &mut N,
+    played: &Played,
+    k: &mut K,
+) -> Result<u64, StoreFault>
+    requires few { played.now.piece.count ≤ 64 }
+    requires short { played.now.piece.bit + played.now.piece.count < 2 ^ 32 }
+    ensures whole { OnOk result ((ns : Names) → N.AreNames names.old ns → Adds (K.taken k.old) (K.taken k.new) (named_lines ns (differing (piece_compares played.now)))) }
+    ensures count { IfOk result (λ n. n ≡ length (differing (piece_compares played.now))) }
+    ensures part { OnErr result ((ns : Names) → N.AreNames names.old ns → AddsPart (K.taken k.old) (K.taken k.new) (named_lines ns (differing (piece_compares played.now)))) }
+    ensures cause { HasCause (K.faults k.old) (K.faults k.new) result StoreFault.Failed }
+    ensures names { (ns : Names) → N.AreNames names.old ns → N.AreNames names.new ns }
+{
+    let mut differs = 0u64;
+    if played.may_differ() {
+        for i in 0..played.piece.count {
+            differs += put_compare(names, played.piece.at(i), played.found_at(i), k)?;
+        }
+    }
+    Ok(differs)
+}
+
 /// Plays to the end, and writes a line for each compare that differs.
 pub(crate) fn put_compares<N: ReadNames, K: Sink>(
     names: &mut N,
@@ -80,10 +104,9 @@ pub(crate) fn put_compares<N: ReadNames, K: Sink>(
 {
     let mut clocks = 0u64;
     let mut differs = 0u64;
-    while let Some(pins) = player.next() {
-        let found = bench.clock(pins.tms, pins.tdi);
-        differs += put_compare(names, pins, found, k)?;
-        clocks += 1;
+    while let Some(played) = bench.play(player) {
+        differs += put_piece(names, &played, k)?;
+        clocks += u64::from(played.piece.count);
     }
     Ok(Counted { clocks, differs })
 }

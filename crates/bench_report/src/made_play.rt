@@ -1,7 +1,8 @@
 // A play that is counted and not printed.
-ghost use Rattle.std.specs.Prelude.{◌≡◌, ◌≤◌, length, map, IfOk};
+ghost use Rattle.std.specs.Prelude.{◌≡◌, ◌+◌, ◌^◌, ◌<◌, ◌≤◌, length, map, IfOk};
 ghost use Rattle.bench_report.specs.Report.{chip_of, differs_of};
 ghost use Rattle.instruments.specs.Seen.{seen_model};
+ghost use Rattle.net_bench.specs.Pieces.{piece_compares};
 ghost use Rattle.net_bench.specs.Playing.{compare_of, compares, differing};
 ghost use Rattle.net_graph.specs.Nets.{IsNet};
 ghost use Rattle.instruments.specs.Runners.{AreModels};
@@ -10,7 +11,7 @@ ghost use Rattle.tap_machine.specs.Play.{pins, scans_in};
 
 use ij_bits::{List, OutOfMemory};
 use instruments::Model;
-use net_bench::Bench;
+use net_bench::{Bench, Played};
 use net_graph::{Device, Net};
 use std::alloc::Global;
 use svf_writer::Commands;
@@ -35,6 +36,21 @@ fn differs_at(pins: Pins, found: bool) -> u64
     0
 }
 
+/// How many compares of some clocks differ.
+fn differs_in(played: &Played) -> u64
+    requires few { played.now.piece.count ≤ 64 }
+    requires short { played.now.piece.bit + played.now.piece.count < 2 ^ 32 }
+    ensures { result ≡ length (differing (piece_compares played.now)) }
+{
+    let mut differs = 0u64;
+    if played.may_differ() {
+        for i in 0..played.piece.count {
+            differs += differs_at(played.piece.at(i), played.found_at(i));
+        }
+    }
+    differs
+}
+
 /// Plays to the end.
 fn count_play(player: &mut Player, bench: &mut Bench) -> Counted
     requires { length player.old.pins ≤ 1000000000 }
@@ -43,10 +59,9 @@ fn count_play(player: &mut Player, bench: &mut Bench) -> Counted
 {
     let mut clocks = 0u64;
     let mut differs = 0u64;
-    while let Some(pins) = player.next() {
-        let found = bench.clock(pins.tms, pins.tdi);
-        differs += differs_at(pins, found);
-        clocks += 1;
+    while let Some(played) = bench.play(player) {
+        differs += differs_in(&played);
+        clocks += u64::from(played.piece.count);
     }
     Counted { clocks, differs }
 }

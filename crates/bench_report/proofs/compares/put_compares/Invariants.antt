@@ -4,8 +4,8 @@ use Rattle.net_bench.specs.Playing.{after_pins, compares, differing}
 use Rattle.bench_report.specs.Report.{Names, chip_of, named_lines}
 use Rattle.bench_report.proofs.compares.put_compares.Given as goal
 
-abbrev pub invariant-loop-pins : goal.invariant-loop-pins
-invariant-loop-pins g l =
+abbrev pub invariant-loop-played : goal.invariant-loop-played
+invariant-loop-played g l =
     let chip = chip_of l.fn.bench in
     let left = differing (compares chip l.player.pins l.bench.state) in
     let all = differing (compares chip l.fn.player.pins l.fn.bench.state) in
@@ -19,5 +19,5 @@ invariant-loop-pins g l =
       later : g.K.Sink.faults l.fn.k ≤ g.K.Sink.faults l.k;
     }
 
-abbrev pub decreases-loop-pins : goal.decreases-loop-pins
-decreases-loop-pins g l = length l.player.pins
+abbrev pub decreases-loop-played : goal.decreases-loop-played
+decreases-loop-played g l = length l.player.pins

@@ -1,33 +1,37 @@
-use Rattle.std.proofs.Common.{◌≡◌, length, arith, ap, sym, ◌∙◌}
-use Rattle.bench_report.proofs.Counting.{few_of, few_differ, count_here}
+use Rattle.std.proofs.Common.{◌≡◌, ◌++◌, length, arith, ap, subst}
+use Rattle.bench_report.proofs.Counting.{few_differ, count_here, same_step}
 use Rattle.bench_report.specs.Report.{chip_of}
-use Rattle.net_bench.specs.Bench.{clock, tdo}
-use Rattle.net_bench.specs.Board.{SeenBench}
+use Rattle.net_bench.specs.Pieces.{piece_compares}
+use Rattle.net_bench.specs.Playing.{compares}
 use Rattle.bench_report.proofs.made_play.count_play.Goals as goal
 
+-- the compares that are left, those of the clocks that were played, and those that follow
 pub overflow_add-differs : goal.overflow_add-differs
 overflow_add-differs c =
     let chip = chip_of c.args.bench.now in
-    let p = c.in-Some.pins in
-    let few = few_differ chip c.args.player.now.pins c.args.bench.now.state in
-    let one = few_of p.expect p.scan p.bit c.clock-found.result in
-    omega (arith, few, one, c.differs_at-differs.ensures, c.loop-pins.invariant.differs, c.requires)
+    let s = c.loop-played.bench.state in
+    let left = compares chip c.loop-played.player.pins s in
+    let here = piece_compares c.in-Some.played in
+    let later = compares chip c.play.new.player.pins c.play.new.self.state in
+    let same : chip_of c.loop-played.bench ≡ chip = ap chip_of c.loop-played.invariant.same in
+    let given : left ≡ here ++ later = subst (λ d. compares d c.loop-played.player.pins s ≡ here ++ compares d c.play.new.player.pins c.play.new.self.state) same c.in-Some.ensures.compares in
+    omega (arith, few_differ chip c.args.player.now.pins c.args.bench.now.state, count_here left here later given, c.differs_in-differs.ensures, c.loop-played.invariant.differs, c.requires)
 
-pub loop-pins-preserved : goal.loop-pins-preserved
-loop-pins-preserved c =
+pub overflow_add-clocks : goal.overflow_add-clocks
+overflow_add-clocks c = omega (arith, c.in-Some.ensures.clocks, c.loop-played.invariant.clocks, c.requires)
+
+pub loop-played-preserved : goal.loop-played-preserved
+loop-played-preserved c =
     let chip = chip_of c.args.bench.now in
-    let s = c.loop-pins.bench.state in
-    let t = c.clock-found.new.self.state in
-    let p = c.in-Some.pins in
-    let ps = c.next.new.self.pins in
-    let found = c.clock-found.result in
-    let same : chip_of c.loop-pins.bench ≡ chip = ap chip_of c.loop-pins.invariant.same in
-    let is : found ≡ tdo chip s = c.clock-found.ensures.tdo ∙ ap (λ d. tdo d s) same in
-    let next : t ≡ clock chip p.tms p.tdi s = ap (λ b. b.state) c.clock-found.ensures.next ∙ ap (λ d. clock d p.tms p.tdi s) same in
-    let given = c.in-Some.ensures.given in
-    let count = count_here chip p ps c.loop-pins.player.pins s t found given is next in
+    let s = c.loop-played.bench.state in
+    let t = c.play.new.self.state in
+    let left = compares chip c.loop-played.player.pins s in
+    let here = piece_compares c.in-Some.played in
+    let later = compares chip c.play.new.player.pins t in
+    let same : chip_of c.loop-played.bench ≡ chip = ap chip_of c.loop-played.invariant.same in
+    let given : left ≡ here ++ later = subst (λ d. compares d c.loop-played.player.pins s ≡ here ++ compares d c.play.new.player.pins t) same c.in-Some.ensures.compares in
     record {
-      same = c.clock-found.ensures.next ∙ ap (λ (b : SeenBench). record b { state = clock (chip_of c.loop-pins.bench) p.tms p.tdi s }) c.loop-pins.invariant.same ∙ ap (λ u. record c.args.bench.now { state = u }) (sym (ap (λ b. b.state) c.clock-found.ensures.next));
-      clocks = omega (arith, ap length given, c.loop-pins.invariant.clocks);
-      differs = omega (arith, count, c.differs_at-differs.ensures, c.loop-pins.invariant.differs);
+      same = same_step c.play.new.self c.loop-played.bench c.args.bench.now _ c.in-Some.ensures.bench c.loop-played.invariant.same;
+      clocks = omega (arith, c.in-Some.ensures.clocks, c.loop-played.invariant.clocks);
+      differs = omega (arith, count_here left here later given, c.differs_in-differs.ensures, c.loop-played.invariant.differs);
     }

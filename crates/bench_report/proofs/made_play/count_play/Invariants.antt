@@ -3,8 +3,8 @@ use Rattle.bench_report.specs.Report.{chip_of}
 use Rattle.net_bench.specs.Playing.{compares, differing}
 use Rattle.bench_report.proofs.made_play.count_play.Given as goal
 
-abbrev pub invariant-loop-pins : goal.invariant-loop-pins
-invariant-loop-pins l =
+abbrev pub invariant-loop-played : goal.invariant-loop-played
+invariant-loop-played l =
     let chip = chip_of l.fn.bench in
     let left = differing (compares chip l.player.pins l.bench.state) in
     let all = differing (compares chip l.fn.player.pins l.fn.bench.state) in
@@ -14,5 +14,5 @@ invariant-loop-pins l =
       differs : l.differs + length left ≡ length all;
     }
 
-abbrev pub decreases-loop-pins : goal.decreases-loop-pins
-decreases-loop-pins l = length l.player.pins
+abbrev pub decreases-loop-played : goal.decreases-loop-played
+decreases-loop-played l = length l.player.pins
