@@ -1,7 +1,7 @@
--- The rows around registers, in a table.
+-- The rows around registers or around muxes, in a table.
 use Rattle.std.specs.Prelude.{◌≡◌, ◌<◌, ◌≤◌, ℕ, List, [], length, map, slice_index_or, All, Option, Some, None}
 use Rattle.net_graph.specs.declared.branch.Branch.{Branch}
-use Rattle.net_graph.specs.declared.net.Point.TheVariants.{Reg}
+use Rattle.net_graph.specs.declared.net.Point.{Point}
 use Rattle.net_tree.specs.declared.entry.Entry.{Entry}
 use Rattle.net_tree.specs.Seeking.{branch_of, seek, start}
 use Rattle.smallvec.specs.SmallVec.{SmallVec}
@@ -18,8 +18,8 @@ abbrev pub IsShort : Option (SmallVec Branch) → Type 0
 IsShort None = Unit {0}
 IsShort (Some place) = length place.items ≤ 16
 
--- what is known of each register in the table is what is found in the entries
-abbrev pub AreKnown : List Entry → List (Option (SmallVec Branch)) → Type 0
-AreKnown entries table =
+-- what is known of each item of a kind in the table is what is found in the entries
+abbrev pub AreKnown : (ℕ → Point) → List Entry → List (Option (SmallVec Branch)) → Type 0
+AreKnown kind entries table =
     All IsShort table
-    × ((r : ℕ) → r < length table → known_or (known_at table r) [] ≡ map branch_of (seek 0 entries start (Reg r)))
+    × ((i : ℕ) → i < length table → known_or (known_at table i) [] ≡ map branch_of (seek 0 entries start (kind i)))
