@@ -95,7 +95,8 @@ impl<'a> Direct<'a> {
     ) -> Result<Direct<'a>, OutOfMemory>
         requires well_formed { IsNet net.now }
         requires models { AreModels net.now models.now.items }
-        ensures { IfOk result (λ d. d ≡ record { net = net.now; models = models.now.items; state = power_up count_log net.now (machines_of models.now.items) }) }
+        ensures begins { IfOk result (λ d. d ≡ record { net = net.now; models = models.now.items; state = power_up count_log net.now (machines_of models.now.items) }) }
+        ensures insts { IfOk result (λ d. length d.state.insts ≡ length net.now.insts.items) }
     {
         Ok(Direct {
             values: DataState::power_up(alloc, net, models)?,
@@ -117,6 +118,7 @@ impl<'a> Direct<'a> {
         requires { IsStep self.old.net (seen_step step.now) }
         ensures ok { OnOk result (self.new ≡ record self.old { state = do_step count_log self.old.net (machines_of self.old.models) self.old.state (seen_step step.now) }) }
         ensures err { OnErr result (self.new ≡ self.old) }
+        ensures insts { length self.new.state.insts ≡ length self.old.state.insts }
     {
         match step {
             BitStep::Apply(rounds) => self.apply(rounds.as_slice()),
