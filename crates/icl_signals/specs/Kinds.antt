@@ -1,5 +1,5 @@
 -- What the network numbers (IEEE 1687-2014, ICL: ScanRegister, ScanMux, data ports, Alias), and how many stand before.
-use Rattle.std.specs.Prelude.{ℕ, ◌+◌, Bool, true, false, cond, List, [], ◌∷◌, get_or}
+use Rattle.std.specs.Prelude.{ℕ, ◌+◌, Bool, true, false, cond, is_some, List, [], ◌∷◌, get_or}
 use Rattle.icl_elab.specs.WellFormed.{is_register, is_mux, is_thing, is_data_out, is_data_in}
 use Rattle.icl_references.specs.Roles.{Role, ScanInput, ScanOutput, DataInput, DataOutput, PartOf, CellOf, part_width}
 use Rattle.icl_signals.specs.declared.parts.Kind.{Kind}
@@ -16,13 +16,13 @@ test_of Input = is_data_in
 abbrev pub is_of : Kind → PartOf → Bool
 is_of kind p = test_of kind p.role
 
--- the ports that signals pass through
-abbrev pub is_port : Role → Bool
-is_port (ScanInput bound) = true
-is_port (ScanOutput source) = true
-is_port (DataInput bound) = true
-is_port (DataOutput source) = true
-is_port role = false
+-- the ports that are bound, or have a source
+abbrev pub is_wired : Role → Bool
+is_wired (ScanInput bound) = is_some bound
+is_wired (ScanOutput source) = is_some source
+is_wired (DataInput bound) = is_some bound
+is_wired (DataOutput source) = is_some source
+is_wired role = false
 
 abbrev pub one_if : Bool → ℕ
 one_if b = cond b 1 0
@@ -46,23 +46,23 @@ numbers_from kind n (c ∷ cs) = before (is_of kind) n c.parts ∷ numbers_from 
 abbrev pub number_at : List (List ℕ) → ℕ → ℕ → ℕ
 number_at table cell part = get_or (get_or table cell []) part 0
 
--- ---- places of ports' bits
+-- ---- places of wired ports' bits
 
--- the bits of a port, none of another part
-abbrev pub port_bits : PartOf → ℕ
-port_bits p = cond (is_port p.role) (part_width p) 0
+-- the bits of a wired port, none of another part
+abbrev pub wired_bits : PartOf → ℕ
+wired_bits p = cond (is_wired p.role) (part_width p) 0
 
--- for each part how many bits of ports stand before it, after a number of earlier ones
+-- for each part how many bits of wired ports stand before it, after a number of earlier ones
 abbrev pub bits_before : ℕ → List PartOf → List ℕ
 bits_before n [] = []
-bits_before n (p ∷ ps) = n ∷ bits_before (n + port_bits p) ps
+bits_before n (p ∷ ps) = n ∷ bits_before (n + wired_bits p) ps
 
 -- how many there are with these parts
 abbrev pub with_bits : ℕ → List PartOf → ℕ
 with_bits n [] = n
-with_bits n (p ∷ ps) = with_bits (n + port_bits p) ps
+with_bits n (p ∷ ps) = with_bits (n + wired_bits p) ps
 
--- for each part of each cell, how many bits of ports stand before it in the whole hierarchy
+-- for each part of each cell, how many bits of wired ports stand before it in the whole hierarchy
 abbrev pub places_from : ℕ → List CellOf → List (List ℕ)
 places_from n [] = []
 places_from n (c ∷ cs) = bits_before n c.parts ∷ places_from (with_bits n c.parts) cs

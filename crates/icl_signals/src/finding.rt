@@ -6,7 +6,7 @@ ghost use Rattle.icl_signals.specs.Found.{IsFound, AreFound, turned_end};
 use crate::entries::next;
 use crate::following::{Next, one_move};
 use crate::found::{Found, Note, known, same_wire, turned_end, with_note};
-use crate::parts::{is_port, width_of};
+use crate::parts::{is_wired, width_of};
 use crate::wires::{End, Wire};
 use crate::wiring::Wiring;
 use icl_elab::{Cell, Part};
@@ -118,7 +118,7 @@ fn with_trace(wiring: &Wiring, ends: Vec<Option<Note>>, wire: Wire) -> Vec<Optio
     }
 }
 
-/// The ends with those of the traces of a part's bits, if it is a port: a bit of another part is an end.
+/// The ends with those of the traces of a part's bits, if it is a wired port: a bit of another part is an end.
 fn with_part(
     wiring: &Wiring,
     ends: Vec<Option<Note>>,
@@ -131,7 +131,7 @@ fn with_part(
     ensures { IfOk result (λ all. AreFound (cells_of wiring.now) wiring.now.entry all.items) }
 {
     let mut ends = ends;
-    if is_port(&what.body) {
+    if is_wired(&what.body) {
         let width = width_of(what)?;
         for pos in 0..width {
             ends = with_trace(wiring, ends, Wire { cell, part, pos });

@@ -5,7 +5,7 @@ ghost use Rattle.std.specs.Option.{option_map};
 ghost use Rattle.icl_elab.specs.WellFormed.{is_data_port, is_not_of_instrument, is_instrument};
 ghost use Rattle.icl_references.specs.Roles.{part_at, part_width, seen_body, seen_part, seen_cell, seen_hier};
 ghost use Rattle.icl_signals.specs.Moves.{is_top};
-ghost use Rattle.icl_signals.specs.Kinds.{is_port, test_of};
+ghost use Rattle.icl_signals.specs.Kinds.{is_wired, test_of};
 
 use icl_elab::{Body, Cell, Hier, Part};
 use ij_bits::OutOfMemory;
@@ -93,14 +93,17 @@ pub(crate) fn is_of(kind: Kind, body: &Body) -> bool
     }
 }
 
-/// Whether a part is a port that signals pass through. Takes no memory.
-pub(crate) fn is_port(body: &Body) -> bool
-    ensures { result ≡ is_port (seen_body body.now) }
+/// Whether a part is a port that is bound, or has a source: a bit of each other part stands for no other one. Takes no memory.
+pub(crate) fn is_wired(body: &Body) -> bool
+    ensures { result ≡ is_wired (seen_body body.now) }
 {
-    matches!(
-        body,
-        Body::ScanIn { .. } | Body::ScanOut { .. } | Body::DataIn { .. } | Body::DataOut { .. }
-    )
+    match body {
+        Body::ScanIn { bound } => bound.is_some(),
+        Body::ScanOut { source } => source.is_some(),
+        Body::DataIn { bound } => bound.is_some(),
+        Body::DataOut { source } => source.is_some(),
+        _ => false,
+    }
 }
 
 fn is_data_port(body: &Body) -> bool

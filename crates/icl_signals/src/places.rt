@@ -1,16 +1,16 @@
-// Places in a table for the bits of ports. An entry of the table says which bit it is of, so no answer depends on these numbers.
+// Places in a table for the bits of wired ports. An entry of the table says which bit it is of, so no answer depends on these numbers.
 ghost use Rattle.std.specs.Prelude.{◌≡◌, ◌+◌, map, IfOk};
 ghost use Rattle.icl_references.specs.Roles.{seen_part, seen_cell};
-ghost use Rattle.icl_signals.specs.Kinds.{number_at, port_bits, bits_before, with_bits, places_from, all_bits};
+ghost use Rattle.icl_signals.specs.Kinds.{number_at, wired_bits, bits_before, with_bits, places_from, all_bits};
 
 use crate::numbers::number_at;
-use crate::parts::{is_port, width_of};
+use crate::parts::{is_wired, width_of};
 use crate::wires::Wire;
 use icl_elab::{Cell, Part};
 use ij_bits::OutOfMemory;
 use std::alloc::Global;
 
-/// For each part how many bits of ports stand before it, and how many there are after the last one.
+/// For each part how many bits of wired ports stand before it, and how many there are after the last one.
 #[derive(Drop)]
 pub(crate) struct BitsBefore {
     /// For each part.
@@ -19,7 +19,7 @@ pub(crate) struct BitsBefore {
     count: u32,
 }
 
-/// For each part of each cell how many bits of ports stand before it, and how many there are.
+/// For each part of each cell how many bits of wired ports stand before it, and how many there are.
 #[derive(Drop)]
 pub struct Places {
     /// For each part of each cell.
@@ -28,11 +28,11 @@ pub struct Places {
     pub(crate) count: u32,
 }
 
-/// The bits of a port, none of another part.
-fn port_bits(part: &Part) -> Result<u32, OutOfMemory>
-    ensures { IfOk result (λ n. n ≡ port_bits (seen_part part.now)) }
+/// The bits of a wired port, none of another part.
+fn wired_bits(part: &Part) -> Result<u32, OutOfMemory>
+    ensures { IfOk result (λ n. n ≡ wired_bits (seen_part part.now)) }
 {
-    if is_port(&part.body) {
+    if is_wired(&part.body) {
         width_of(part)
     } else {
         Ok(0)
@@ -57,7 +57,7 @@ fn bits_before(alloc: Global, count: u32, parts: &[Part]) -> Result<BitsBefore, 
     let mut next = count;
     for part in parts {
         numbers.push(next)?;
-        next = added(next, port_bits(part)?)?;
+        next = added(next, wired_bits(part)?)?;
     }
     Ok(BitsBefore {
         numbers,
@@ -65,7 +65,7 @@ fn bits_before(alloc: Global, count: u32, parts: &[Part]) -> Result<BitsBefore, 
     })
 }
 
-/// Places for the bits of all ports.
+/// Places for the bits of all wired ports.
 pub(crate) fn places_of(alloc: Global, cells: &[Cell]) -> Result<Places, OutOfMemory>
     ensures numbers { IfOk result (λ p. map (λ row. row.items) p.numbers.items ≡ places_from 0 (map seen_cell cells.now)) }
     ensures count { IfOk result (λ p. p.count ≡ all_bits 0 (map seen_cell cells.now)) }
@@ -80,7 +80,7 @@ pub(crate) fn places_of(alloc: Global, cells: &[Cell]) -> Result<Places, OutOfMe
     Ok(Places { numbers, count })
 }
 
-/// The place of a bit of a port. Takes no memory.
+/// The place of a bit of a wired port. Takes no memory.
 pub(crate) fn place_of(places: &Places, wire: Wire) -> usize
     ensures { result ≡ number_at (map (λ row. row.items) places.now.numbers.items) wire.cell wire.part + wire.pos }
 {

@@ -35,9 +35,9 @@ pub struct Wiring<'a> {
     pub(crate) entry: Wire,
     /// How many bits a trace looks at until it must have come back to one.
     pub(crate) looks: u64,
-    /// Places for the bits of ports.
+    /// Places for the bits of wired ports.
     pub(crate) places: Places,
-    /// Where traces of bits of ports end, each at its bit's place: none at first.
+    /// Where traces of bits of wired ports end, each at its bit's place: none at first.
     pub(crate) ends: Vec<Option<Note>>,
 }
 

@@ -161,7 +161,7 @@ fn a_copy_of_a_network_has_its_parts_and_no_room_to_spare(rt: HostRuntime) {
     let row = open(alloc, 1).expect(&rt, "open bits");
     let word = open(alloc, 2).expect(&rt, "open bits");
     let net = network(alloc, reset, row, word);
-    let mut copy = trim(alloc, &net).expect(&rt, "a copy");
+    let mut copy = trim(alloc, net).expect(&rt, "a copy");
     assert_eq!(rt; parts_are_there(&copy), [true; 5]);
     let nodes = replace(&mut copy.nodes, List::new(alloc));
     let regs = replace(&mut copy.regs, List::new(alloc));

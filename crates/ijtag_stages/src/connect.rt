@@ -56,6 +56,6 @@ pub fn connect_hierarchy(alloc: Global, hier: &Hier, device: &Device) -> Result<
     nets_are_well_formed();
     views_are_kept();
     let found = connect_ends(alloc, hier, device)?;
-    let net = trim(alloc, &found)?;
+    let net = trim(alloc, found)?;
     Ok(net)
 }

@@ -4,7 +4,7 @@ ghost use Rattle.ij_bits.specs.Room.{full};
 ghost use Rattle.icl_signals.specs.PlainNets.{seen_reg, seen_row, seen_mux, seen_input, seen_output, seen_inst, seen_node, seen_thing};
 ghost use Rattle.trimmed_net.specs.Trimmed.{trimmed_reg, trimmed_row, trimmed_mux, trimmed_input, trimmed_output, trimmed_inst, trimmed_node, trimmed_thing};
 
-use crate::lists::{list_copy, list_for, names_copy};
+use crate::lists::{list_copy, list_for, list_trimmed, names_copy};
 use crate::terns::{tern_copy, terns_copy, words_copy};
 use ij_bits::{List, OutOfMemory};
 use net_graph::{Inst, Mux, Node, PortIn, PortOut, Reg, Row, Thing};
@@ -171,12 +171,12 @@ pub(crate) fn nodes_copy(alloc: Global, nodes: &[Node]) -> Result<List<Node>, Ou
 }
 
 /// The same named thing.
-fn thing_copy(alloc: Global, thing: &Thing) -> Result<Thing, OutOfMemory>
-    ensures { IfOk result (λ copy. copy ≡ trimmed_thing (seen_thing thing.now)) }
+fn thing_trimmed(alloc: Global, thing: Thing) -> Result<Thing, OutOfMemory>
+    ensures { IfOk result (λ trimmed. trimmed ≡ trimmed_thing (seen_thing thing)) }
 {
     let name = list_copy(alloc, thing.name.as_slice())?;
-    let bits = list_copy(alloc, thing.bits.as_slice())?;
     let words = words_copy(alloc, thing.words.as_slice())?;
+    let bits = list_trimmed(alloc, thing.bits)?;
     Ok(Thing {
         node: thing.node,
         name,
@@ -187,13 +187,18 @@ fn thing_copy(alloc: Global, thing: &Thing) -> Result<Thing, OutOfMemory>
     })
 }
 
-/// The same named things.
-pub(crate) fn things_copy(alloc: Global, things: &[Thing]) -> Result<List<Thing>, OutOfMemory>
-    ensures { IfOk result (λ copy. copy ≡ full (map trimmed_thing (map seen_thing things.now))) }
+/// The same named things. Of two lists of bits one is there at a time.
+pub(crate) fn things_trimmed(
+    alloc: Global,
+    things: List<Thing>,
+) -> Result<List<Thing>, OutOfMemory>
+    ensures { IfOk result (λ trimmed. trimmed ≡ full (map trimmed_thing (map seen_thing things.items))) }
 {
-    let mut copy = list_for(alloc, things.len())?;
-    for thing in things {
-        copy.push_reserved(thing_copy(alloc, thing)?);
+    let mut trimmed = list_for(alloc, things.len())?;
+    let mut left = things.into_vec();
+    left.reverse();
+    while let Some(thing) = left.pop() {
+        trimmed.push_reserved(thing_trimmed(alloc, thing)?);
     }
-    Ok(copy)
+    Ok(trimmed)
 }
