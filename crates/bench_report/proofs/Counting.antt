@@ -8,7 +8,7 @@ use Rattle.report.specs.Differs.{differ_text}
 use Rattle.instruments.specs.declared.Counts.{Counts}
 use Rattle.net_bench.specs.Board.{SeenBench}
 use Rattle.net_bench.specs.Pieces.{pin_compares}
-use Rattle.net_bench.specs.Playing.{Compare, compare_of, compares, after_pins, differing}
+use Rattle.net_bench.specs.Playing.{Compare, compare_of, compares, differing}
 use Rattle.tap_machine.specs.declared.Pins.{Pins}
 use Rattle.bench_report.specs.Report.{Names, compare_at, named_lines}
 pub use Rattle.net_bench.proofs.Differing.{differing_both}

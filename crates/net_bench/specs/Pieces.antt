@@ -2,7 +2,6 @@
 use Rattle.std.specs.Prelude.{◌≡◌, ◌≤◌, ℕ, List, [], ◌∷◌, ◌++◌, Bool, length, Option, Some, None}
 use Rattle.ij_bits.specs.BitLists.{bits_of}
 use Rattle.tap_machine.specs.declared.Pins.{Pins}
-use Rattle.tap_machine.specs.declared.Piece.{Piece}
 use Rattle.tap_machine.specs.declared.TapState.TheVariants.{ShiftDr}
 use Rattle.tap_machine.specs.Pieces.{piece_pins}
 use Rattle.net_bench.specs.Bench.{Chip, State, clock, tdo}

@@ -23,6 +23,12 @@ shifted_at p found = record { tdi = p.tdi; expect = p.expect; found = found }
 abbrev pub last_bit : {L : Type 0} → Pins → Bool → State L → Scan L
 last_bit p found after = record { number = p.scan; bits = shifted_at p found ∷ []; state = after }
 
+-- the bits of some clocks, by what was found in them
+abbrev pub shifted_bits : List Pins → List Bool → List Shifted
+shifted_bits [] fs = []
+shifted_bits (p ∷ ps) [] = []
+shifted_bits (p ∷ ps) (f ∷ fs) = shifted_at p f ∷ shifted_bits ps fs
+
 -- one clock, by the pins, the bit at TDO and the state after it, and the scans after it: where nothing is shifted it is in no scan, at the
 -- last bit of a scan TMS is 1, and any other bit goes on with the next one
 abbrev pub with_clock : {L : Type 0} → Pins → Bool → State L → List (Scan L) → List (Scan L)

@@ -1,11 +1,13 @@
 // The scans of a play, one at a time.
-ghost use Rattle.std.specs.Prelude.{◌≡◌, ◌++◌, ◌∷◌, [], IfOk, MatchOption, OnOk};
+ghost use Rattle.std.specs.Prelude.{◌≡◌, ◌++◌, ◌∷◌, ◌+◌, ◌<◌, ◌≤◌, ◌^◌, [], IfOk, MatchOption, OnOk};
+ghost use Rattle.ij_bits.specs.BitLists.{bits_of};
 ghost use Rattle.bench_report.specs.Report.{chip_of};
-ghost use Rattle.svf_notes.specs.Scans.{scans_of, shifted_at};
+ghost use Rattle.svf_notes.specs.Scans.{scans_of, shifted_bits};
+ghost use Rattle.tap_machine.specs.Pieces.{piece_pins};
 
 use ij_bits::{List, OutOfMemory};
-use net_bench::Bench;
-use tap_machine::{Pins, Player};
+use net_bench::{Bench, Played};
+use tap_machine::Player;
 
 /// What stands at TDI and TDO at one clock that shifts, and what is expected at TDO.
 #[derive(Clone, Copy, Drop)]
@@ -26,15 +28,21 @@ pub(crate) enum Shown {
     Found,
 }
 
-/// Adds the bit of a clock that shifts.
-fn add_bit(pins: &Pins, found: bool, bits: &mut List<Shifted>) -> Result<(), OutOfMemory>
-    ensures { OnOk result (bits.new.items ≡ bits.old.items ++ shifted_at pins.now found ∷ []) }
+/// Adds the bits of some clocks that shift.
+fn add_bits(played: &Played, bits: &mut List<Shifted>) -> Result<(), OutOfMemory>
+    requires few { played.now.piece.count ≤ 64 }
+    requires short { played.now.piece.bit + played.now.piece.count < 2 ^ 32 }
+    ensures { OnOk result (bits.new.items ≡ bits.old.items ++ shifted_bits (piece_pins played.now.piece) (bits_of played.now.piece.count played.now.found)) }
 {
-    bits.push(Shifted {
-        tdi: pins.tdi,
-        expect: pins.expect,
-        found,
-    })
+    for i in 0..played.piece.count {
+        let pins = played.piece.at(i);
+        bits.push(Shifted {
+            tdi: pins.tdi,
+            expect: pins.expect,
+            found: played.found_at(i),
+        })?;
+    }
+    Ok(())
 }
 
 /// Plays up to the last shift clock of the next scan, so before its update; answers the scan's number, and `None` where
@@ -48,12 +56,11 @@ pub(crate) fn next_scan(
     ensures scan { IfOk result (λ number. MatchOption number ((scans_of (chip_of bench.old) player.old.pins bench.old.state ≡ []) × (player.new.pins ≡ [])) (λ n. scans_of (chip_of bench.old) player.old.pins bench.old.state ≡ record { number = n; bits = bits.new.items; state = bench.new.state } ∷ scans_of (chip_of bench.old) player.new.pins bench.new.state)) }
 {
     bits.clear();
-    while let Some(pins) = player.next() {
-        let found = bench.clock(pins.tms, pins.tdi);
-        if pins.scan != 0 {
-            add_bit(&pins, found, bits)?;
-            if pins.tms {
-                return Ok(Some(pins.scan));
+    while let Some(played) = bench.play(player) {
+        if played.piece.scan != 0 {
+            add_bits(&played, bits)?;
+            if played.piece.tms {
+                return Ok(Some(played.piece.scan));
             }
         }
     }

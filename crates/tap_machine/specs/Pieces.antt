@@ -1,5 +1,5 @@
 -- What several clocks of a play at once stand for.
-use Rattle.std.specs.Prelude.{ℕ, suc, ◌<◌, ◌^◌, Bool, false, cond, List, [], ◌∷◌, get_or, drop, Option, None}
+use Rattle.std.specs.Prelude.{ℕ, suc, Bool, false, cond, List, [], ◌∷◌, get_or, drop, Option, None}
 use Rattle.ij_bits.specs.BitLists.{bits_of}
 use Rattle.tap_machine.specs.declared.Pins.{Pins}
 use Rattle.tap_machine.specs.declared.Piece.{Piece}

@@ -1,4 +1,4 @@
-use Rattle.std.proofs.Common.{◌≡◌, ◌++◌, ℕ, List, length, arith, ap, sym, ◌∙◌, subst}
+use Rattle.std.proofs.Common.{◌≡◌, ◌++◌, ℕ, List, arith, ap, sym, ◌∙◌, subst}
 use Rattle.ij_io.proofs.Adding.{at_refusal}
 use Rattle.ij_io.specs.Bytes.{AddsPart}
 use Rattle.ij_io.proofs.Fronts.{AddsFront, front_next, front_part}

@@ -1,4 +1,4 @@
-use Rattle.std.proofs.Common.{◌≡◌, ◌++◌, length, arith, ap, subst}
+use Rattle.std.proofs.Common.{◌≡◌, ◌++◌, arith, ap, subst}
 use Rattle.bench_report.proofs.Counting.{few_differ, count_here, same_step}
 use Rattle.bench_report.specs.Report.{chip_of}
 use Rattle.net_bench.specs.Pieces.{piece_compares}

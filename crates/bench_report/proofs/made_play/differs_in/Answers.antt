@@ -1,6 +1,6 @@
 use Rattle.std.proofs.Common.{◌≡◌, ◌+◌, arith, ap, drop, length}
 use Rattle.ij_bits.specs.BitLists.{bits_of}
-use Rattle.net_bench.specs.Pieces.{piece_compares, pin_compares}
+use Rattle.net_bench.specs.Pieces.{pin_compares}
 use Rattle.net_bench.specs.Playing.{compare_of, differing}
 use Rattle.tap_machine.specs.Pieces.{piece_pins}
 use Rattle.tap_machine.proofs.Pieces.{length-piece_pins}

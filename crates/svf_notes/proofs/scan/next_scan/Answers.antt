@@ -1,45 +1,67 @@
-use Rattle.std.proofs.Common.{◌≡◌, false, arith, refl, ap, sym, ◌∙◌}
+use Rattle.std.proofs.Common.{◌≡◌, false, true, arith, refl, ap, ◌∙◌}
 use Rattle.std.specs.Prelude.{◌==◌}
 use Rattle.std.proofs.lemmas.Bool.Decides.{nat_tests}
-use Rattle.net_bench.specs.Bench.{clock, tdo}
-use Rattle.net_bench.specs.Board.{SeenBench}
+use Rattle.ij_bits.specs.BitLists.{bits_of}
+use Rattle.net_bench.specs.Pieces.{tdos}
+use Rattle.net_bench.specs.Playing.{after_pins}
+use Rattle.tap_machine.specs.Pieces.{piece_pins}
+use Rattle.bench_report.proofs.Counting.{same_step}
 use Rattle.bench_report.specs.Report.{chip_of}
 use Rattle.svf_notes.specs.Scans.{scans_of}
-use Rattle.svf_notes.proofs.Scanning.{ends, goes_on, no_clock}
+use Rattle.svf_notes.proofs.Scanning.{ends, goes_on, in_none, no_clock}
 use Rattle.svf_notes.proofs.scan.next_scan.Goals as goal
 
-pub returns-then-pins-clause-scan : goal.returns-then-pins-clause-scan
-returns-then-pins-clause-scan c =
+pub returns-then-played-clause-scan : goal.returns-then-played-clause-scan
+returns-then-played-clause-scan c =
     let chip = chip_of c.args.bench.now in
-    let s = c.loop-pins.bench.state in
-    let t = c.clock-found.new.self.state in
-    let p = c.in-Some.pins in
-    let found = c.clock-found.result in
-    let same : chip_of c.loop-pins.bench ≡ chip = ap chip_of c.loop-pins.invariant.same in
-    let is : found ≡ tdo chip s = c.clock-found.ensures.tdo ∙ ap (λ d. tdo d s) same in
-    let next : t ≡ clock chip p.tms p.tdi s = ap (λ b. b.state) c.clock-found.ensures.next ∙ ap (λ d. clock d p.tms p.tdi s) same in
-    let shifts : (p.scan == 0) ≡ false = grind (arith, nat_tests) in
-    ends chip p c.next.new.self.pins c.loop-pins.player.pins s t found c.loop-pins.bits.items (scans_of chip c.args.player.now.pins c.args.bench.now.state) c.in-Some.ensures.given is next c.loop-pins.invariant.left shifts
-    c.if-pins.true c.add_bit.new.bits.items c.in_ok-add_bit.ensures
+    let s = c.loop-played.bench.state in
+    let t = c.play.new.self.state in
+    let piece = c.in-Some.played.piece in
+    let pins = piece_pins piece in
+    let found = bits_of piece.count c.in-Some.played.found in
+    let same : chip_of c.loop-played.bench ≡ chip = ap chip_of c.loop-played.invariant.same in
+    let is : found ≡ tdos chip pins s = c.in-Some.ensures.found ∙ ap (λ d. tdos d pins s) same in
+    let next : t ≡ after_pins chip pins s = ap (λ b. b.state) c.in-Some.ensures.bench ∙ ap (λ d. after_pins d pins s) same in
+    let shifts : (piece.scan == 0) ≡ false = grind (arith, nat_tests) in
+    ends chip piece c.play.new.player.pins c.loop-played.player.pins s t found c.loop-played.bits.items (scans_of chip c.args.player.now.pins c.args.bench.now.state) c.in-Some.ensures.given is next c.loop-played.invariant.left
+    shifts c.add_bits.new.bits.items c.in_ok-add_bits.ensures c.if-played.true c.in-Some.ensures.some
 
-pub loop-pins-preserved-else-pins : goal.loop-pins-preserved-else-pins
-loop-pins-preserved-else-pins c =
+pub loop-played-preserved-else-played : goal.loop-played-preserved-else-played
+loop-played-preserved-else-played c =
     let chip = chip_of c.args.bench.now in
-    let s = c.loop-pins.bench.state in
-    let t = c.clock-found.new.self.state in
-    let p = c.in-Some.pins in
-    let found = c.clock-found.result in
-    let same : chip_of c.loop-pins.bench ≡ chip = ap chip_of c.loop-pins.invariant.same in
-    let is : found ≡ tdo chip s = c.clock-found.ensures.tdo ∙ ap (λ d. tdo d s) same in
-    let next : t ≡ clock chip p.tms p.tdi s = ap (λ b. b.state) c.clock-found.ensures.next ∙ ap (λ d. clock d p.tms p.tdi s) same in
-    let shifts : (p.scan == 0) ≡ false = grind (arith, nat_tests) in
+    let s = c.loop-played.bench.state in
+    let t = c.play.new.self.state in
+    let piece = c.in-Some.played.piece in
+    let pins = piece_pins piece in
+    let found = bits_of piece.count c.in-Some.played.found in
+    let same : chip_of c.loop-played.bench ≡ chip = ap chip_of c.loop-played.invariant.same in
+    let is : found ≡ tdos chip pins s = c.in-Some.ensures.found ∙ ap (λ d. tdos d pins s) same in
+    let next : t ≡ after_pins chip pins s = ap (λ b. b.state) c.in-Some.ensures.bench ∙ ap (λ d. after_pins d pins s) same in
+    let shifts : (piece.scan == 0) ≡ false = grind (arith, nat_tests) in
     record {
-      same = c.clock-found.ensures.next ∙ ap (λ (b : SeenBench). record b { state = clock (chip_of c.loop-pins.bench) p.tms p.tdi s }) c.loop-pins.invariant.same ∙ ap (λ u. record c.args.bench.now { state = u }) (sym (ap (λ b. b.state) c.clock-found.ensures.next));
-      left = goes_on chip p c.next.new.self.pins c.loop-pins.player.pins s t found c.loop-pins.bits.items (scans_of chip c.args.player.now.pins c.args.bench.now.state) c.in-Some.ensures.given is next c.loop-pins.invariant.left shifts
-          c.if-pins.false c.add_bit.new.bits.items c.in_ok-add_bit.ensures;
+      same = same_step c.play.new.self c.loop-played.bench c.args.bench.now _ c.in-Some.ensures.bench c.loop-played.invariant.same;
+      left = goes_on chip piece c.play.new.player.pins c.loop-played.player.pins s t found c.loop-played.bits.items (scans_of chip c.args.player.now.pins c.args.bench.now.state) c.in-Some.ensures.given is next c.loop-played.invariant.left
+          shifts c.add_bits.new.bits.items c.in_ok-add_bits.ensures c.if-played.false;
     }
 
 pub returns-clause-scan : goal.returns-clause-scan
 returns-clause-scan c =
     let chip = chip_of c.args.bench.now in
-    (no_clock chip c.loop-pins.player.pins c.loop-pins.bench.state c.loop-pins.bits.items (scans_of chip c.args.player.now.pins c.args.bench.now.state) c.in_default.ensures.given c.loop-pins.invariant.left, c.in_default.ensures.end refl)
+    (no_clock chip c.loop-played.player.pins c.loop-played.bench.state c.loop-played.bits.items (scans_of chip c.args.player.now.pins c.args.bench.now.state) (c.in_default.ensures.given ∙ c.in_default.ensures.end refl) c.loop-played.invariant.left, c.in_default.ensures.end refl)
+
+pub loop-played-preserved : goal.loop-played-preserved
+loop-played-preserved c =
+    let chip = chip_of c.args.bench.now in
+    let s = c.loop-played.bench.state in
+    let t = c.play.new.self.state in
+    let piece = c.in-Some.played.piece in
+    let pins = piece_pins piece in
+    let found = bits_of piece.count c.in-Some.played.found in
+    let same : chip_of c.loop-played.bench ≡ chip = ap chip_of c.loop-played.invariant.same in
+    let is : found ≡ tdos chip pins s = c.in-Some.ensures.found ∙ ap (λ d. tdos d pins s) same in
+    let next : t ≡ after_pins chip pins s = ap (λ b. b.state) c.in-Some.ensures.bench ∙ ap (λ d. after_pins d pins s) same in
+    let none : (piece.scan == 0) ≡ true = grind (arith, nat_tests) in
+    record {
+      same = same_step c.play.new.self c.loop-played.bench c.args.bench.now _ c.in-Some.ensures.bench c.loop-played.invariant.same;
+      left = in_none chip piece c.play.new.player.pins c.loop-played.player.pins s t found c.loop-played.bits.items (scans_of chip c.args.player.now.pins c.args.bench.now.state) c.in-Some.ensures.given is next c.loop-played.invariant.left none;
+    }

@@ -1,4 +1,4 @@
-use Rattle.std.proofs.Common.{◌≡◌, ◌<◌, ◌∙◌, List, Bool, Option, length, ap, sym, arith}
+use Rattle.std.proofs.Common.{◌<◌, ◌∙◌, List, Bool, length, ap, sym, arith}
 use Rattle.ij_bits.specs.BitLists.{bits_of}
 use Rattle.ij_bits.proofs.WordBits.{length-bits_of}
 use Rattle.net_graph.specs.Signals.{Holds}

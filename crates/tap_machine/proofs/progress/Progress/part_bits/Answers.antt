@@ -1,4 +1,4 @@
-use Rattle.std.proofs.Common.{◌≡◌, ◌+◌, ◌≤◌, ◌∙◌, List, Bool, [], ap, sym, length, slice_range, arith}
+use Rattle.std.proofs.Common.{◌≡◌, ◌+◌, ◌∙◌, List, Bool, [], ap, sym, length, slice_range, arith}
 use Rattle.std.specs.Prelude.{replicate, unwrap_or}
 use Rattle.svf_writer.specs.Lent.{lent}
 use Rattle.tap_machine.proofs.Pieces.{bits_of_part, length-part, part-replicate}
