@@ -73,6 +73,6 @@ pub(crate) fn put_group<K: Sink>(
     ensures scannable { IsScannable net.now holds.new }
     ensures room { HasScanRoom net.now buffers.new }
 {
-    let plans = plan_group(alloc, net, tree, holds, group)?;
+    let plans = plan_group(alloc, net, tree, holds, group, &mut buffers.route)?;
     put_plans(net, tree, holds, plans.as_slice(), buffers, k)
 }

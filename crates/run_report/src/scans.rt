@@ -99,7 +99,7 @@ fn note_group(
     ensures scannable { OnOk result (IsScannable net.now holds.new) }
     ensures room { HasRoom net.now route.new }
 {
-    let plans = plan_group(alloc, net, tree, holds, group)?;
+    let plans = plan_group(alloc, net, tree, holds, group, route)?;
     note_plans(net, tree, holds, plans.as_slice(), scans, route, places)?;
     Ok(plans.len() as u32)
 }

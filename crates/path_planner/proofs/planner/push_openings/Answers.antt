@@ -63,6 +63,6 @@ opening-preserved c =
       room = c.walk.ensures.room;
     }
 
-pub returns : goal.returns
-returns c =
+pub returns-clause-plans : goal.returns-clause-plans
+returns-clause-plans c =
     last_plan c.args.net.now c.args.tree.now (seen_group c.args.group.now) c.args.now.now c.opening.now c.opening.route.items c.as_slice.result.now c.args.regs.now c.all_on.result c.opening.plans.items c.push_group.new.plans.items c.requires.not_empty c.opening.invariant.path (c.as_slice.ensures ∙ ap (λ (l : Listed ℕ). l.items) c.regs.ensures) c.requires.regs c.all_on.ensures c.opening-test.false c.opening.invariant.so_far c.in_ok-push_group.ensures
