@@ -1,5 +1,5 @@
 // What a file or a text is refused for, and the line that tells it.
-ghost use Rattle.std.specs.Prelude.{◌≡◌, ◌∷◌, [], ◌++◌, OnOk, OnErr, IfOk, Some, codes, map};
+ghost use Rattle.std.specs.Prelude.{◌≡◌, ◌≢◌, ◌∷◌, [], ◌++◌, OnOk, OnErr, IfOk, Some, codes, map};
 ghost use Rattle.std.specs.List.{flat_map};
 ghost use Rattle.ij_io.specs.Bytes.{Adds, AddsPart};
 ghost use Rattle.ij_io.specs.Causes.{HasCause};
@@ -139,7 +139,8 @@ fn two(alloc: Global, first: Arg, second: Arg) -> Result<List<Arg>, OutOfMemory>
 
 /// A refusal with nothing after its cause. Takes no memory.
 pub fn refused(alloc: Global, stage: Stage, kind: &'static [u8]) -> StageFault
-    ensures { IsToldAs (Some (refused stage kind.now)) result }
+    ensures told { IsToldAs (Some (refused stage kind.now)) result }
+    ensures sure { result ≢ stage_fault.OutOfMemory }
 {
     let args = List::new(alloc);
     StageFault::Refused(Refusal { stage, kind, args })
