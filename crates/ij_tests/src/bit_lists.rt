@@ -136,7 +136,9 @@ fn a_ring_shifts_many_bits_at_once_over_its_end(rt: HostRuntime) {
     let mut ring = Ring::zeros(alloc, 72).expect(&rt, "zeros");
     ring.copy_from(&bits);
     assert!(rt; ring.shift_number(0x7654_3210_FEDC_BA98, 60) == 0x0123_4567_89AB_CDEF);
+    assert!(rt; ring.len() == 72);
     assert!(rt; ring.shift_number(0x0FED_CBA9_8765_4321, 64) == 0x4321_0FED_CBA9_85A0);
+    assert!(rt; ring.len() == 72);
     let mut part = Bits::zeros(alloc, 8).expect(&rt, "zeros");
     ring.part_into(0, &mut part);
     check_parts(&rt, alloc, &part, &[(0, 8, b"65")]);
