@@ -44,12 +44,7 @@ impl HeldPath {
     }
 
     /// The active path of what the update stages hold.
-    pub fn of(
-        alloc: Global,
-        net: &Net,
-        tree: &Tree,
-        holds: &Holds,
-    ) -> Result<HeldPath, OutOfMemory>
+    pub fn of(alloc: Global, net: &Net, tree: &Tree, holds: &Holds) -> Result<HeldPath, OutOfMemory>
         requires well_formed { IsNet net.now }
         requires tree { Describes net.now tree.now }
         requires holds { AreHolds net.now holds.now }
