@@ -22,7 +22,7 @@ use Rattle.net_graph.specs.Stuck.{stuck_route}
 use Rattle.mux_test.specs.declared.judge.JudgedRow.{JudgedRow}
 use Rattle.mux_test.specs.declared.judge.Verdict.{Verdict}
 use Rattle.mux_test.specs.declared.judge.Verdict.TheVariants.{Open, Seen, Unseen}
-use Rattle.mux_test.specs.Judged.{judge, judged_row, judged_rows, verdict_of, open_row, is_untold, untold_rows, unseen_rows}
+use Rattle.mux_test.specs.Judged.{judge, judged_at, judged_row, judged_rows, verdict_of, open_row, is_untold, untold_rows, unseen_rows}
 use Rattle.mux_test.specs.Seen.{begins, is_seen}
 use Rattle.mux_test.specs.declared.planned.PlannedScan.{PlannedScan}
 use Rattle.mux_test.specs.Planned.{AreFlushable, holds_after, seen_planned}
@@ -130,17 +130,49 @@ says_nothing h own other e =
 pub path_short : (net : Net) (p : List ℕ) (h : Holds) → IsNet net → AreHolds net h → IsRoute (length h) p → length (chain p h) ≤ 4096
 path_short net p h w a r = omega (arith, chain_fits net p h a r, w.bits_within_limit)
 
-mixed : {A : Type 0} (f : A → A) (xs : List A) (i : ℕ) (d : A) → i < length xs → slice_set (map f (take i xs) ++ drop i xs) i (f (get_or (map f (take i xs) ++ drop i xs) i d)) ≡ map f (take (suc i) xs) ++ drop (suc i) xs
-mixed f [] i d l = absurd (omega (arith, l))
-mixed f (x ∷ xs) zero d l = refl
-mixed f (x ∷ xs) (suc i) d l = ap (λ ys. f x ∷ ys) (mixed f xs i d (omega (arith, l)))
+-- ---- one row judged in its place
 
--- one more of them is replaced
-pub replaced : {A : Type 0} (f : A → A) (xs ys now : List A) (i : ℕ) (y d : A) → i < length xs → ys ≡ map f (take i xs) ++ drop i xs → y ≡ f (get_or ys i d) → now ≡ slice_set ys i y → now ≡ map f (take (i + 1) xs) ++ drop (i + 1) xs
-replaced {A} f xs ys now i y d l e g n =
-    let one : i + 1 ≡ suc i = omega arith in
-    n ∙ ap (slice_set ys i) g ∙ ap (λ (zs : List A). slice_set zs i (f (get_or zs i d))) e ∙ mixed f xs i d l
-    ∙ ap (λ k. map f (take k xs) ++ drop k xs) (sym one)
+module _ (net : Net) (h : Holds) where
+  one_more : (rows : List JudgedRow) (i : ℕ) → judged_at net h i (map (judged_row net h) (take i rows) ++ drop i rows) ≡ map (judged_row net h) (take (suc i) rows) ++ drop (suc i) rows
+  one_more [] zero = refl
+  one_more [] (suc i) = refl
+  one_more (r ∷ rs) zero = refl
+  one_more (r ∷ rs) (suc i) = ap (λ xs. judged_row net h r ∷ xs) (one_more rs i)
+
+  -- one more of them is judged
+  pub next_row_judged : (rows before now : List JudgedRow) (i : ℕ) → before ≡ map (judged_row net h) (take i rows) ++ drop i rows → now ≡ judged_at net h i before → now ≡ map (judged_row net h) (take (i + 1) rows) ++ drop (i + 1) rows
+  next_row_judged rows before now i e a =
+      let one : suc i ≡ i + 1 = omega arith in
+      a ∙ ap (judged_at net h i) e ∙ one_more rows i ∙ ap (λ k. map (judged_row net h) (take k rows) ++ drop k rows) one
+
+  put : (rows : List JudgedRow) (i : ℕ) (r : JudgedRow) → r ≡ get_or rows i r → slice_set rows i (judged_row net h r) ≡ judged_at net h i rows
+  put [] zero r e = refl
+  put [] (suc i) r e = refl
+  put (x ∷ xs) zero r e = ap (λ y. judged_row net h y ∷ xs) e
+  put (x ∷ xs) (suc i) r e = ap (λ ys. x ∷ ys) (put xs i r e)
+
+  -- where it is put in its place
+  pub row_put : (rows now : List JudgedRow) (i : ℕ) (r judged : JudgedRow) → r ≡ get_or rows i r → judged ≡ judged_row net h r → now ≡ slice_set rows i judged → now ≡ judged_at net h i rows
+  row_put rows now i r judged e j a = a ∙ ap (slice_set rows i) j ∙ put rows i r e
+
+  -- where it stays as it is
+  pub row_stays : (rows : List JudgedRow) (i : ℕ) (r : JudgedRow) → r ≡ get_or rows i r → judged_row net h r ≡ r → rows ≡ judged_at net h i rows
+  row_stays [] zero r e s = refl
+  row_stays [] (suc i) r e s = refl
+  row_stays (x ∷ xs) zero r e s = ap (λ y. y ∷ xs) (sym e ∙ sym s ∙ ap (judged_row net h) e)
+  row_stays (x ∷ xs) (suc i) r e s = ap (λ ys. x ∷ ys) (row_stays xs i r e s)
+
+-- the rows stay those of the network's muxes
+pub row_there : (net : Net) (h : Holds) (rows now : List JudgedRow) (i : ℕ) → now ≡ judged_at net h i rows → All (λ r. IsBranchOf net r.branch) rows → All (λ r. IsBranchOf net r.branch) now
+row_there net h rows now i e a = subst (All (λ r. IsBranchOf net r.branch)) (sym e) (each_there rows i a)
+  where
+    each_there : (rows : List JudgedRow) (i : ℕ) → All (λ r. IsBranchOf net r.branch) rows → All (λ r. IsBranchOf net r.branch) (judged_at net h i rows)
+    each_there [] zero a = a
+    each_there [] (suc i) a = a
+    each_there (r ∷ rs) zero a =
+        All-cons (λ (r : JudgedRow). IsBranchOf net r.branch) (judged_row net h r) rs (All-head (λ (r : JudgedRow). IsBranchOf net r.branch) r rs a) (All-tail (λ (r : JudgedRow). IsBranchOf net r.branch) r rs a)
+    each_there (r ∷ rs) (suc i) a =
+        All-cons (λ (r : JudgedRow). IsBranchOf net r.branch) r (judged_at net h i rs) (All-head (λ (r : JudgedRow). IsBranchOf net r.branch) r rs a) (each_there rs i (All-tail (λ (r : JudgedRow). IsBranchOf net r.branch) r rs a))
 
 pub all_judged : (net : Net) (h : Holds) (rows now : List JudgedRow) → now ≡ map (judged_row net h) rows → All (λ r. IsBranchOf net r.branch) rows → All (λ r. IsBranchOf net r.branch) now
 all_judged net h rows now e a = subst (All (λ r. IsBranchOf net r.branch)) (sym e) (each_judged rows a)

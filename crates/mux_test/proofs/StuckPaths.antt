@@ -1,6 +1,6 @@
 -- The active path where one mux is stuck, as a loop finds it, and the muxes that a path goes through.
 use Rattle.std.proofs.Common.{◌≡◌, ◌⊎◌, inl, inr, ℕ, zero, suc, ◌+◌, ◌-◌, ◌<◌, ◌≤◌, ◌≢◌, Bool, true, false, List, [], ◌∷◌, ◌++◌, length, get_or, Option, Some, None, refl, sym, ap, ◌∙◌, subst, arith, length-append}
-use Rattle.std.specs.Prelude.{map, All, option_map, ◌==◌, unwrap_or, slice_set}
+use Rattle.std.specs.Prelude.{map, All, option_map, ◌==◌, unwrap_or, replicate, slice_set}
 use Rattle.std.specs.List.{slice_get}
 use Rattle.std.specs.Option.{option_and_then}
 use Rattle.std.proofs.lemmas.Bool.{cases_eq, cases_lt, eq-eqb, eqb-true, true≢false}
@@ -18,14 +18,15 @@ use Rattle.net_graph.specs.declared.net.Row.{Row}
 use Rattle.net_graph.specs.MuxesMet.{active_muxes, muxes_met}
 use Rattle.net_graph.specs.Named.{IsPointOf}
 use Rattle.net_graph.specs.Nets.{IsNet}
-use Rattle.net_graph.specs.Path.{reg_source, rows_of, row_from, row_of, select_value, mux_source}
+use Rattle.net_graph.specs.Path.{reg_source, rows_of, row_from, row_of, route_of, select_value, mux_source}
 use Rattle.net_graph.specs.Signals.{Holds, row_point, some_matches}
 use Rattle.net_graph.specs.Stuck.{trace_by, row_source, stuck_source}
 use Rattle.net_graph.specs.Tracing.{registers_at}
+use Rattle.net_graph.proofs.Routes.{route_is}
+use Rattle.net_graph.proofs.Stuck.{trace_is_by}
 use Rattle.net_graph.proofs.Tracing.{before_is_point, mux_points, route_fits}
 use Rattle.path_planner.specs.Planning.{IsBranchOf}
-use Rattle.mux_test.specs.Judging.{IsKnown}
-use Rattle.mux_test.specs.Steps.{HasMark, before, marked, noted, source_of}
+use Rattle.mux_test.specs.Steps.{HasMark, before, marked, source_of}
 
 -- ---- what a mux passes on
 
@@ -192,43 +193,17 @@ module _ (net : Net) (source : ℕ → Option Point) where
           let fits = route_fits (length net.regs.items) whole (subst (λ o. IsRoute (length net.regs.items) (unwrap_or o [])) e r) in
           absurd (omega (arith, fits, l, longer n tail f, ap length g, length-append met tail))
 
--- ---- what is known of what muxes pass on
+-- ---- what muxes pass on
 
-pub none_known : (net : Net) (holds : Holds) (passed : List (Option Point)) → length passed ≡ length net.muxes.items → ((m : ℕ) → get_or passed m None ≡ None) → IsKnown net holds passed
-none_known net holds passed l none = record { long = l; right = λ m p e. absurd (none-some p (sym (none m) ∙ e)) }
-
-past : (xs : List (Option Point)) (m : ℕ) → length xs ≤ m → get_or xs m None ≡ None
-past [] m l = refl
-past (x ∷ xs) zero l = absurd (omega (arith, l))
-past (x ∷ xs) (suc m) l = past xs m (omega (arith, l))
-
--- one place more is made nothing
-pub none_set : (xs now : List (Option Point)) (i : ℕ) → i < length xs → now ≡ slice_set xs i None → ((m : ℕ) → m < i → get_or xs m None ≡ None) → (m : ℕ) → m < i + 1 → get_or now m None ≡ None
-none_set xs now i l e f m h = ap (λ (ys : List (Option Point)). get_or ys m None) e ∙ on (cases_lt m i)
+-- one more of them is noted
+pub noted_more : (f : ℕ → Option Point) (xs now : List (Option Point)) (i : ℕ) (v : Option Point) → i < length xs → v ≡ f i → now ≡ slice_set xs i v → ((m : ℕ) → m < i → get_or xs m None ≡ f m) → (m : ℕ) → m < i + 1 → get_or now m None ≡ f m
+noted_more f xs now i v l e a k m h = ap (λ (ys : List (Option Point)). get_or ys m None) a ∙ on (cases_lt m i)
   where
-    on : (m < i) ⊎ (i ≤ m) → get_or (slice_set xs i None) m None ≡ None
-    on (inl k) = get_or-set_other xs i m None None (λ s. absurd (omega (arith, s, k))) ∙ f m k
-    on (inr k) =
-        let same : m ≡ i = omega (arith, h, k) in
-        ap (λ j. get_or (slice_set xs i None) j None) same ∙ get_or-set_same xs i None None l
-
-pub all_none : (xs : List (Option Point)) (i : ℕ) → length xs ≤ i → ((m : ℕ) → m < i → get_or xs m None ≡ None) → (m : ℕ) → get_or xs m None ≡ None
-all_none xs i l f m = on (cases_lt m i)
-  where
-    on : (m < i) ⊎ (i ≤ m) → get_or xs m None ≡ None
-    on (inl k) = f m k
-    on (inr k) = past xs m (omega (arith, l, k))
-
-pub next_known : (net : Net) (holds : Holds) (passed now : List (Option Point)) (at : Point) (source : Option Point) → HasMark passed at → source ≡ before net (mux_source net holds) at → now ≡ noted passed at source → IsKnown net holds passed → IsKnown net holds now
-next_known net holds passed now Entry source h e a k = subst (IsKnown net holds) (sym a) k
-next_known net holds passed now (Reg r) source h e a k = subst (IsKnown net holds) (sym a) k
-next_known net holds passed now (FromMux x) source h e a k =
-    subst (IsKnown net holds) (sym a) (record { long = length-set passed x source ∙ k.long; right = λ m p f. on m p f (cases_eq m x) })
-  where
-    on : (m : ℕ) (p : Point) → get_or (slice_set passed x source) m None ≡ Some p → (m ≡ x) ⊎ ((m ≡ x) → ⊥) → mux_source net holds m ≡ Some p
-    on m p f (inl s) =
-        ap (mux_source net holds) s ∙ sym e ∙ sym (get_or-set_same passed x source None h) ∙ ap (λ j. get_or (slice_set passed x source) j None) (sym s) ∙ f
-    on m p f (inr n) = k.right m p (sym (get_or-set_other passed x m source None n) ∙ f)
+    on : (m < i) ⊎ (i ≤ m) → get_or (slice_set xs i v) m None ≡ f m
+    on (inl b) = get_or-set_other xs i m v None (λ s. absurd (omega (arith, s, b))) ∙ k m b
+    on (inr b) =
+        let same : m ≡ i = omega (arith, h, b) in
+        ap (λ j. get_or (slice_set xs i v) j None) same ∙ get_or-set_same xs i v None l ∙ e ∙ ap f (sym same)
 
 -- ---- the muxes met so far
 
@@ -237,10 +212,10 @@ still_long marks now Entry e = ap length e
 still_long marks now (Reg r) e = ap length e
 still_long marks now (FromMux m) e = ap length e ∙ length-set marks m true
 
-pub has_mark : {A : Type 0} (net : Net) (marks : List A) (p : Point) → length marks ≡ length net.muxes.items → IsPointOf net p → HasMark marks p
-has_mark {A} net marks Entry l i = tt
-has_mark {A} net marks (Reg r) l i = tt
-has_mark {A} net marks (FromMux m) l i = omega (arith, l, i)
+pub has_mark : (net : Net) (marks : List Bool) (p : Point) → length marks ≡ length net.muxes.items → IsPointOf net p → HasMark marks p
+has_mark net marks Entry l i = tt
+has_mark net marks (Reg r) l i = tt
+has_mark net marks (FromMux m) l i = omega (arith, l, i)
 
 module _ (net : Net) (holds : Holds) where
   abbrev pub AreMet : ℕ → Point → List Bool → Type 0
@@ -290,3 +265,28 @@ module _ (net : Net) (holds : Holds) where
       none Entry = tt
       none (Reg r) = tt
       none (FromMux m) = tt
+
+  -- at the network's entry all are met
+  pub met_entry : (n : ℕ) (p : Point) (marks : List Bool) → p ≡ Entry → AreMet n p marks → (m : ℕ) → m < length net.muxes.items → get_or marks m false ≡ false → NotIn m (active_muxes net holds)
+  met_entry n p marks z k m l e = k m l e (subst (λ q. NotIn m (muxes_met net holds n q)) (sym z) (none n))
+    where
+      none : (n : ℕ) → NotIn m (muxes_met net holds n Entry)
+      none zero = tt
+      none (suc n) = tt
+
+  -- where each has a mark nothing is said
+  pub all_marked : (marks now : List Bool) → now ≡ replicate (length marks) true → length marks ≡ length net.muxes.items → (m : ℕ) → m < length net.muxes.items → get_or now m false ≡ false → NotIn m (active_muxes net holds)
+  all_marked marks now e s m l z =
+      absurd (true≢false (sym (marked_at (length marks) m (omega (arith, l, s))) ∙ ap (λ (b : List Bool). get_or b m false) (sym e) ∙ z))
+    where
+      marked_at : (n m : ℕ) → m < n → get_or (replicate n true) m false ≡ true
+      marked_at zero m l = absurd (omega (arith, l))
+      marked_at (suc n) zero l = refl
+      marked_at (suc n) (suc m) l = marked_at n m (omega (arith, l))
+
+-- the active path, as it is traced by sources
+pub own_route : (net : Net) (holds : Holds) → route net (mux_source net holds) ≡ route_of net holds
+own_route net holds = ap (λ o. unwrap_or o []) (trace_is_by net holds (moves net) net.out)
+
+pub own_route_is : (net : Net) (holds : Holds) → IsNet net → IsRoute (length net.regs.items) (route net (mux_source net holds))
+own_route_is net holds w = subst (IsRoute (length net.regs.items)) (sym (own_route net holds)) (route_is net holds w)

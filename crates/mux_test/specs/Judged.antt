@@ -1,5 +1,5 @@
 -- Rows that a mux may be stuck in, judged scan by scan (IEEE 1687-2014: ScanMux, active scan path).
-use Rattle.std.specs.Prelude.{ℕ, ◌==◌, Bool, true, false, not, List, [], ◌∷◌, length, map, filter}
+use Rattle.std.specs.Prelude.{ℕ, zero, suc, ◌==◌, Bool, true, false, not, List, [], ◌∷◌, length, map, filter}
 use Rattle.std.specs.Str.{bytes_eq as same_registers}
 use Rattle.net_graph.specs.Chain.{chain}
 use Rattle.net_graph.specs.declared.branch.Branch.{Branch}
@@ -25,6 +25,12 @@ judge net h b Unseen = Unseen
 
 abbrev pub judged_row : Net → Holds → JudgedRow → JudgedRow
 judged_row net h r = record { branch = r.branch; verdict = judge net h r.branch r.verdict }
+
+-- rows of which the one at an index is judged
+abbrev pub judged_at : Net → Holds → ℕ → List JudgedRow → List JudgedRow
+judged_at net h i [] = []
+judged_at net h zero (r ∷ rows) = judged_row net h r ∷ rows
+judged_at net h (suc i) (r ∷ rows) = r ∷ judged_at net h i rows
 
 -- rows after scans that begin with these update stages
 abbrev pub judged_rows : Net → List Holds → List JudgedRow → List JudgedRow

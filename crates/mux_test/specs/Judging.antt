@@ -1,5 +1,5 @@
 -- What is known at the beginning of a scan, and room for it.
-use Rattle.std.specs.Prelude.{◌≡◌, ◌≤◌, ◌+◌, ◌<◌, ℕ, false, List, Option, None, Some, length, slice_index_or}
+use Rattle.std.specs.Prelude.{◌≡◌, ◌≤◌, ◌+◌, ◌<◌, ℕ, false, List, Option, None, length, slice_index_or}
 use Rattle.net_graph.specs.Chain.{NotIn}
 use Rattle.net_graph.specs.declared.net.Net.{Net}
 use Rattle.net_graph.specs.declared.net.Point.{Point}
@@ -9,10 +9,10 @@ use Rattle.net_graph.specs.RowTables.{AreRows}
 use Rattle.net_graph.specs.Signals.{Holds}
 use Rattle.mux_test.specs.declared.judge.Judge.{Judge}
 
--- what is known of what muxes pass on by their selects
+-- what each mux passes on by its select
 pub record IsKnown (net : Net) (holds : Holds) (passed : List (Option Point)) : Type 0 where
   pub long : length passed ≡ length net.muxes.items
-  pub right : (m : ℕ) (p : Point) → slice_index_or passed m None ≡ Some p → mux_source net holds m ≡ Some p
+  pub right : (m : ℕ) → m < length net.muxes.items → slice_index_or passed m None ≡ mux_source net holds m
 
 -- the rows of a network, room for two of its paths, and a place for each mux
 pub record HasJudgeRoom (net : Net) (judge : Judge) : Type 0 where

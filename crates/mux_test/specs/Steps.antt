@@ -26,13 +26,7 @@ marked marks (Reg r) = marks
 marked marks (Mux m) = slice_set marks m true
 
 -- a mux that a point is has a mark
-abbrev pub HasMark : {A : Type 0} → List A → Point → Type 0
+abbrev pub HasMark : List Bool → Point → Type 0
 HasMark marks Entry = Unit {0}
 HasMark marks (Reg r) = Unit {0}
 HasMark marks (Mux m) = m < length marks
-
--- a list of what muxes pass on, with what the mux that a point is passes on
-abbrev pub noted : List (Option Point) → Point → Option Point → List (Option Point)
-noted passed Entry before = passed
-noted passed (Reg r) before = passed
-noted passed (Mux m) before = slice_set passed m before

@@ -2,11 +2,13 @@
 ghost use Rattle.std.specs.Prelude.{◌≡◌, ◌+◌, ◌<◌, ◌≤◌, ◌^◌, [], ℕ, false, true, length, map, slice_index_or, All, IfOk, IsFalse, OnOk};
 ghost use Rattle.std.specs.Str.{bytes_eq as same_registers};
 ghost use Rattle.net_graph.specs.Chain.{chain, IsRoute, NotIn};
+ghost use Rattle.net_graph.specs.declared.net.Net.{Net as ANet};
 ghost use Rattle.net_graph.specs.Held.{AreHolds};
 ghost use Rattle.net_graph.specs.MuxesMet.{active_muxes};
 ghost use Rattle.net_graph.specs.Nets.{IsNet};
 ghost use Rattle.net_graph.specs.Path.{route_of};
 ghost use Rattle.net_graph.specs.Resets.{start_holds};
+ghost use Rattle.net_graph.specs.Signals.{Holds as SeenHolds};
 ghost use Rattle.net_graph.specs.Stuck as stuck;
 ghost use Rattle.path_planner.specs.Planning.{IsBranchOf};
 ghost use Rattle.mux_test.specs.Judged as judged;
@@ -15,9 +17,9 @@ ghost use Rattle.mux_test.specs.Planned.{AreFlushable, holds_after, seen_planned
 ghost use Rattle.mux_test.specs.Seen.{begins};
 
 use crate::planned::PlannedScan;
-use crate::stuck::{find_stuck_path, is_passed, mark_met};
+use crate::stuck::{find_met, find_stuck_path, is_passed, note_all};
 use ij_bits::{Bits, List, OutOfMemory};
-use net_graph::{Branch, Holds, Net, Point, RowTable, find_path_by};
+use net_graph::{Branch, Holds, Net, Point, RowTable};
 use path_planner::advance;
 use std::alloc::Global;
 
@@ -114,6 +116,13 @@ fn verdict_of(holds: &Holds, own: &[u32], other: &[u32]) -> Verdict
     }
 }
 
+/// Whether no scan has told a row yet. Takes no memory.
+fn is_open(row: JudgedRow) -> bool
+    ensures { IsFalse result → (net : ANet) (holds : SeenHolds) → judged.judged_row net holds row ≡ row }
+{
+    matches!(row.verdict, Verdict::Open)
+}
+
 impl Judge {
     /// Room for the paths and the muxes of a network.
     fn new(alloc: Global, net: &Net) -> Result<Judge, OutOfMemory>
@@ -137,8 +146,14 @@ impl Judge {
         ensures room { HasJudgeRoom net.now self.new }
         ensures knows { Knows net.now holds.now self.new }
     {
-        find_path_by(net, &self.rows, holds, &mut self.own);
-        mark_met(net, &self.rows, holds, &mut self.met, &mut self.passed);
+        note_all(net, &self.rows, holds, &mut self.passed);
+        find_met(
+            net,
+            holds,
+            self.passed.as_slice(),
+            &mut self.own,
+            &mut self.met,
+        );
     }
 
     /// What a scan says of a row that no scan has told yet. A mux that the path doesn't go through, or that passes on the same
@@ -154,10 +169,10 @@ impl Judge {
         ensures knows { Knows net.now holds.now self.new }
     {
         let passed = self.passed.as_slice();
-        if !self.met.get(row.mux) || is_passed(net, &self.rows, holds, passed, row) {
+        if !self.met.get(row.mux) || is_passed(net, holds, passed, row) {
             return Verdict::Open;
         }
-        find_stuck_path(net, &self.rows, holds, passed, row, &mut self.other);
+        find_stuck_path(net, holds, passed, row, &mut self.other);
         verdict_of(holds, self.own.as_slice(), self.other.as_slice())
     }
 
@@ -181,6 +196,25 @@ impl Judge {
         }
     }
 
+    /// Judges the row at an index in its place, where it is open. Takes no memory.
+    fn judge_at(&mut self, net: &Net, holds: &Holds, rows: &mut List<JudgedRow>, i: usize)
+        requires well_formed { IsNet net.now }
+        requires holds { AreHolds net.now holds.now }
+        requires rows { All (λ r. IsBranchOf net.now r.branch) rows.old.items }
+        requires there { i < length rows.old.items }
+        requires room { HasJudgeRoom net.now self.old }
+        requires knows { Knows net.now holds.now self.old }
+        ensures rows { rows.new.items ≡ judged.judged_at net.now holds.now i rows.old.items }
+        ensures room { HasJudgeRoom net.now self.new }
+        ensures knows { Knows net.now holds.now self.new }
+    {
+        let row = *rows.get(i);
+        if !is_open(row) {
+            return;
+        }
+        rows.set(i, self.judge(net, holds, row));
+    }
+
     /// Judges all rows at the beginning of a scan. Takes no memory.
     fn judge_rows(&mut self, net: &Net, holds: &Holds, rows: &mut List<JudgedRow>)
         requires well_formed { IsNet net.now }
@@ -192,7 +226,7 @@ impl Judge {
     {
         self.look(net, holds);
         for i in 0..rows.len() {
-            rows.set(i, self.judge(net, holds, *rows.get(i)));
+            self.judge_at(net, holds, rows, i);
         }
     }
 

@@ -45,69 +45,40 @@ fn selected_source(net: &Net, rows: &RowTable, holds: &Holds, mux: u32) -> Optio
     }
 }
 
-/// The same, by what is known already.
-fn known_source(
-    net: &Net,
-    rows: &RowTable,
-    holds: &Holds,
-    passed: &[Option<Point>],
-    mux: u32,
-) -> Option<Point>
-    requires rows { AreRows net.now rows.now }
-    requires well_formed { IsNet net.now }
-    requires holds { AreHolds net.now holds.now }
-    requires known { IsKnown net.now holds.now passed.now }
-    requires mux { mux < length net.now.muxes.items }
-    ensures { result ≡ paths.mux_source net.now holds.now mux }
-{
-    match passed[mux as usize] {
-        Some(source) => Some(source),
-        None => selected_source(net, rows, holds, mux),
-    }
-}
-
-/// What a mux passes on, where the mux of a row that it is stuck in passes on that row.
+/// What a mux passes on by what is known, and a mux that is stuck in a row what it passes on there.
 fn source_of(
     net: &Net,
-    rows: &RowTable,
     stuck: Option<Branch>,
-    holds: &Holds,
+    _holds: &Holds,
     passed: &[Option<Point>],
     mux: u32,
 ) -> Option<Point>
-    requires rows { AreRows net.now rows.now }
-    requires well_formed { IsNet net.now }
     requires stuck { ForSome stuck (IsBranchOf net.now) }
-    requires holds { AreHolds net.now holds.now }
-    requires known { IsKnown net.now holds.now passed.now }
+    requires known { IsKnown net.now _holds.now passed.now }
     requires mux { mux < length net.now.muxes.items }
-    ensures { result ≡ steps.source_of net.now stuck holds.now mux }
+    ensures { result ≡ steps.source_of net.now stuck _holds.now mux }
 {
     match stuck {
         Some(row) => {
             if mux == row.mux {
                 Some(row_source(net, row))
             } else {
-                known_source(net, rows, holds, passed, mux)
+                passed[mux as usize]
             }
         }
-        None => known_source(net, rows, holds, passed, mux),
+        None => passed[mux as usize],
     }
 }
 
 /// What is met before a point, going back.
 fn back(
     net: &Net,
-    rows: &RowTable,
     stuck: Option<Branch>,
     holds: &Holds,
     passed: &[Option<Point>],
     from: Point,
 ) -> Option<Point>
-    requires rows { AreRows net.now rows.now }
-    requires well_formed { IsNet net.now }
     requires stuck { ForSome stuck (IsBranchOf net.now) }
-    requires holds { AreHolds net.now holds.now }
     requires known { IsKnown net.now holds.now passed.now }
     requires there { IsPointOf net.now from }
     ensures { result ≡ steps.before net.now (steps.source_of net.now stuck holds.now) from }
@@ -115,7 +86,7 @@ fn back(
     match from {
         Point::Entry => Some(Point::Entry),
         Point::Reg(reg) => Some(net.regs.get(reg as usize).from),
-        Point::Mux(mux) => source_of(net, rows, stuck, holds, passed, mux),
+        Point::Mux(mux) => source_of(net, stuck, holds, passed, mux),
     }
 }
 
@@ -148,15 +119,12 @@ fn is_entry(at: Point) -> bool
 /// nothing where there is no path then. Takes no memory.
 pub(crate) fn find_stuck_path(
     net: &Net,
-    rows: &RowTable,
     holds: &Holds,
     passed: &[Option<Point>],
     row: Branch,
     path: &mut List<u32>,
 )
-    requires rows { AreRows net.now rows.now }
     requires well_formed { IsNet net.now }
-    requires holds { AreHolds net.now holds.now }
     requires known { IsKnown net.now holds.now passed.now }
     requires row { IsBranchOf net.now row }
     requires room { length net.now.regs.items ≤ length path.old.items + path.old.spare }
@@ -167,11 +135,14 @@ pub(crate) fn find_stuck_path(
     let count = net.regs.len();
     let mut at = net.out;
     for _turn in 0..count + net.muxes.len() {
+        if is_entry(at) {
+            return;
+        }
         if !meet(at, count, path) {
             path.clear();
             return;
         }
-        match back(net, rows, Some(row), holds, passed, at) {
+        match back(net, Some(row), holds, passed, at) {
             Some(before) => at = before,
             None => {
                 path.clear();
@@ -194,73 +165,71 @@ fn mark(at: Point, met: &mut Bits)
     }
 }
 
-/// Notes what a point's mux passes on. Takes no memory.
-fn note(at: Point, before: Option<Point>, passed: &mut List<Option<Point>>)
-    requires { steps.HasMark passed.old.items at }
-    ensures { passed.new.items ≡ steps.noted passed.old.items at before }
-{
-    if let Point::Mux(mux) = at {
-        passed.set(mux as usize, before);
-    }
-}
-
-/// Nothing is known of any mux. Takes no memory.
-fn forget(passed: &mut List<Option<Point>>)
-    ensures long { length passed.new.items ≡ length passed.old.items }
-    ensures none { (m : ℕ) → slice_index_or passed.new.items m None ≡ None }
-{
-    for i in 0..passed.len() {
-        passed.set(i, None);
-    }
-}
-
-/// Marks the muxes that the active path goes through, and maybe others, and notes what they pass on. Takes no memory.
-pub(crate) fn mark_met(
-    net: &Net,
-    rows: &RowTable,
-    holds: &Holds,
-    met: &mut Bits,
-    passed: &mut List<Option<Point>>,
-)
+/// Notes what each mux passes on by its select. Takes no memory.
+pub(crate) fn note_all(net: &Net, rows: &RowTable, holds: &Holds, passed: &mut List<Option<Point>>)
     requires rows { AreRows net.now rows.now }
     requires well_formed { IsNet net.now }
     requires holds { AreHolds net.now holds.now }
+    requires long { length passed.old.items ≡ length net.now.muxes.items }
+    ensures { IsKnown net.now holds.now passed.new.items }
+{
+    for mux in 0..net.muxes.len() {
+        passed.set(mux, selected_source(net, rows, holds, mux as u32));
+    }
+}
+
+/// Leaves the registers of the active path in a list, nearest scan-out first, and nothing where there is no path; and marks the
+/// muxes that it goes through, and maybe others. Takes no memory.
+pub(crate) fn find_met(
+    net: &Net,
+    holds: &Holds,
+    passed: &[Option<Point>],
+    path: &mut List<u32>,
+    met: &mut Bits,
+)
+    requires well_formed { IsNet net.now }
+    requires known { IsKnown net.now holds.now passed.now }
+    requires room { length net.now.regs.items ≤ length path.old.items + path.old.spare }
     requires long { length met.old.items ≡ length net.now.muxes.items }
-    requires passed { length passed.old.items ≡ length net.now.muxes.items }
+    ensures path { path.new.items ≡ paths.route_of net.now holds.now }
+    ensures room { length path.new.items + path.new.spare ≡ length path.old.items + path.old.spare }
     ensures long { length met.new.items ≡ length net.now.muxes.items }
     ensures unmarked { (m : ℕ) → m < length net.now.muxes.items → slice_index_or met.new.items m false ≡ false → NotIn m (active_muxes net.now holds.now) }
-    ensures known { IsKnown net.now holds.now passed.new.items }
 {
+    path.clear();
     met.fill(false);
-    forget(passed);
+    let count = net.regs.len();
     let mut at = net.out;
-    for _turn in 0..net.regs.len() + net.muxes.len() {
-        mark(at, met);
-        let source = back(net, rows, None, holds, passed.as_slice(), at);
-        note(at, source, passed);
-        match source {
-            Some(before) => at = before,
-            None => return,
+    for _turn in 0..count + net.muxes.len() {
+        if is_entry(at) {
+            return;
         }
+        if !meet(at, count, path) {
+            path.clear();
+            met.fill(true);
+            return;
+        }
+        mark(at, met);
+        match back(net, None, holds, passed, at) {
+            Some(before) => at = before,
+            None => {
+                path.clear();
+                return;
+            }
+        }
+    }
+    if !is_entry(at) {
+        path.clear();
     }
 }
 
 /// Whether a mux passes on by its select what it passes on in this row.
-pub(crate) fn is_passed(
-    net: &Net,
-    rows: &RowTable,
-    holds: &Holds,
-    passed: &[Option<Point>],
-    row: Branch,
-) -> bool
-    requires rows { AreRows net.now rows.now }
-    requires well_formed { IsNet net.now }
-    requires holds { AreHolds net.now holds.now }
-    requires known { IsKnown net.now holds.now passed.now }
+pub(crate) fn is_passed(net: &Net, _holds: &Holds, passed: &[Option<Point>], row: Branch) -> bool
+    requires known { IsKnown net.now _holds.now passed.now }
     requires row { IsBranchOf net.now row }
-    ensures { IsTrue result → paths.mux_source net.now holds.now row.mux ≡ stuck.row_source net.now row }
+    ensures { IsTrue result → paths.mux_source net.now _holds.now row.mux ≡ stuck.row_source net.now row }
 {
-    match known_source(net, rows, holds, passed, row.mux) {
+    match passed[row.mux as usize] {
         Some(source) => same_point(source, row_source(net, row)),
         None => false,
     }

@@ -1,12 +1,12 @@
 // The scans of a network's mux test, one after the other.
-ghost use Rattle.std.specs.Prelude.{◌≡◌, ◌<◌, ◌≤◌, [], ◌∷◌, ℕ, length, IfOk, IsErr, IsErrOf, IsNone, MatchOption, OnErr, OnOk};
+ghost use Rattle.std.specs.Prelude.{◌≡◌, ◌<◌, ◌≤◌, [], ◌∷◌, ℕ, length, All, IfOk, IsErr, IsErrOf, IsNone, MatchOption, OnErr, OnOk};
+ghost use Rattle.net_graph.specs.Held.{IsHeld};
 ghost use Rattle.net_graph.specs.Nets.{IsNet};
 ghost use Rattle.net_graph.specs.Writes.{write_all};
-ghost use Rattle.net_graph.specs.Path as paths;
 ghost use Rattle.net_tree.specs.Form.{Describes};
-ghost use Rattle.net_tree.specs.Routes.{HasRoom};
 ghost use Rattle.net_tree.specs.ScanPlans.{seen_plan};
-ghost use Rattle.scan_packer.specs.Flushed.{HasFlushRoom};
+ghost use Rattle.path_planner.specs.Scannable.{IsScannable};
+ghost use Rattle.scan_packer.specs.HeldPaths.{HasPathRoom, IsHeldPath};
 ghost use Rattle.scan_packer.specs.Packing.{CanScan};
 ghost use Rattle.svf_writer.specs.SeenCommands.{SDR, seen_command};
 ghost use Rattle.mux_test.specs.Flushes.{test_scans};
@@ -21,9 +21,9 @@ use crate::judge::unseen_rows;
 use crate::planned::{PlannedScan, branches_of, plan_test};
 use ij_bits::{Bits, List, OutOfMemory};
 use net_graph::{Branch, Holds, Net};
-use net_tree::{Route, ScanPlan, Tree};
+use net_tree::{ScanPlan, Tree};
 use path_planner::advance;
-use scan_packer::pack_flush;
+use scan_packer::{HeldPath, pack_flush_on};
 use std::alloc::Global;
 use std::marker::Model;
 use svf_writer::{Command, Part, Scan};
@@ -55,14 +55,15 @@ pub struct MuxTest<'a> {
     given: usize,
     /// What the update stages hold before the next one.
     holds: Holds,
-    route: Route,
+    /// The active path then.
+    path: HeldPath,
     unseen: List<Branch>,
     rows: usize,
 }
 
 impl<'a> Model for MuxTest<'a> {
     ghost use Rattle.std.specs.Prelude.{◌≤◌, drop, length, map};
-    ghost use Rattle.net_tree.specs.Routes.{HasRoom};
+    ghost use Rattle.scan_packer.specs.HeldPaths.{HasPathRoom, IsHeldPath};
     ghost use Rattle.mux_test.specs.Given.{SeenTest};
     ghost use Rattle.mux_test.specs.GivenCode.{test_code};
     ghost use Rattle.mux_test.specs.Laws.{IsTestable};
@@ -74,33 +75,29 @@ impl<'a> Model for MuxTest<'a> {
 
     ghost view = { λ t. record { scans = planned_flushes t.net.now t.holds (map seen_planned (drop t.given t.scans.items)); unseen = t.unseen.items; scan_count = length t.scans.items; row_count = t.rows } };
 
-    ghost invariant = { λ t. IsTestable t.net.now t.tree.now × AreFlushable t.net.now t.holds (map seen_planned (drop t.given t.scans.items)) × HasRoom t.net.now t.route × (t.given ≤ length t.scans.items) };
+    ghost invariant = { λ t. IsTestable t.net.now t.tree.now × AreFlushable t.net.now t.holds (map seen_planned (drop t.given t.scans.items)) × IsHeldPath t.net.now t.holds t.path × HasPathRoom t.net.now t.path × (t.given ≤ length t.scans.items) };
 }
 
 /// The greatest number of bits that a flush has: a network has at most 4096 scan bits.
 const FLUSH_BITS: u32 = 2 * 4096 + 1;
 
-/// The flush of a plan, as a command. The route becomes the active path.
+/// The flush of a plan, as a command.
 fn flush_of(
     alloc: Global,
     net: &Net,
-    tree: &Tree,
     holds: &Holds,
+    path: &HeldPath,
     plan: &ScanPlan,
-    route: &mut Route,
 ) -> Result<Command, OutOfMemory>
     requires well_formed { IsNet net.now }
-    requires tree { Describes net.now tree.now }
-    requires listed { paths.AreListed net.now holds.now }
+    requires path { IsHeldPath net.now holds.now path.now }
     requires plan { CanScan net.now holds.now (seen_plan plan.now) }
-    requires room { HasRoom net.now route.old }
-    ensures scan { IfOk result (λ c. seen_command c ≡ SDR (flush net.now holds.now (write_all holds.now plan.now.writes.items))) }
-    ensures room { HasRoom net.now route.new }
+    ensures { IfOk result (λ c. seen_command c ≡ SDR (flush net.now holds.now (write_all holds.now plan.now.writes.items))) }
 {
     let mut tdi = Bits::with_room(alloc, FLUSH_BITS)?;
     let mut tdo = Bits::with_room(alloc, FLUSH_BITS)?;
     let mut mask = Bits::with_room(alloc, FLUSH_BITS)?;
-    pack_flush(net, tree, holds, plan, route, &mut tdi, &mut tdo, &mut mask);
+    pack_flush_on(net, holds, path, plan, &mut tdi, &mut tdo, &mut mask);
     Ok(Command::Sdr(Scan {
         len: tdi.len(),
         tdi: Part::of_bits(alloc, tdi)?,
@@ -108,6 +105,24 @@ fn flush_of(
         mask: Part::of_bits(alloc, mask)?,
         smask: Part::absent(),
     }))
+}
+
+/// Goes on to what is held after the scan of a plan, and to the active path then. Takes no memory.
+fn go_on(net: &Net, tree: &Tree, plan: &ScanPlan, holds: &mut Holds, path: &mut HeldPath)
+    requires well_formed { IsNet net.now }
+    requires tree { Describes net.now tree.now }
+    requires bits { All (λ w. IsHeld holds.old w.bit) plan.now.writes.items }
+    requires after { IsScannable net.now (write_all holds.old plan.now.writes.items) }
+    requires path { IsHeldPath net.now holds.old path.old }
+    requires room { HasPathRoom net.now path.old }
+    ensures holds { holds.new ≡ write_all holds.old plan.now.writes.items }
+    ensures path { IsHeldPath net.now holds.new path.new }
+    ensures room { HasPathRoom net.now path.new }
+{
+    advance(holds, plan);
+    if !plan.writes.is_empty() {
+        path.find(net, tree, holds);
+    }
 }
 
 impl<'a> MuxTest<'a> {
@@ -130,14 +145,16 @@ impl<'a> MuxTest<'a> {
         let rows = branches_of(alloc, net)?;
         let scans = plan_test(alloc, net, tree, rows.as_slice())?;
         let unseen = unseen_rows(alloc, net, rows.as_slice(), scans.as_slice())?;
+        let holds = Holds::power_up(alloc, net)?;
+        let path = HeldPath::of(alloc, net, tree, &holds)?;
         Ok(MuxTest {
             alloc,
             net,
             tree,
             scans,
             given: 0,
-            holds: Holds::power_up(alloc, net)?,
-            route: Route::new(alloc, net)?,
+            holds,
+            path,
             unseen,
             rows: rows.len(),
         })
@@ -154,20 +171,19 @@ impl<'a> MuxTest<'a> {
             return Ok(None);
         }
         let planned = self.scans.get(self.given);
-        let scan = flush_of(
-            self.alloc,
-            self.net,
-            self.tree,
-            &self.holds,
-            &planned.plan,
-            &mut self.route,
-        )?;
+        let scan = flush_of(self.alloc, self.net, &self.holds, &self.path, &planned.plan)?;
         let next = TestScan {
             branch: planned.branch,
             first: planned.first,
             scan,
         };
-        advance(&mut self.holds, &planned.plan);
+        go_on(
+            self.net,
+            self.tree,
+            &planned.plan,
+            &mut self.holds,
+            &mut self.path,
+        );
         self.given += 1;
         Ok(Some(next))
     }

@@ -1,6 +1,7 @@
-use Rattle.std.proofs.Common.{List, length, sym, ap, ◌∙◌, subst, arith}
+use Rattle.std.proofs.Common.{List, sym, ap, ◌∙◌, subst, arith}
 use Rattle.std.specs.Prelude.{map, All}
 use Rattle.net_graph.specs.declared.branch.Branch.{Branch}
+use Rattle.net_graph.specs.Held.{AreHolds}
 use Rattle.net_graph.specs.Resets.{start_holds}
 use Rattle.path_planner.specs.Planning.{IsBranchOf}
 use Rattle.mux_test.specs.declared.planned.PlannedScan.{PlannedScan}
@@ -8,9 +9,15 @@ use Rattle.mux_test.specs.Judged.{unseen_rows}
 use Rattle.mux_test.specs.Planned.{holds_after, seen_planned}
 use Rattle.mux_test.specs.Seen.{begins}
 use Rattle.mux_test.specs.Test.{branches}
-use Rattle.mux_test.proofs.Planning.{as_long}
+use Rattle.mux_test.proofs.Planning.{as_long, flushable_now}
 use Rattle.mux_test.proofs.Testing.{all_branches}
 use Rattle.mux_test.proofs.test.MuxTest.new.Goals as goal
+
+pub of-requires-clause-holds : goal.of-requires-clause-holds
+of-requires-clause-holds c =
+    let net = c.args.net.now in
+    let now = flushable_now net (start_holds net) (map seen_planned c.in_ok-scans.scans.items) c.in_ok-scans.ensures.planned.can in
+    subst (AreHolds net) (sym c.in_ok-holds.ensures) now.widths
 
 pub unseen_rows-requires-clause-branches : goal.unseen_rows-requires-clause-branches
 unseen_rows-requires-clause-branches c =
@@ -28,7 +35,7 @@ returns-clause-unseen c =
 
 pub returns-clause-scan_count : goal.returns-clause-scan_count
 returns-clause-scan_count c =
-    ap (λ l. length l.items) c.scans.view_is ∙ as_long c.args.net.now c.args.tree.now c.in_ok-scans.scans.items c.in_ok-scans.ensures.planned
+    as_long c.args.net.now c.args.tree.now c.in_ok-scans.scans.items c.in_ok-scans.ensures.planned
 
 pub returns-clause-within : goal.returns-clause-within
 returns-clause-within c =
