@@ -169,7 +169,7 @@ fn seventy(alloc: Global, low: u64, high: u64) -> Result<Part, OutOfMemory>
     Part::of_bits(alloc, bits)
 }
 
-/// Scans of seventy bits with TDO and MASK, and without them; and one of 65 bits without MASK.
+/// Scans of seventy bits with TDO and MASK, and without them; and an instruction scan of 5 bits without MASK.
 fn long_commands(alloc: Global) -> Result<Commands, OutOfMemory>
     ensures { IfOk result (λ commands. scans_in commands ≡ 3) }
 {

@@ -87,7 +87,7 @@ fn done_text(alloc: Global, it: &Accepted) -> Option<String>
     kept_text(alloc, net, &direct)
 }
 
-/// Reads, words, memory and counts are those that `direct` prints.
+/// Words, memory, counts and the numbers of reads are those that `direct` prints.
 #[test]
 fn what_is_kept_is_what_direct_prints(rt: HostRuntime) {
     let files = [
