@@ -142,7 +142,7 @@ with tempfile.TemporaryDirectory() as made:
     check('after it', (call(top)[:2], builds()), (ran[:2], 2))
 
     source.write_text(good + '// slow\n')
-    err = call(top, {'SECONDS_OF_BUILD': '10', 'IJTAG_REPORT_SECONDS': '1'})[2]
+    err = call(top, {'SECONDS_OF_BUILD': '25', 'IJTAG_REPORT_SECONDS': '1'})[2]
     check('a slow build says that it goes on', err.count(' min: ') > 1, True)
     builds()
 
