@@ -5,8 +5,6 @@
 #[cfg(test)]
 mod commands;
 #[cfg(test)]
-mod direct_values;
-#[cfg(test)]
 mod failing_files;
 #[cfg(test)]
 mod failing_makes;
