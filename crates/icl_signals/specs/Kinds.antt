@@ -1,5 +1,5 @@
 -- What the network numbers (IEEE 1687-2014, ICL: ScanRegister, ScanMux, data ports, Alias), and how many stand before.
-use Rattle.std.specs.Prelude.{ℕ, ◌+◌, Bool, true, false, cond, is_some, List, [], ◌∷◌, get_or}
+use Rattle.std.specs.Prelude.{ℕ, ◌+◌, Bool, false, cond, is_some, List, [], ◌∷◌, get_or}
 use Rattle.icl_elab.specs.WellFormed.{is_register, is_mux, is_thing, is_data_out, is_data_in}
 use Rattle.icl_references.specs.Roles.{Role, ScanInput, ScanOutput, DataInput, DataOutput, PartOf, CellOf, part_width}
 use Rattle.icl_signals.specs.declared.parts.Kind.{Kind}

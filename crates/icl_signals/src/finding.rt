@@ -1,4 +1,4 @@
-// Where the traces of all ports' bits end: each trace is followed once, up to a bit whose end was found before.
+// Where the traces of the wired ports' bits end: each trace is followed once, up to a bit whose end was found before.
 ghost use Rattle.std.specs.Prelude.{◌≡◌, ◌+◌, IfOk, IfSome};
 ghost use Rattle.icl_signals.specs.Wirings.{IsWiring, cells_of};
 ghost use Rattle.icl_signals.specs.Found.{IsFound, AreFound, turned_end};
@@ -160,7 +160,7 @@ fn with_cell(
     Ok(ends)
 }
 
-/// Where the traces of all ports' bits end.
+/// Where the traces of the wired ports' bits end.
 fn all_ends(alloc: Global, wiring: &Wiring) -> Result<Vec<Option<Note>>, OutOfMemory>
     requires { IsWiring wiring.now }
     ensures { IfOk result (λ all. AreFound (cells_of wiring.now) wiring.now.entry all.items) }
@@ -174,7 +174,7 @@ fn all_ends(alloc: Global, wiring: &Wiring) -> Result<Vec<Option<Note>>, OutOfMe
     Ok(ends)
 }
 
-/// What following a signal looks at, with where the traces of all ports' bits end.
+/// What following a signal looks at, with where the traces of the wired ports' bits end.
 pub(crate) fn with_ends<'a>(alloc: Global, wiring: Wiring<'a>) -> Result<Wiring<'a>, OutOfMemory>
     requires { IsWiring wiring }
     ensures is { IfOk result (λ g. IsWiring g) }

@@ -1,4 +1,4 @@
-// The pins of a list of commands, one clock at a time.
+// The pins of a list of commands, one clock or one piece at a time.
 ghost use Rattle.std.specs.Prelude.{◌≡◌, ◌+◌, ◌^◌, ◌<◌, ◌≤◌, [], ◌∷◌, ◌++◌, IsNone, IfSome, MatchOption};
 ghost use Rattle.tap_machine.specs.Play.{pins, rests_after, scans_in};
 ghost use Rattle.tap_machine.specs.Pieces.{piece_pins};
@@ -8,7 +8,7 @@ use crate::{Piece, Pins, Stable};
 use std::marker::Model;
 use svf_writer::Commands;
 
-/// A play of SVF commands, clock by clock (Serial Vector Format, revision E). It copies no scan and takes no memory.
+/// A play of SVF commands, clock by clock or in pieces (Serial Vector Format, revision E). It copies no scan and takes no memory.
 ///
 /// Contracts see a record: `pins`, the pins that are still to come, and `rests`, the state in which they leave the
 /// controller.

@@ -187,7 +187,7 @@ fn thing_trimmed(alloc: Global, thing: Thing) -> Result<Thing, OutOfMemory>
     })
 }
 
-/// The same named things. Of two lists of bits one is there at a time.
+/// The same named things. Each one is let go of as soon as its copy is there.
 pub(crate) fn things_trimmed(alloc: Global, things: List<Thing>) -> Result<List<Thing>, OutOfMemory>
     ensures { IfOk result (λ trimmed. trimmed ≡ full (map trimmed_thing (map seen_thing things.items))) }
 {
