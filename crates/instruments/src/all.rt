@@ -1,5 +1,7 @@
 // All instruments of a network.
-ghost use Rattle.std.specs.Prelude.{◌≡◌, map, length, All, ℕ, IfOk};
+ghost use Rattle.std.specs.Int.{bit_at};
+ghost use Rattle.std.specs.Prelude.{◌≡◌, ◌==◌, ◌<◌, ◌≤◌, ◌^◌, map, length, All, ℕ, IfOk};
+ghost use Rattle.ij_bits.specs.BitLists.{number_of};
 ghost use Rattle.instruments.specs.Arrays.{StandFor};
 ghost use Rattle.instruments.specs.Machine.{Run, Reset, count_log};
 ghost use Rattle.instruments.specs.Models.{IsModel};
@@ -13,9 +15,10 @@ ghost use Rattle.instruments.specs.Driven.{IsDriven};
 ghost use Rattle.instruments.specs.Runners.{machines_of, AreModels, insts_of, shown_at, AreRunning};
 
 use crate::Counts;
-use crate::machine::Machine;
+use crate::machine::{Machine, low_bits};
 use crate::model::Model;
 use crate::runner::{Runner, inputs_of};
+use crate::runs::{is_output_run, is_register_run, register_number};
 use ij_bits::{List, OutOfMemory};
 use net_graph::{Holds, Net, Sig};
 use std::alloc::Global;
@@ -62,6 +65,73 @@ pub fn captured(sig: Sig, holds: &Holds, models: &List<Model>, runners: &[Runner
         Sig::One => true,
         Sig::Bit { bit, inverted } => holds.get(bit) != inverted,
         Sig::Absent | Sig::Zero => false,
+    }
+}
+
+/// The number of signals, bit by bit, the first one the lowest.
+fn captured_by_bits(sigs: &[Sig], holds: &Holds, models: &List<Model>, runners: &[Runner]) -> u64
+    requires few { length sigs.now ≤ 64 }
+    requires driven { All (IsDriven holds.now) sigs.now }
+    requires models { All (λ m. IsModel (seen_model m)) models.now.items }
+    requires count { length runners.now ≡ length models.now.items }
+    ensures value { result ≡ number_of (map (signal (outputs (machines_of models.now.items) (insts_of runners.now)) holds.now) sigs.now) }
+    ensures small { result < 2 ^ length sigs.now }
+{
+    match sigs {
+        [first, rest @ ..] => {
+            u64::from(captured(*first, holds, models, runners))
+                + 2 * captured_by_bits(rest, holds, models, runners)
+        },
+        [] => 0,
+    }
+}
+
+/// The number of the `n` lowest bits at an output of an instrument, 0 where there is none.
+fn output_bits(models: &List<Model>, runners: &[Runner], inst: u32, port: u32, n: u32) -> u64
+    requires few { n ≤ 64 }
+    requires models { All (λ m. IsModel (seen_model m)) models.now.items }
+    requires count { length runners.now ≡ length models.now.items }
+    ensures small { result < 2 ^ n }
+    ensures bits { (pos : ℕ) → pos < n → (bit_at result pos == 1) ≡ outputs (machines_of models.now.items) (insts_of runners.now) inst port pos }
+{
+    let i = inst as usize;
+    if i < models.len() {
+        low_bits(
+            u128::from(runners[i].machine.output(models.get(i), port)),
+            n,
+        )
+    } else {
+        0
+    }
+}
+
+/// The number of up to 64 signals, the first one the lowest. Where they are bits of one register or of one output in a row, it
+/// is read at once. Takes no memory.
+pub fn captured_number(sigs: &[Sig], holds: &Holds, models: &List<Model>, runners: &[Runner]) -> u64
+    requires few { length sigs.now ≤ 64 }
+    requires driven { All (IsDriven holds.now) sigs.now }
+    requires models { All (λ m. IsModel (seen_model m)) models.now.items }
+    requires count { length runners.now ≡ length models.now.items }
+    ensures { result ≡ number_of (map (signal (outputs (machines_of models.now.items) (insts_of runners.now)) holds.now) sigs.now) }
+{
+    match sigs {
+        [Sig::Bit { bit, inverted: _ }, ..] if is_register_run(sigs, *bit) => register_number(
+            *bit,
+            sigs.len() as u32,
+            holds,
+        ),
+        [
+            Sig::Out {
+                inst,
+                port,
+                pos: _,
+                inverted: _,
+            },
+            ..
+        ] if is_output_run(sigs, *inst, *port, 0) => {
+            output_bits(models, runners, *inst, *port, sigs.len() as u32)
+        },
+        _ => captured_by_bits(sigs, holds, models, runners),
     }
 }
 

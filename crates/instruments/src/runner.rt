@@ -14,6 +14,7 @@ ghost use Rattle.instruments.specs.Runners.{running_of};
 use crate::Counts;
 use crate::machine::Machine;
 use crate::model::Model;
+use crate::runs::{is_register_run, register_number};
 use net_graph::{Holds, Inst, Sig};
 
 /// One instrument: its state, the numbers at its inputs, and how often it had each kind of event.
@@ -58,16 +59,33 @@ fn value(sig: Sig, holds: &Holds) -> bool
     }
 }
 
-/// The number that stands at an input port, its first bit the lowest.
-fn port_number(bits: &[Sig], holds: &Holds) -> u64
+/// The number that signals have which no instrument drives, bit by bit, the first one the lowest.
+fn number_by_bits(bits: &[Sig], holds: &Holds) -> u64
     requires few { length bits.now ≤ 64 }
     requires driven { All (IsDriven holds.now) bits.now }
     ensures value { result ≡ number_of (map (signal (λ inst port pos. false) holds.now) bits.now) }
     ensures small { result < 2 ^ length bits.now }
 {
     match bits {
-        [first, rest @ ..] => { u64::from(value(*first, holds)) + 2 * port_number(rest, holds) }
+        [first, rest @ ..] => { u64::from(value(*first, holds)) + 2 * number_by_bits(rest, holds) }
         [] => 0,
+    }
+}
+
+/// The number that stands at an input port, its first bit the lowest. Where one register drives it, the number is read at
+/// once.
+fn port_number(bits: &[Sig], holds: &Holds) -> u64
+    requires few { length bits.now ≤ 64 }
+    requires driven { All (IsDriven holds.now) bits.now }
+    ensures { result ≡ number_of (map (signal (λ inst port pos. false) holds.now) bits.now) }
+{
+    match bits {
+        [Sig::Bit { bit, inverted: _ }, ..] if is_register_run(bits, *bit) => register_number(
+            *bit,
+            bits.len() as u32,
+            holds,
+        ),
+        _ => number_by_bits(bits, holds),
     }
 }
 
