@@ -48,8 +48,8 @@ output_run_bit outs holds inst port pos (suc n) (suc k) h =
 pub output_run_value : (outs : Outputs) (holds : Holds) (inst port n x : ℕ) → x < 2 ^ n → ((k : ℕ) → k < n → (bit_at x k == 1) ≡ outs inst port k) → x ≡ number_of (map (signal outs holds) (output_run inst port 0 n))
 output_run_value outs holds inst port n x small bits =
     number_is (map (signal outs holds) (output_run inst port 0 n)) x n
-      (length-map (output_run inst port 0 n) (signal outs holds) ∙ length-output_run inst port 0 n) small
-      (λ k h. bits k h ∙ ap (outs inst port) (omega arith) ∙ sym (output_run_bit outs holds inst port 0 n k h))
+    (length-map (output_run inst port 0 n) (signal outs holds) ∙ length-output_run inst port 0 n) small
+    (λ k h. bits k h ∙ ap (outs inst port) (omega arith) ∙ sym (output_run_bit outs holds inst port 0 n k h))
 
 -- ---- signals that are such a run
 
