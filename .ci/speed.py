@@ -145,7 +145,7 @@ def hostile(device):
         parts = f"  ScanMux m SelectedBy S {{ {rows} }}\n  ScanRegister S[{bits}:0] {{ ScanInSource m; CaptureSource S; ResetValue {bits + 1}'b0; }}\n"
         text = file('rows.icl', net('S[0]', parts, ''))
         before = measure(f'a multiplexer of {2 ** bits} rows with x bits', ['list', 'text', text, device, 'chip'], before=before)
-    ports = 'Module Ins { ' + ''.join(f'DataInPort d{i}[63:0]; ' for i in range(15)) + '}\n'
+    ports = 'Module Ins { ' + ''.join(f'DataOutPort q{i}[63:0]; ' for i in range(15)) + '}\n'
     text = file('ports.icl', net('R', '  ScanRegister R { ScanInSource SI; CaptureSource R; ResetValue 1\'b0; }\n' + ''.join(f'  Instance i{i} Of Ins;\n' for i in range(200)), ports))
     measure(f'{os.path.getsize(text)} bytes with ports that nobody uses', ['list', 'text', text, device, 'chip'])
 
