@@ -151,7 +151,10 @@ def hostile(device):
 
 
 def tools(device):
-    mux = measure('muxtest, 1023 multiplexers', ['muxtest', str(room / 'limit.icl'), device, 'chip', str(room / 'mux.svf')], 'MB/s', size('mux.svf'))
+    limit, none = str(room / 'limit.icl'), file('none.pdl', pdl(''))
+    read = measure('compile of nothing, 1023 multiplexers', ['compile', limit, none, device, 'chip', 'none', str(room / 'none.svf')])
+    mux = measure('muxtest, 1023 multiplexers', ['muxtest', limit, device, 'chip', str(room / 'mux.svf')], 'MB/s', size('mux.svf'))
+    print(f'{"  planned and written, without reading the network":58} {mux - read:8.3f} s {size("mux.svf")() / (mux - read):23.1f} MB/s')
     icl, text, tables, svf = (str(room / f's64.{it}') for it in ('icl', 'pdl', 'tab', 'svf'))
     playing = measure('play again', ['play', svf, icl, device, tables, 'chip'])
     measure('explain', ['explain', svf, icl, device, tables, 'chip', str(room / 'noted.svf')], 'MB/s', size('noted.svf'))
@@ -159,7 +162,7 @@ def tools(device):
         wave = ['wave', kind, svf, icl, device, tables, 'chip', str(room / 'wave.vcd'), '0', '1000000']
         taken = measure(f'wave {kind}, 1,000,000 clocks', wave, 'MB/s', size('wave.vcd'))
     measure('tighten', ['tighten', 'full', icl, text, device, 'chip', 'p', str(room / 'tight.svf')], 'MB/s', size('tight.svf'))
-    many, none = file('many.icl', row(4096)), file('none.pdl', pdl(''))
+    many = file('many.icl', row(4096))
     measure('compile of nothing, 4096 registers', ['compile', many, none, device, 'chip', 'none', str(room / 'none.svf')])
     measure('list text, 4096 registers', ['list', 'text', many, device, 'chip'])
     measure('list json, 4096 registers', ['list', 'json', many, device, 'chip'])
