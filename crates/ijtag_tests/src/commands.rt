@@ -11,7 +11,7 @@ const COUNTER: &[u8] =
 const COUNT: &[u8] =
     b"iProcsForModule chip\niProc p {} {\n  iWrite cnt.start 1\n  iApply\n  iRunLoop 100\n  iRead cnt.done 1\n  iApply\n}\n";
 
-const DEVICE: &[u8] = b"device 1\nir 8\nlink tap IJTAG A0\n";
+pub(crate) const DEVICE: &[u8] = b"device 1\nir 8\nlink tap IJTAG A0\n";
 
 const COUNTER_TABLES: &[u8] =
     b"tables 1\ninstrument cnt\nin start 1\nword n 8 init 0 reset 0\nword go 1 init 0 reset 0\nword fin 1 init 0 reset 0\nout done = fin\nchange when old start = 0, start = 1 do go = 1, n = 0, fin = 0\nrun when go = 1, n = 99 do go = 0, fin = 1, n = 100\nrun when go = 1 do n = n + 1\nend\n";
@@ -27,10 +27,10 @@ const REPORT: &[u8] =
     b"register net.R 01\ninstrument cnt n=64 go=0 fin=1 changes 1 runs 100 resets 0\nscans 3 clocks 134 differs 0\n";
 
 /// A chip whose instrument has a memory: at each change of its inputs it stores `d` at `a` and shows what stood there.
-const MEMORY: &[u8] =
+pub(crate) const MEMORY: &[u8] =
     b"Module Mem { DataInPort a[3:0]; DataInPort d[7:0]; DataOutPort o[7:0]; }\nModule Net {\n  ScanInPort SI; ScanOutPort SO { Source R[0]; }\n  ScanInterface client { Port SI; Port SO; }\n  DataInPort o[7:0]; DataOutPort a[3:0] { Source R[3:0]; } DataOutPort d[7:0] { Source R[11:4]; }\n  ScanRegister R[11:0] { ScanInSource SI; CaptureSource R[11:8], o; ResetValue 12'b0; }\n}\nModule chip {\n  Instance net Of Net { InputPort o = mem.o; }\n  Instance mem Of Mem { InputPort a = net.a; InputPort d = net.d; }\n  AccessLink tap Of STD_1149_1_2001 {\n    BSDLEntity chip; IJTAG { ScanInterface { net.client; } }\n  }\n}\n";
 
-const MEMORY_TABLES: &[u8] =
+pub(crate) const MEMORY_TABLES: &[u8] =
     b"tables 2\ninstrument mem\n in a 4\n in d 8\n word q 8\n mem m 12 8\n out o=q\nchange do m[a]=d,q=m[a]\nend\n";
 
 /// Two values are stored at one place, and then one after the memory's end.
@@ -97,7 +97,7 @@ const RUN: [&str; 8] = [
     "run", "a.icl", "a.pdl", "a.dev", "a.tab", "chip", "p", "b.svf",
 ];
 
-const DIRECT: [&str; 7] = ["direct", "a.icl", "a.pdl", "a.dev", "a.tab", "chip", "p"];
+pub(crate) const DIRECT: [&str; 7] = ["direct", "a.icl", "a.pdl", "a.dev", "a.tab", "chip", "p"];
 
 const AUDIT: [&str; 7] = ["audit", "a.svf", "a.icl", "a.pdl", "a.dev", "chip", "p"];
 

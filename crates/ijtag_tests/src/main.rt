@@ -5,6 +5,8 @@
 #[cfg(test)]
 mod commands;
 #[cfg(test)]
+mod direct_values;
+#[cfg(test)]
 mod failing_files;
 #[cfg(test)]
 mod failing_makes;

@@ -21,11 +21,9 @@ use Rattle.tap_machine.specs.declared.TapState.TheVariants.{RunTestIdle}
 use Rattle.tap_machine.specs.Play.{masked, pins}
 use Rattle.net_bench.specs.Bench.{Chip, State, select_of}
 use Rattle.net_bench.specs.Instruction.{Selected, Network, Identity, Bypass, selected, selects_identity}
-use Rattle.net_bench.specs.Laws.{Ready, captured, exchanged}
+use Rattle.net_bench.specs.Laws.{IsShaped, Ready, captured, exchanged, stepped}
 use Rattle.net_bench.specs.Playing.{compares_from, differing, play_from, resting, scan_compares}
-use Rattle.net_bench.proofs.LongScans.{long_plays, long_compares}
-use Rattle.net_bench.proofs.Shaped.{IsShaped, pins_shaped, ready_shaped}
-use Rattle.net_bench.proofs.Stepping.{play_rests, stepped}
+use Rattle.net_bench.proofs.PublicLaws.{plays_rest, scans_of_any_length, shaped_is_ready, stays_shaped}
 use Rattle.scan_packer.specs.Flushed.{scan_bits, marker, flush_tdo, flush_mask}
 use Rattle.mux_test.specs.Test.{flush}
 use Rattle.mux_test.proofs.Marker.{last_stay, first_out, none_differ, another_length}
@@ -68,7 +66,7 @@ module _ {L : Type 0} (chip : Chip L) where
     l = length (chain own s.holds)
 
     is_ready : Ready chip s
-    is_ready = ready_shaped chip wide s r.shaped r.idle (network s r) route
+    is_ready = shaped_is_ready chip s wide r.shaped r.idle (network s r) route
 
     marker_long : length (marker net) ≡ suc (scan_bits net)
     marker_long = omega (arith, length-append (replicate (scan_bits net) false) (true ∷ []), length-replicate (scan_bits net) false)
@@ -83,7 +81,7 @@ module _ {L : Type 0} (chip : Chip L) where
 
     -- whatever the path is, the controller rests in Run-Test/Idle afterwards
     pub idle_on : resting (play_from chip scans (SDR f ∷ []) s) ≡ InIdle
-    idle_on = play_rests chip (SDR f ∷ []) InIdle scans s r.idle (some_bits bits at_least_one, tt)
+    idle_on = plays_rest chip scans (SDR f ∷ []) InIdle s r.idle (some_bits bits at_least_one, tt)
 
     own_fits : l ≤ scan_bits net
     own_fits = chain_fits net own s.holds r.shaped.holds (route_in net s.holds s.holds w r.shaped.holds)
@@ -101,7 +99,7 @@ module _ {L : Type 0} (chip : Chip L) where
         is_ready.captured_fits ∙ length-chain_same (chip.path s.holds) s.stages s.holds (r.shaped.stages ∙ sym r.shaped.holds)
 
     finds : compares_from chip scans (SDR f ∷ []) s ≡ scan_compares (suc scans) 0 (masked (flush_tdo net s.holds own) (flush_mask net s.holds own)) (shifted_out c bits)
-    finds = long_compares chip scans f bits s is_ready refl at_least_one
+    finds = (scans_of_any_length chip scans f bits s is_ready refl at_least_one).1
 
     -- a path of another length is found
     pub found : length (chain (chip.path s.holds) s.holds) ≢ l → 1 ≤ length (differing (compares_from chip scans (SDR f ∷ []) s))
@@ -118,7 +116,7 @@ module _ {L : Type 0} (chip : Chip L) where
 
       pub plays : play_from chip scans (SDR f ∷ []) s ≡ stepped chip s after
       plays =
-          long_plays chip scans f bits s is_ready refl at_least_one
+          (scans_of_any_length chip scans f bits s is_ready refl at_least_one).0
           ∙ ap (exchanged chip s) (last_stay c (marker net) last (last_long ∙ sym own_long))
           ∙ ap (λ q. exchanged chip s (chain q after)) (sym same)
           ∙ ap (λ x. record (stepped chip s after) { holds = x; insts = changes chip.log chip.net chip.machines s.holds x s.insts }) (put_chain-to (chip.path s.holds) s.holds after held_route (subst (λ q. DifferOn q s.holds after) (sym same) d))
@@ -136,7 +134,7 @@ module _ {L : Type 0} (chip : Chip L) where
 
       pub rests_on : Rests (play_from chip scans (SDR f ∷ []) s)
       rests_on =
-          record { idle = ap (λ (z : State L). z.tap) plays; link = ap (λ (z : State L). z.ir_hold) plays ∙ r.link; shaped = pins_shaped chip wide (pins (resting s) scans (SDR f ∷ [])) s r.shaped }
+          record { idle = ap (λ (z : State L). z.tap) plays; link = ap (λ (z : State L). z.ir_hold) plays ∙ r.link; shaped = stays_shaped chip (pins (resting s) scans (SDR f ∷ [])) s wide r.shaped }
 
       pub holds_on : (play_from chip scans (SDR f ∷ []) s).holds ≡ after
       holds_on = ap (λ (z : State L). z.holds) plays

@@ -24,8 +24,8 @@ use Rattle.svf_writer.specs.SeenCommands.{SDR, SeenCommand}
 use Rattle.svf_writer.specs.Written.{preface_commands}
 use Rattle.net_bench.specs.Bench.{Chip, State, fault_free, power_up}
 use Rattle.net_bench.specs.Playing.{compares_from, differing, play_from}
-use Rattle.net_bench.proofs.Commanding.{rests_idle}
-use Rattle.net_bench.proofs.Splitting.{play-append, compares_from-append}
+use Rattle.tap_machine.specs.declared.Stable.TheVariants.{Idle as InIdle}
+use Rattle.net_bench.proofs.PublicLaws.{plays_split, rests_as}
 use Rattle.mux_test.specs.Seen.{begins, is_seen, is_seen_in_test}
 use Rattle.mux_test.specs.Test.{flushes, scanned, tested_from, branches}
 use Rattle.mux_test.specs.Laws.{IsTestable, stuck, after_scans, after_test, compared, TestsAreQuiet, StuckAreFound, RowsAreReached}
@@ -93,11 +93,11 @@ module _ (net : Net) (form : Items) (t : IsTestable net form) where
 
       plays : (first : List Holds) → after_scans chip first ≡ play_from chip 1 (map SDR (flushes net start first)) s
       plays first =
-          play-append chip pre (map SDR (flushes net start first)) 0 (power_up chip) (flushes_whole net start first) (rests_idle s s_rests.idle)
+          (plays_split chip 0 pre (map SDR (flushes net start first)) (power_up chip) (flushes_whole net start first) (rests_as InIdle s s_rests.idle)).0
 
       compares : compared chip form ≡ compares_from chip 1 all s
       compares =
-          compares_from-append chip pre all 0 (power_up chip) (flushes_whole net start hs) (rests_idle s s_rests.idle)
+          (plays_split chip 0 pre all (power_up chip) (flushes_whole net start hs) (rests_as InIdle s s_rests.idle)).1
           ∙ ap (λ cs. cs ++ compares_from chip 1 all s) (preface_compares_nothing chip some)
 
       here : (P : Holds → Type 0) → P start → P s.holds

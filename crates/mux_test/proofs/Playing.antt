@@ -29,8 +29,7 @@ use Rattle.tap_machine.specs.declared.Stable.TheVariants.{Idle as InIdle}
 use Rattle.tap_machine.specs.Play.{AreWhole}
 use Rattle.net_bench.specs.Bench.{Chip, State}
 use Rattle.net_bench.specs.Playing.{Compare, compares_from, differing, play_from, resting}
-use Rattle.net_bench.proofs.Commanding.{rests_idle}
-use Rattle.net_bench.proofs.Splitting.{play-append, compares_from-append}
+use Rattle.net_bench.proofs.PublicLaws.{plays_split, rests_as}
 use Rattle.mux_test.specs.Seen.{begins, is_seen}
 use Rattle.mux_test.specs.Test.{flush, flushes}
 use Rattle.mux_test.proofs.Flushing.{Rests, found, none, rests_on, holds_on, idle_on, insts_on}
@@ -131,11 +130,11 @@ module _ {L : Type 0} (chip : Chip L) (w : IsNet chip.net) (wide : capture_width
     rest = map SDR (flushes net k ks)
 
     pub plays_on : play_from chip scans (map SDR (flushes net s.holds (k ∷ ks))) s ≡ play_from chip (scans + 1) rest (play_from chip scans (SDR (flush net s.holds k) ∷ []) s)
-    plays_on = play-append chip (SDR (flush net s.holds k) ∷ []) rest scans s (flushes_whole net k ks) idle
+    plays_on = (plays_split chip scans (SDR (flush net s.holds k) ∷ []) rest s (flushes_whole net k ks) idle).0
 
     pub compares_on : differing (compares_from chip scans (map SDR (flushes net s.holds (k ∷ ks))) s) ≡ differing (compares_from chip scans (SDR (flush net s.holds k) ∷ []) s) ++ differing (compares_from chip (scans + 1) rest (play_from chip scans (SDR (flush net s.holds k) ∷ []) s))
     compares_on =
-        ap differing (compares_from-append chip (SDR (flush net s.holds k) ∷ []) rest scans s (flushes_whole net k ks) idle)
+        ap differing (plays_split chip scans (SDR (flush net s.holds k) ∷ []) rest s (flushes_whole net k ks) idle).1
         ∙ differing_both (compares_from chip scans (SDR (flush net s.holds k) ∷ []) s) _
 
   -- ---- on the path that is meant
@@ -147,7 +146,7 @@ module _ {L : Type 0} (chip : Chip L) (w : IsNet chip.net) (wide : capture_width
       let s1 = play_from chip scans (SDR (flush net s.holds k) ∷ []) s in
       let r1 = next_rests scans s r g k u.0 meant in
       let e1 = next_holds scans s r g k u.0 meant in
-      let idle = rests_idle s1 r1.idle in
+      let idle = rests_as InIdle s1 r1.idle in
       let later = subst (λ z. AreQuiet chip (scans + 1) s1 z ks) e1 (quiet same ks (scans + 1) s1 r1 (next_scannable scans s r g k u.0 meant) (subst (λ z. AreUnseen net z ks) (sym e1) u.1)) in
       let on = plays_on scans s k ks idle in
       record {
@@ -181,7 +180,7 @@ module _ {L : Type 0} (chip : Chip L) (w : IsNet chip.net) (wide : capture_width
         let meant : chip.path h ≡ own = is_stuck h ∙ sym alike in
         let r1 = next_rests scans s r g k u.0 meant in
         let e1 = next_holds scans s r g k u.0 meant in
-        let idle = rests_idle s1 r1.idle in
+        let idle = rests_as InIdle s1 r1.idle in
         let later = finds_stuck ks (scans + 1) s1 r1 (next_scannable scans s r g k u.0 meant) (subst (λ z. AreUnseen net z ks) (sym e1) u.1) (subst (λ x. is_seen net b (begins x ks) ≡ true) (sym e1) (sym (ap ask t) ∙ z)) in
         subst (λ cs. 1 ≤ length cs) (sym (compares_on scans s k ks idle)) (more_right (differing (compares_from chip scans (SDR (flush net h k) ∷ []) s)) _ (subst (λ x. 1 ≤ length (differing (compares_from chip (scans + 1) (map SDR (flushes net x ks)) s1))) e1 later))) (λ t. let other_length : length (chain other h) ≢ length (chain own h) = lengths_differ own other h (sym (ap ask t) ∙ z) in
         let idle = idle_on chip w wide scans s r k u.0.scan.shape (routes h) (some_bits h g) in

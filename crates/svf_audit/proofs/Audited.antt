@@ -5,7 +5,7 @@ use Rattle.std.proofs.lemmas.Bool.{true≢false}
 use Rattle.net_graph.proofs.Resetting.{reset_twice}
 use Rattle.net_graph.specs.Resets.{zero_holds}
 use Rattle.net_bench.specs.Bench.{fault_free, power_up}
-use Rattle.net_bench.proofs.Shaped.{power_up_shaped}
+use Rattle.net_bench.proofs.PublicLaws.{is_shaped_first}
 use Rattle.instruments.specs.Machine.{whole_log}
 use Rattle.pdl_meaning.specs.Direct.{direct, power_up as direct_power_up}
 use Rattle.headline.proofs.PlannedScripts.{has_routes}
@@ -21,7 +21,7 @@ audited_plays_do_all net device machines steps commands readings w u v valid fit
     let chip = fault_free whole_log net device machines in
     let goal = direct whole_log net machines steps in
     let d = direct_power_up whole_log net machines in
-    let h = power_up_shaped chip in
+    let h = is_shaped_first chip in
     let z = zero_holds net in
     let begins : Follows whole_log net device machines n u v goal (start net device steps) (power_up chip) [] = record { tap = refl; shaped = h; linked = reset_unlinked device v; holds = refl; stays = λ r. reset_twice net z; known = []; meaning = d; along = record { agrees = record { holds = λ b q. refl; insts = refl }; widths = h.holds; valid = steps_work net steps valid; ends = steps_worked whole_log net machines steps d; reads = refl }; reads = refl; compared = λ c. (λ m. m, λ m. m) } in
     let ends = all_follow whole_log net device machines n u v goal commands (start net device steps) (power_up chip) [] None None readings (λ m q. absurd (true≢false (sym (ap is_some q)))) (λ m q. absurd (true≢false (sym (ap is_some q)))) fit begins e in

@@ -37,14 +37,11 @@ use Rattle.tap_machine.specs.declared.Stable.{Stable}
 use Rattle.tap_machine.specs.declared.Stable.TheVariants.{Reset as InReset, Idle as InIdle}
 use Rattle.tap_machine.specs.declared.TapState.TheVariants.{TestLogicReset, RunTestIdle}
 use Rattle.tap_machine.specs.Play.{LastScan, after_scan, played, no_shift, sdr_pins, sir_pins, to_idle, pins_with, is_empty, scans_in}
-use Rattle.net_bench.specs.Laws.{Ready, captured, exchanged, loaded, ran, was_reset as bench_reset}
+use Rattle.net_bench.specs.Laws.{IsShaped, Ready, captured, exchanged, loaded, ran, tap_of, was_reset as bench_reset}
 use Rattle.net_bench.specs.Bench.{Chip, State as Bench, fault_free, select_of}
 use Rattle.net_bench.specs.Instruction.{Selected, Network, Identity, Bypass, reset_instruction, selects_identity}
 use Rattle.net_bench.specs.Playing.{Compare, after_pins, compares, scan_compares}
-use Rattle.net_bench.proofs.Commands.{run_runs, reset_resets}
-use Rattle.net_bench.proofs.Scans.{after_pins-append, compares-append, scan_exchanges_bits, scan_finds_bits}
-use Rattle.net_bench.proofs.Shaped.{IsShaped, ready_shaped}
-use Rattle.net_bench.proofs.Stepping.{tap_of}
+use Rattle.net_bench.proofs.PublicLaws.{pins_split, resets_reset, shaped_is_ready}
 use Rattle.pdl_meaning.specs.Direct.{Direct, do_group, do_step, found}
 use Rattle.headline.specs.Agreement.{Agrees, read_compare}
 use Rattle.headline.proofs.Comparing.{both}
@@ -55,7 +52,7 @@ use Rattle.svf_audit.specs.Audit.{State, Reading, Yes, No, at_end, audit_from, c
 use Rattle.svf_audit.specs.Work.{Work, Group, Cycle, Reset, due, group_first, after_reset, after_cycles}
 use Rattle.svf_audit.specs.Law.{reads_of, read_compares}
 use Rattle.svf_audit.proofs.Changing.{none_changed, writes_done}
-use Rattle.svf_audit.proofs.Clocking.{idle_plays, idle_quiet, clocks_quiet, sdr_quiet, sir_quiet, sir_loads, passing, sdr_passes, reset_again}
+use Rattle.svf_audit.proofs.Clocking.{idle_plays, idle_quiet, clocks_quiet, sdr_quiet, sir_quiet, sir_loads, sdr_shifts, run_waits, passing, sdr_passes, reset_again}
 use Rattle.svf_audit.proofs.Finding.{reads_stand, reads_expected, group_compared}
 use Rattle.svf_audit.proofs.Noting.{note_reads, note_compares}
 use Rattle.svf_audit.proofs.Opcodes.{reset_unlinked}
@@ -197,11 +194,11 @@ module _ {L : Type 0} (log : Log L) (net : Net) (device : Device) (machines : Li
   idle s = record s { tap = RunTestIdle }
 
   via_idle : (from : Stable) (ps : List Pins) (s : Bench L) → s.tap ≡ tap_of from → after_pins chip (to_idle from ++ ps) s ≡ after_pins chip ps (idle s)
-  via_idle from ps s e = after_pins-append chip (to_idle from) ps s ∙ ap (after_pins chip ps) (idle_plays chip from s e)
+  via_idle from ps s e = (pins_split chip (to_idle from) ps s).0 ∙ ap (after_pins chip ps) (idle_plays chip from s e)
 
   found_idle : (from : Stable) (ps : List Pins) (s : Bench L) → s.tap ≡ tap_of from → compares chip (to_idle from ++ ps) s ≡ compares chip ps (idle s)
   found_idle from ps s e =
-      compares-append chip (to_idle from) ps s
+      (pins_split chip (to_idle from) ps s).1
       ∙ ap (λ l. l ++ compares chip ps (after_pins chip (to_idle from) s)) (idle_quiet chip from s)
       ∙ ap (compares chip ps) (idle_plays chip from s e)
 
@@ -237,7 +234,7 @@ module _ {L : Type 0} (log : Log L) (net : Net) (device : Device) (machines : Li
         let fits : length p.tdi ≡ length s.ir_stage = wide ∙ eqb-true x.len device.ir long ∙ sym f.shaped.ir in
         let ps = sir_pins (suc a.scans) p in
         let t = loaded chip (idle s) p.tdi in
-        let there : after_pins chip (to_idle a.rest ++ ps) s ≡ t = via_idle a.rest ps s f.tap ∙ sir_loads chip (suc a.scans) p.tdi p.expects (idle s) refl (omega (arith, wide, fit.some)) fits in
+        let there : after_pins chip (to_idle a.rest ++ ps) s ≡ t = via_idle a.rest ps s f.tap ∙ sir_loads chip a.scans a.ir x (idle s) refl (omega (arith, wide, fit.some)) fits in
         let quiet_all : compares chip (to_idle a.rest ++ ps) s ≡ [] = found_idle a.rest ps s f.tap ∙ sir_quiet chip (suc a.scans) p (idle s) (not-true _ none) in
         let g = f.along in
         let here : Follows b0 t past = record { tap = refl; shaped = record { stages = f.shaped.stages; holds = f.shaped.holds; ir = wide ∙ eqb-true x.len device.ir long }; linked = refl; holds = f.holds; stays = λ z. absurd (not_reset z); known = f.known; meaning = f.meaning; along = record { agrees = record { holds = g.agrees.holds; insts = g.agrees.insts }; widths = g.widths; valid = g.valid; ends = g.ends; reads = g.reads }; reads = f.reads; compared = f.compared } in
@@ -291,7 +288,7 @@ module _ {L : Type 0} (log : Log L) (net : Net) (device : Device) (machines : Li
     work_reset_goes b left r q is =
         let b0 : State = was_reset net device A left in
         let t = bench_reset chip s in
-        let there : after_pins chip (replicate 5 (no_shift true)) s ≡ t = reset_resets chip s (f.tap ∙ ap tap_of r) in
+        let there : after_pins chip (replicate 5 (no_shift true)) s ≡ t = (resets_reset chip 0).0 s (f.tap ∙ ap tap_of r) in
         let (d1, g1) = due_along log net device machines u goal f.known s f.shaped.holds a.left f.meaning f.along in
         let g = subst (λ l. Beside f.known s l d1) (same_reset (due s.holds a.left) left q) g1 in
         let d2 = do_step log net machines d1 ResetStep in
@@ -314,7 +311,7 @@ module _ {L : Type 0} (log : Log L) (net : Net) (device : Device) (machines : Li
         let is : b0 ≡ b = same_answer b0 b e1 in
         let ps = replicate k (no_shift false) in
         let t = ran chip k (idle s) in
-        let there : after_pins chip (to_idle a.rest ++ ps) s ≡ t = via_idle a.rest ps s f.tap ∙ run_runs chip k (idle s) refl in
+        let there : after_pins chip (to_idle a.rest ++ ps) s ≡ t = via_idle a.rest ps s f.tap ∙ run_waits chip k (idle s) refl in
         let quiet_all : compares chip (to_idle a.rest ++ ps) s ≡ [] = found_idle a.rest ps s f.tap ∙ clocks_quiet chip k false (idle s) in
         let g0 = f.along in
         let start : Beside f.known (idle s) a.left f.meaning = record { agrees = record { holds = g0.agrees.holds; insts = g0.agrees.insts }; widths = g0.widths; valid = g0.valid; ends = g0.ends; reads = g0.reads } in
@@ -370,7 +367,7 @@ module _ {L : Type 0} (log : Log L) (net : Net) (device : Device) (machines : Li
       idle_shaped = record { stages = f.shaped.stages; holds = f.shaped.holds; ir = f.shaped.ir }
 
       is_ready : Ready chip (idle s)
-      is_ready = ready_shaped chip n.wide (idle s) idle_shaped refl network route
+      is_ready = shaped_is_ready chip (idle s) n.wide idle_shaped refl network route
 
       fits : length tdi ≡ length (captured chip (idle s))
       fits = fits_stages ∙ sym is_ready.captured_fits
@@ -379,10 +376,10 @@ module _ {L : Type 0} (log : Log L) (net : Net) (device : Device) (machines : Li
       t = exchanged chip (idle s) tdi
 
       there : after_pins chip all_pins s ≡ t
-      there = via_idle a.rest (sdr_pins (suc a.scans) (played a.dr x)) s f.tap ∙ scan_exchanges_bits chip (suc a.scans) tdi es (idle s) is_ready at_least_one_bit fits
+      there = via_idle a.rest (sdr_pins (suc a.scans) (played a.dr x)) s f.tap ∙ (sdr_shifts chip a.scans a.dr x (idle s) is_ready at_least_one_bit fits).0
 
       finds : compares chip all_pins s ≡ scan_compares (suc a.scans) 0 es (captured chip (idle s))
-      finds = found_idle a.rest (sdr_pins (suc a.scans) (played a.dr x)) s f.tap ∙ scan_finds_bits chip (suc a.scans) tdi es (idle s) is_ready at_least_one_bit fits
+      finds = found_idle a.rest (sdr_pins (suc a.scans) (played a.dr x)) s f.tap ∙ (sdr_shifts chip a.scans a.dr x (idle s) is_ready at_least_one_bit fits).1
 
       same_shape : shape now ≡ shape s.holds
       same_shape = put_chain-shape path tdi s.holds fits_holds
@@ -525,6 +522,6 @@ module _ {L : Type 0} (log : Log L) (net : Net) (device : Device) (machines : Li
       let past1 = past ++ compares chip ps s in
       let rest = pins_with b.ir b.dr b.rest b.scans cs in
       let ends = all_follow cs b s1 past1 (last_ir ir c) (last_dr dr c) readings (ir_after a b c ir dr i here g.ir) (dr_after a b c ir dr d here g.dr) later g.follows e1 in
-      let goes_to : after_pins chip (pins_with a.ir a.dr a.rest a.scans (c ∷ cs)) s ≡ after_pins chip rest s1 = ap (λ p. after_pins chip p s) (g.pins cs) ∙ after_pins-append chip ps rest s in
-      let finds : past ++ compares chip (pins_with a.ir a.dr a.rest a.scans (c ∷ cs)) s ≡ past1 ++ compares chip rest s1 = ap (λ p. past ++ compares chip p s) (g.pins cs) ∙ ap (λ l. past ++ l) (compares-append chip ps rest s) ∙ sym (append_assoc past (compares chip ps s) (compares chip rest s1)) in
+      let goes_to : after_pins chip (pins_with a.ir a.dr a.rest a.scans (c ∷ cs)) s ≡ after_pins chip rest s1 = ap (λ p. after_pins chip p s) (g.pins cs) ∙ (pins_split chip ps rest s).0 in
+      let finds : past ++ compares chip (pins_with a.ir a.dr a.rest a.scans (c ∷ cs)) s ≡ past1 ++ compares chip rest s1 = ap (λ p. past ++ compares chip p s) (g.pins cs) ∙ ap (λ l. past ++ l) (pins_split chip ps rest s).1 ∙ sym (append_assoc past (compares chip ps s) (compares chip rest s1)) in
       subst (λ z. Ends z (past ++ compares chip (pins_with a.ir a.dr a.rest a.scans (c ∷ cs)) s) readings) (sym goes_to) (subst (λ l. Ends (after_pins chip rest s1) l readings) (sym finds) ends)

@@ -1,5 +1,5 @@
-use Rattle.net_bench.proofs.Commanding.{run_plays}
+use Rattle.net_bench.proofs.PublicLaws.{runs_wait}
 use Rattle.net_bench.proofs.laws.runs_wait.Goals as goal
 
 pub returns : goal.returns
-returns c = run_plays
+returns c = runs_wait
