@@ -1,5 +1,6 @@
 pub mod Compared
 pub mod Cutting
+pub mod DigitParts
 pub mod Filing
 pub mod HaveBits
 pub mod Kept

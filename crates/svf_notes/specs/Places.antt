@@ -1,6 +1,6 @@
 -- One position of one scan: which register bit it is, what it captures, what is written, expected and found there (Serial Vector
 -- Format, revision E; IEEE 1687-2014: active scan path, CaptureSource).
-use Rattle.std.specs.Prelude.{ℕ, ◌+◌, ◌-◌, ◌==◌, nat_lt, Bool, cond, List, [], ◌∷◌, ◌++◌, codes, decimal, get_or, length, map, slice_get, Option, Some, None}
+use Rattle.std.specs.Prelude.{ℕ, ◌-◌, ◌==◌, nat_lt, Bool, cond, List, [], ◌∷◌, ◌++◌, codes, decimal, length, slice_get, Option, Some, None}
 use Rattle.net_graph.specs.declared.device.Device.{Device}
 use Rattle.net_graph.specs.declared.net.BitId.{BitId}
 use Rattle.net_graph.specs.declared.net.Net.{Net}

@@ -1,5 +1,5 @@
 // The values of bits.
-ghost use Rattle.std.specs.Prelude.{◌≡◌, Some, length, OnOk};
+ghost use Rattle.std.specs.Prelude.{◌≡◌, ◌≤◌, Some, length, OnOk};
 ghost use Rattle.std.specs.List.{list_any};
 ghost use Rattle.ij_bits.specs.BitLists.{bits_eq};
 ghost use Rattle.ij_io.specs.Bytes.{Adds};
@@ -41,6 +41,18 @@ fn digit_of(shown: Shown, bit: Shifted) -> u8
     }
 }
 
+/// Writes one value of each of up to 64 bits, the highest position first.
+fn put_some_digits(shown: Shown, bits: &[Shifted], note: &mut SureSink) -> Result<(), StoreFault>
+    requires { length bits.now ≤ 64 }
+    ensures { OnOk result (Adds (Some note.old) (Some note.new) (notes.digits shown bits.now)) }
+{
+    let mut text = [0; 64];
+    for j in 0..bits.len() {
+        text[j] = digit_of(shown, bits[bits.len() - 1 - j]);
+    }
+    note.write(&text[..bits.len()])
+}
+
 /// Writes one value of each of some bits, the highest position first.
 pub(crate) fn put_digits(
     shown: Shown,
@@ -49,9 +61,12 @@ pub(crate) fn put_digits(
 ) -> Result<(), StoreFault>
     ensures { OnOk result (Adds (Some note.old) (Some note.new) (notes.digits shown bits.now)) }
 {
-    for j in 0..bits.len() {
-        note.write(&[digit_of(shown, bits[bits.len() - 1 - j])])?;
+    let mut end = bits.len();
+    while end > 64 {
+        put_some_digits(shown, &bits[end - 64..end], note)?;
+        end -= 64;
     }
+    put_some_digits(shown, &bits[..end], note)?;
     Ok(())
 }
 

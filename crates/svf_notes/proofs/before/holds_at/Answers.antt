@@ -1,7 +1,6 @@
-use Rattle.std.proofs.Common.{◌≡◌, ◌+◌, ◌∙◌, ap, sym, arith, cond, Bool, List, None, Some, suc, ℕ}
+use Rattle.std.proofs.Common.{◌≡◌, ◌+◌, ◌∙◌, ap, sym, arith, cond, Bool, None, Some, suc}
 use Rattle.std.specs.Prelude.{map}
-use Rattle.instruments.specs.Seen.{SeenModel, seen_model}
-use Rattle.net_bench.specs.Board.{SeenBench}
+use Rattle.instruments.specs.Seen.{seen_model}
 use Rattle.tap_machine.specs.Play.{scans_in}
 use Rattle.svf_notes.proofs.Earlier.{held_is, none_is_zero}
 use Rattle.svf_notes.proofs.before.holds_at.Goals as goal
