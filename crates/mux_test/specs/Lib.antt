@@ -7,6 +7,7 @@ pub mod Reading
 pub mod Texts
 pub mod Steps
 pub mod Planned
+pub mod Detours
 pub mod Judged
 pub mod Judging
 pub mod Given
