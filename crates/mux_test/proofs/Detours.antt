@@ -3,10 +3,12 @@ use Rattle.std.proofs.Common.{◌≡◌, ◌⊎◌, ⊎_elim, ℕ, zero, suc, �
 use Rattle.std.specs.Prelude.{◌==◌, option_map, take, unwrap_or, IfSome, IsSome}
 use Rattle.std.specs.Option.{option_and_then}
 use Rattle.std.specs.Str.{bytes_eq as same_registers}
+use Rattle.std.proofs.Math.Seq.{take-length}
 use Rattle.std.proofs.lemmas.Bool.{cases_eq, eq-eqb, eqb-true, true≢false}
 use Rattle.std.proofs.lemmas.Option.{same_Some, none-some}
 use Rattle.std.proofs.lemmas.Slice.Eq.{bytes_eq-Decides}
 use Rattle.ij_bits.proofs.Lists.{map_some, then_some}
+use Rattle.ij_bits.proofs.Tests.{same_truth}
 use Rattle.net_graph.specs.Chain.{chain, IsRoute, NotIn}
 use Rattle.net_graph.specs.declared.branch.Branch.{Branch}
 use Rattle.net_graph.specs.declared.net.Net.{Net}
@@ -158,10 +160,6 @@ drop_short zero xs = omega arith
 drop_short (suc i) [] = omega arith
 drop_short (suc i) (x ∷ xs) = omega (arith, drop_short i xs)
 
-take_whole : (xs : List ℕ) → take (length xs) xs ≡ xs
-take_whole [] = refl
-take_whole (x ∷ xs) = ap (λ ys. x ∷ ys) (take_whole xs)
-
 pub join_within : (path : List ℕ) (at ahead : Point) (i : ℕ) → IsJoin path at ahead i → i ≤ length path
 join_within path Entry ahead i j = omega (arith, j.1)
 join_within path (Reg r) ahead i j = omega (arith, j.0)
@@ -203,23 +201,23 @@ module _ (net : Net) (holds : Holds) where
     stuck_trace n p = trace_by net (stuck_source net b holds) n p
 
     -- where fewer registers are left than from the mux on, the mux isn't met again
-    behind : (n : ℕ) (p : Point) (xs : List ℕ) (k : ℕ) (whole : List ℕ) → trace net holds k (FromMux b.mux) ≡ Some whole → trace net holds n p ≡ Some xs → length xs < length whole → stuck_trace n p ≡ Some xs
-    behind n Entry xs k whole m t l = t
-    behind zero (Reg r) xs k whole m t l = absurd (none-some xs t)
-    behind zero (FromMux x) xs k whole m t l = absurd (none-some xs t)
-    behind (suc n) (Reg r) xs k whole m t l =
+    beyond : (n : ℕ) (p : Point) (xs : List ℕ) (k : ℕ) (whole : List ℕ) → trace net holds k (FromMux b.mux) ≡ Some whole → trace net holds n p ≡ Some xs → length xs < length whole → stuck_trace n p ≡ Some xs
+    beyond n Entry xs k whole m t l = t
+    beyond zero (Reg r) xs k whole m t l = absurd (none-some xs t)
+    beyond zero (FromMux x) xs k whole m t l = absurd (none-some xs t)
+    beyond (suc n) (Reg r) xs k whole m t l =
         let (rest, f, g) = map_some (λ rs. r ∷ rs) (trace net holds n (reg_source net r)) xs t in
-        ap (option_map (λ rs. r ∷ rs)) (behind n (reg_source net r) rest k whole m f (omega (arith, l, ap length g))) ∙ ap Some g
-    behind (suc n) (FromMux x) xs k whole m t l =
+        ap (option_map (λ rs. r ∷ rs)) (beyond n (reg_source net r) rest k whole m f (omega (arith, l, ap length g))) ∙ ap Some g
+    beyond (suc n) (FromMux x) xs k whole m t l =
         let (q, f, g) = then_some (trace net holds n) (mux_source net holds x) xs t in
         let another : x ≡ b.mux → ⊥ = λ s. absurd (omega (arith, l, ap length (once (suc n) k (FromMux b.mux) xs whole (subst (λ y. trace net holds (suc n) (FromMux y) ≡ Some xs) s t) m))) in
-        ap (option_and_then (stuck_trace n)) (sym (stuck_elsewhere net b holds x another) ∙ f) ∙ behind n q xs k whole m g l
+        ap (option_and_then (stuck_trace n)) (sym (stuck_elsewhere net b holds x another) ∙ f) ∙ beyond n q xs k whole m g l
 
-    behind_reg : (n r : ℕ) (xs : List ℕ) (k : ℕ) (whole : List ℕ) → trace net holds k (FromMux b.mux) ≡ Some whole → trace net holds n (Reg r) ≡ Some xs → length xs ≤ length whole → stuck_trace n (Reg r) ≡ Some xs
-    behind_reg zero r xs k whole m t l = absurd (none-some xs t)
-    behind_reg (suc n) r xs k whole m t l =
+    beyond_reg : (n r : ℕ) (xs : List ℕ) (k : ℕ) (whole : List ℕ) → trace net holds k (FromMux b.mux) ≡ Some whole → trace net holds n (Reg r) ≡ Some xs → length xs ≤ length whole → stuck_trace n (Reg r) ≡ Some xs
+    beyond_reg zero r xs k whole m t l = absurd (none-some xs t)
+    beyond_reg (suc n) r xs k whole m t l =
         let (rest, f, g) = map_some (λ rs. r ∷ rs) (trace net holds n (reg_source net r)) xs t in
-        ap (option_map (λ rs. r ∷ rs)) (behind n (reg_source net r) rest k whole m f (omega (arith, l, ap length g))) ∙ ap Some g
+        ap (option_map (λ rs. r ∷ rs)) (beyond n (reg_source net r) rest k whole m f (omega (arith, l, ap length g))) ∙ ap Some g
 
     -- the active path goes to the mux, and the path on which it is stuck goes there over the same registers
     record OnWay (p : Point) (met : List ℕ) : Type 0 where
@@ -277,14 +275,14 @@ module _ (net : Net) (holds : Holds) where
         let (k, rest, u, v) = g.goes n whole t in
         let none : [] ≡ rest = same_Some [] rest (subst (λ p. trace net holds k p ≡ Some rest) j.0 u) in
         let (c, f) = l.leads 0 [] refl in
-        record { rest = []; own_is = v ∙ ap (λ xs. own ++ xs) (sym none) ∙ ap (λ xs. xs ++ []) (sym (take_whole own)) ∙ ap (λ x. take x own ++ []) (sym j.1); count = c; other_is = f }
+        record { rest = []; own_is = v ∙ ap (λ xs. own ++ xs) (sym none) ∙ ap (λ xs. xs ++ []) (sym (take-length own)) ∙ ap (λ x. take x own ++ []) (sym j.1); count = c; other_is = f }
     has_rest own other (Reg r) ahead i j g l n whole t =
         let (k, rest, u, v) = g.goes n whole t in
         let all = own ++ rest in
         let s : trace net holds n (FromMux b.mux) ≡ Some all = t ∙ ap Some v in
         let inside : i < length all = omega (arith, j.0, length-append own rest) in
         let at_r = subst (λ x. trace net holds n (Reg x) ≡ Some (drop i all)) (found own rest i r j.0 j.1) (tail_at n (FromMux b.mux) all i s inside) in
-        let (c, f) = l.leads n (drop i all) (behind_reg n r (drop i all) n all s at_r (drop_short i all)) in
+        let (c, f) = l.leads n (drop i all) (beyond_reg n r (drop i all) n all s at_r (drop_short i all)) in
         record { rest = drop i all; own_is = v ∙ cut own rest i (omega (arith, j.0)); count = c; other_is = f }
 
     pub joined : (own other : List ℕ) (at ahead : Point) (i : ℕ) (path : List ℕ) → IsNet net → IsJoin own at ahead i → GoesTo ahead own → LeadsTo at other → active net holds ≡ Some path → Among b.mux (active_muxes net holds) → IsDetour net holds b (take i own) other
@@ -328,23 +326,18 @@ chain_long [] ys h = omega arith
 chain_long (x ∷ xs) ys h =
     omega (arith, length-append (bits_at h x) (chain (xs ++ ys) h), length-append (bits_at h x) (chain xs h), chain_long xs ys h)
 
-alike : (s t : Bool) → (s ≡ true → t ≡ true) → (t ≡ true → s ≡ true) → s ≡ t
-alike true t f g = sym (f refl)
-alike false true f g = g refl
-alike false false f g = refl
-
 pub same_verdict : (h : Holds) (front a b rest : List ℕ) → verdict_of h a b ≡ verdict_of h (front ++ (a ++ rest)) (front ++ (b ++ rest))
 same_verdict h front a b rest =
     let own = front ++ (a ++ rest) in
     let other = front ++ (b ++ rest) in
-    let same : same_registers a b ≡ same_registers own other = alike (same_registers a b) (same_registers own other) (λ e. (bytes_eq-Decides own other).1 (ap (λ xs. front ++ (xs ++ rest)) ((bytes_eq-Decides a b).0 e))) (λ e. (bytes_eq-Decides a b).1 (same_part front a b rest ((bytes_eq-Decides own other).0 e))) in
+    let same : same_registers a b ≡ same_registers own other = same_truth (same_registers a b) (same_registers own other) (λ e. (bytes_eq-Decides own other).1 (ap (λ xs. front ++ (xs ++ rest)) ((bytes_eq-Decides a b).0 e))) (λ e. (bytes_eq-Decides a b).1 (same_part front a b rest ((bytes_eq-Decides own other).0 e))) in
     let x = length (chain a h) in
     let y = length (chain b h) in
     let long = length (chain own h) in
     let wide = length (chain other h) in
     let u : long ≡ length (chain front h) + (x + length (chain rest h)) = chain_long front (a ++ rest) h ∙ ap (λ n. length (chain front h) + n) (chain_long a rest h) in
     let v : wide ≡ length (chain front h) + (y + length (chain rest h)) = chain_long front (b ++ rest) h ∙ ap (λ n. length (chain front h) + n) (chain_long b rest h) in
-    let bits : (x == y) ≡ (long == wide) = alike (x == y) (long == wide) (λ e. eq-eqb long wide (let z = eqb-true x y e in omega (arith, u, v, z))) (λ e. eq-eqb x y (let z = eqb-true long wide e in omega (arith, u, v, z))) in
+    let bits : (x == y) ≡ (long == wide) = same_truth (x == y) (long == wide) (λ e. eq-eqb long wide (let z = eqb-true x y e in omega (arith, u, v, z))) (λ e. eq-eqb x y (let z = eqb-true long wide e in omega (arith, u, v, z))) in
     ap (λ (s : Bool). elim s as (λ _. Verdict) [ true ↦ Open | false ↦ elim (x == y) as (λ _. Verdict) [ true ↦ Unseen | false ↦ Seen ] ]) same
     ∙ ap (λ (t : Bool). elim (same_registers own other) as (λ _. Verdict) [ true ↦ Open | false ↦ elim t as (λ _. Verdict) [ true ↦ Unseen | false ↦ Seen ] ]) bits
 

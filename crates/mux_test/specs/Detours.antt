@@ -21,7 +21,7 @@ pub record IsDetour (net : Net) (holds : Holds) (b : Branch) (own other : List �
   pub stuck : stuck_route net b holds ≡ front ++ (other ++ rest)
 
 -- a path that has come to a point meets one with these registers, which has come to a point ahead: before the register at an
--- index, or behind all of them
+-- index, or after all of them
 abbrev pub IsJoin : List ℕ → Point → Point → ℕ → Type 0
 IsJoin path Entry ahead i = (ahead ≡ Entry) × (i ≡ length path)
 IsJoin path (Reg r) ahead i = (i < length path) × (slice_index_or path i r ≡ r)
