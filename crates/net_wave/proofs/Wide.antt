@@ -9,7 +9,8 @@ use Rattle.instruments.specs.Seen.{SeenModel}
 use Rattle.net_bench.specs.Bench.{Chip, State, act, capture_bits, clock, dr_bits, enter, power_up, put_dr, run_from, select_of, update_dr}
 use Rattle.net_bench.specs.Instruction.{Selected, Network, Identity, Bypass, reset_instruction}
 use Rattle.net_bench.specs.Playing.{after_pins}
-use Rattle.net_bench.proofs.Shaped.{IsShaped, clock_shaped, power_up_shaped}
+use Rattle.net_bench.specs.Laws.{IsShaped}
+use Rattle.net_bench.proofs.PublicLaws.{is_shaped_first, stays_shaped}
 use Rattle.net_bench.proofs.Wide.{captures_wide}
 use Rattle.net_graph.specs.Chain.{shift}
 use Rattle.net_graph.specs.declared.device.Device.{Device}
@@ -99,11 +100,11 @@ module _ (c : Chip Counts) where
   pub played_fits : capture_widths c.net ≡ widths c.net → (ps : List Pins) (s : State Counts) → Fits s → Fits (after_pins c ps s)
   played_fits wide [] s h = h
   played_fits wide (p ∷ ps) s h =
-      let after = clock_shaped c wide p.tms p.tdi s h.shaped in
+      let after = stays_shaped c (p ∷ []) s wide h.shaped in
       played_fits wide ps (clock c p.tms p.tdi s) (record { shaped = after; held = clock_held p.tms p.tdi s after h.held })
 
   pub begins : Fits (power_up c)
-  begins = record { shaped = power_up_shaped c; held = reset_long c.device }
+  begins = record { shaped = is_shaped_first c; held = reset_long c.device }
 
 -- ---- values
 

@@ -14,7 +14,7 @@ use Rattle.tap_machine.specs.Tap.{next}
 use Rattle.tap_machine.specs.Play.{LastScan, Played, after_scan, expected, is_empty, mask_now, masked, no_shift, pins_with, played, scans_in, sdr_pins, shifts, sir_pins, to_idle}
 use Rattle.net_bench.specs.Bench.{Chip, State, clock}
 use Rattle.net_bench.specs.Playing.{after_pins}
-use Rattle.net_bench.proofs.Scans.{after_pins-append}
+use Rattle.net_bench.proofs.PublicLaws.{pins_split}
 use Rattle.net_bench.proofs.Shaped.{clock_tap}
 use Rattle.net_bench.proofs.Stepping.{pins_tap, tap_of, taps}
 use Rattle.svf_notes.specs.Noted.{IsScanFrom, before_scan, played_at}
@@ -65,7 +65,7 @@ module _ (chip : Chip Counts) where
       let x : Scan Counts = record { number = suc n; bits = shifted_bits chip (t ∷ ts) es b; state = d } in
       let kept = moved_on s b d in_shift out begun (shifts_move chip in_shift out on off (suc n) 0 t ts es b begun.tap_is) in
       let order : (first ++ (scan ++ back)) ++ rest ≡ first ++ (scan ++ (back ++ rest)) = append_assoc first (scan ++ back) rest ∙ ap (λ (l : List Pins). first ++ l) (append_assoc scan back rest) in
-      let end : after_pins chip (first ++ (scan ++ back)) s ≡ after_pins chip back d = after_pins-append chip first (scan ++ back) s ∙ after_pins-append chip scan back b in
+      let end : after_pins chip (first ++ (scan ++ back)) s ≡ after_pins chip back d = (pins_split chip first (scan ++ back) s).0 ∙ (pins_split chip scan back b).0 in
       let updated = clock chip true false d in
       record {
         scan = x;
@@ -127,7 +127,7 @@ module _ (chip : Chip Counts) where
       record {
         scan = h.scan;
         is = ap (λ (l : List (Scan Counts)). slice_get l k) (quiet_scans chip qs ps s quiet) ∙ h.is;
-        from = subst (λ (u : State Counts). IsScanFrom u number p h.scan) (sym (after_pins-append chip qs early s)) h.from;
+        from = subst (λ (u : State Counts). IsScanFrom u number p h.scan) (sym (pins_split chip qs early s).0) h.from;
         some = h.some;
       }
 
@@ -161,7 +161,7 @@ module _ (chip : Chip Counts) where
         scan = h.scan;
         is = ap (λ (l : List (Scan Counts)). slice_get l (suc k)) (quiet_scans chip (to_idle from) (ps ++ rest) s (quiet_idle from) ∙ b.is) ∙ h.is;
         from =
-            subst (λ (u : State Counts). IsScanFrom u (n + suc (suc k)) q h.scan) (sym (after_pins-append chip (to_idle from) (ps ++ early) s ∙ after_pins-append chip ps early a))
+            subst (λ (u : State Counts). IsScanFrom u (n + suc (suc k)) q h.scan) (sym ((pins_split chip (to_idle from) (ps ++ early) s).0 ∙ (pins_split chip ps early a).0))
             (subst (λ (m : ℕ). IsScanFrom (after_pins chip early (after_pins chip ps a)) m q h.scan) same h.from);
         some = h.some;
       }

@@ -9,7 +9,8 @@ use Rattle.instruments.specs.declared.Counts.{Counts}
 use Rattle.instruments.specs.Seen.{SeenModel}
 use Rattle.net_bench.specs.Bench.{Chip, State, clock, power_up}
 use Rattle.net_bench.specs.Playing.{after_pins}
-use Rattle.net_bench.proofs.Shaped.{IsShaped, pins_shaped, power_up_shaped}
+use Rattle.net_bench.specs.Laws.{IsShaped}
+use Rattle.net_bench.proofs.PublicLaws.{is_shaped_first, stays_shaped}
 use Rattle.net_bench.proofs.Wide.{captures_wide}
 use Rattle.net_graph.specs.declared.device.Device.{Device}
 use Rattle.net_graph.specs.declared.net.Net.{Net}
@@ -109,9 +110,9 @@ module _ (c : Chip Counts) (wide : capture_widths c.net ≡ widths c.net) where
       let b = after_pins c first a in
       let d = after_pins c scan b in
       let e = after_pins c back d in
-      let ha = pins_shaped c wide idle s h in
-      let hb = pins_shaped c wide first a ha in
-      let hd = pins_shaped c wide scan b hb in
+      let ha = stays_shaped c idle s wide h in
+      let hb = stays_shaped c first a wide ha in
+      let hd = stays_shaped c scan b wide hb in
       let x : Scan Counts = record { number = suc n; bits = shifted_bits c (t ∷ ts) es b; state = d } in
       let order : (idle ++ (first ++ (scan ++ back))) ++ rest ≡ idle ++ (first ++ (scan ++ (back ++ rest))) =
       append_assoc idle (first ++ (scan ++ back)) rest
@@ -129,7 +130,7 @@ module _ (c : Chip Counts) (wide : capture_widths c.net ≡ widths c.net) where
         numbered = refl;
         sized = bits_length (t ∷ ts) es b;
         shaped = hd;
-        shaped_after = pins_shaped c wide back d hd;
+        shaped_after = stays_shaped c back d wide hd;
       }
 
   -- ---- all scans
@@ -160,7 +161,7 @@ module _ (c : Chip Counts) (wide : capture_widths c.net ≡ widths c.net) where
 
     quiet_more : (qs rest : List Pins) (cs : List SeenCommand) (s : State Counts) → AreQuiet qs → IsShaped c s → ((t : State Counts) → IsShaped c t → Short cs (scans_of c rest t)) → Short cs (scans_of c (qs ++ rest) s)
     quiet_more qs rest cs s quiet h later =
-        subst (λ (l : List (Scan Counts)). Short cs l) (sym (quiet_scans c qs rest s quiet)) (later (after_pins c qs s) (pins_shaped c wide qs s h))
+        subst (λ (l : List (Scan Counts)). Short cs l) (sym (quiet_scans c qs rest s quiet)) (later (after_pins c qs s) (stays_shaped c qs s wide h))
 
     scans_short : (cs : List SeenCommand) (i d : Option ℕ) (ir dr : LastScan) (from : Stable) (n : ℕ) (s : State Counts) → Keeps i ir → Keeps d dr → AreFitAfter i d cs → n + scans_in cs < 10000000000 → IsShaped c s
         → Short cs (scans_of c (pins_with ir dr from n cs) s)
@@ -205,7 +206,7 @@ explained_short net device models commands src name is fit few short =
     let notes = map (λ x. note_text (note_of net device x)) (scans_of c (pins_with no_scan no_scan InReset 0 commands) (power_up c)) in
     let long : length (explained_text net device models commands src) ≤ length src + total notes = noted_short (texts (plain src)) notes src in
     let few_notes : total notes ≤ most_of device (length net.regs.items) name commands =
-    scans_short c wide is device name short commands None None no_scan no_scan InReset 0 (power_up c) no_length no_length fit (omega (arith, few)) (power_up_shaped c) in
+    scans_short c wide is device name short commands None None no_scan no_scan InReset 0 (power_up c) no_length no_length fit (omega (arith, few)) (is_shaped_first c) in
     omega (arith, long, few_notes)
 
 -- ---- what is counted

@@ -7,7 +7,7 @@ use Rattle.bench_report.specs.Report.{chip}
 use Rattle.instruments.specs.declared.Counts.{Counts}
 use Rattle.instruments.specs.Seen.{SeenModel}
 use Rattle.net_bench.specs.Bench.{power_up}
-use Rattle.net_bench.proofs.Shaped.{pins_shaped, power_up_shaped}
+use Rattle.net_bench.proofs.PublicLaws.{is_shaped_first, stays_shaped}
 use Rattle.net_bench.proofs.Wide.{captures_wide}
 use Rattle.net_graph.specs.declared.device.Device.{Device}
 use Rattle.net_graph.specs.declared.net.Net.{Net}
@@ -75,7 +75,7 @@ scans_few (Run n ∷ cs) b most h = scans_few cs false most (omega (arith, h))
 start_shaped : (net : Net) (device : Device) (models : List SeenModel) (commands : List SeenCommand) (n : ℕ) → IsNet net → AreHolds net (state_before net device models commands n).holds
 start_shaped net device models commands n is =
     let c = chip net device models in
-    (pins_shaped c (captures_wide net net.regs.items is.regs) (pins InReset 0 (before_scan n commands)) (power_up c) (power_up_shaped c)).holds
+    (stays_shaped c (pins InReset 0 (before_scan n commands)) (power_up c) (captures_wide net net.regs.items is.regs) (is_shaped_first c)).holds
 
 count_length : (n k : ℕ) → length (counted n k) ≡ k
 count_length n zero = refl
