@@ -10,8 +10,6 @@ pub mod Reading
 pub mod Texts
 pub mod Filed
 pub mod StuckPaths
-pub mod Detours
-pub mod Around
 pub mod Judged
 pub mod Listing
 pub mod Planning

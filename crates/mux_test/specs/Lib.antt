@@ -7,7 +7,6 @@ pub mod Reading
 pub mod Texts
 pub mod Steps
 pub mod Planned
-pub mod Detours
 pub mod Judged
 pub mod Judging
 pub mod Given

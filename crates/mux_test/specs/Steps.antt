@@ -1,5 +1,5 @@
 -- One move of a trace back from the network's output, where one mux may be stuck.
-use Rattle.std.specs.Prelude.{ℕ, Option, None, Some}
+use Rattle.std.specs.Prelude.{◌<◌, ℕ, Bool, true, List, length, slice_set, Option, None, Some}
 use Rattle.net_graph.specs.declared.branch.Branch.{Branch}
 use Rattle.net_graph.specs.declared.net.Net.{Net}
 use Rattle.net_graph.specs.declared.net.Point.{Point}
@@ -18,3 +18,15 @@ abbrev pub before : Net → (ℕ → Option Point) → Point → Option Point
 before net source Entry = Some Entry
 before net source (Reg r) = Some (reg_source net r)
 before net source (Mux m) = source m
+
+-- a list of marks with that of the mux that a point is
+abbrev pub marked : List Bool → Point → List Bool
+marked marks Entry = marks
+marked marks (Reg r) = marks
+marked marks (Mux m) = slice_set marks m true
+
+-- a mux that a point is has a mark
+abbrev pub HasMark : List Bool → Point → Type 0
+HasMark marks Entry = Unit {0}
+HasMark marks (Reg r) = Unit {0}
+HasMark marks (Mux m) = m < length marks

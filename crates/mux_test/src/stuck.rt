@@ -1,7 +1,9 @@
-// The active path where one mux always passes on the same row, point by point.
-ghost use Rattle.std.specs.Prelude.{◌≡◌, ◌≢◌, ◌↔◌, ◌+◌, ◌<◌, ◌≤◌, ◌++◌, IsTrue, IsFalse, Some, [], length};
+// The active path where one mux always passes on the same row, and the muxes that are met.
+ghost use Rattle.std.specs.Prelude.{◌≡◌, ◌≢◌, ◌↔◌, ◌+◌, ◌<◌, ◌≤◌, ◌++◌, ℕ, IsTrue, IsFalse, None, Some, [], false, length, slice_index_or};
 ghost use Rattle.std.specs.Option.{ForSome};
+ghost use Rattle.net_graph.specs.Chain.{NotIn};
 ghost use Rattle.net_graph.specs.Held.{AreHolds};
+ghost use Rattle.net_graph.specs.MuxesMet.{active_muxes};
 ghost use Rattle.net_graph.specs.Named.{IsPointOf};
 ghost use Rattle.net_graph.specs.Nets.{IsNet};
 ghost use Rattle.net_graph.specs.Path as paths;
@@ -10,9 +12,10 @@ ghost use Rattle.net_graph.specs.Stuck as stuck;
 ghost use Rattle.net_graph.specs.Tracing.{registers_at};
 ghost use Rattle.net_graph.specs.declared.net.Point.TheVariants as point;
 ghost use Rattle.path_planner.specs.Planning.{IsBranchOf};
+ghost use Rattle.mux_test.specs.Judging.{IsKnown};
 ghost use Rattle.mux_test.specs.Steps as steps;
 
-use ij_bits::List;
+use ij_bits::{Bits, List};
 use net_graph::{Branch, Holds, Net, Point, RowTable};
 use net_tree::same_point;
 
@@ -42,57 +45,53 @@ fn selected_source(net: &Net, rows: &RowTable, holds: &Holds, mux: u32) -> Optio
     }
 }
 
-/// What a mux passes on by its select, and a mux that is stuck in a row what it passes on there.
+/// What a mux passes on by what is known, and a mux that is stuck in a row what it passes on there.
 fn source_of(
     net: &Net,
-    rows: &RowTable,
     stuck: Option<Branch>,
-    holds: &Holds,
+    _holds: &Holds,
+    passed: &[Option<Point>],
     mux: u32,
 ) -> Option<Point>
-    requires rows { AreRows net.now rows.now }
-    requires well_formed { IsNet net.now }
-    requires holds { AreHolds net.now holds.now }
     requires stuck { ForSome stuck (IsBranchOf net.now) }
+    requires known { IsKnown net.now _holds.now passed.now }
     requires mux { mux < length net.now.muxes.items }
-    ensures { result ≡ steps.source_of net.now stuck holds.now mux }
+    ensures { result ≡ steps.source_of net.now stuck _holds.now mux }
 {
     match stuck {
         Some(row) => {
             if mux == row.mux {
                 Some(row_source(net, row))
             } else {
-                selected_source(net, rows, holds, mux)
+                passed[mux as usize]
             }
         }
-        None => selected_source(net, rows, holds, mux),
+        None => passed[mux as usize],
     }
 }
 
 /// What is met before a point, going back.
-pub(crate) fn back(
+fn back(
     net: &Net,
-    rows: &RowTable,
     stuck: Option<Branch>,
     holds: &Holds,
+    passed: &[Option<Point>],
     from: Point,
 ) -> Option<Point>
-    requires rows { AreRows net.now rows.now }
-    requires well_formed { IsNet net.now }
-    requires holds { AreHolds net.now holds.now }
     requires stuck { ForSome stuck (IsBranchOf net.now) }
+    requires known { IsKnown net.now holds.now passed.now }
     requires there { IsPointOf net.now from }
     ensures { result ≡ steps.before net.now (steps.source_of net.now stuck holds.now) from }
 {
     match from {
         Point::Entry => Some(Point::Entry),
         Point::Reg(reg) => Some(net.regs.get(reg as usize).from),
-        Point::Mux(mux) => source_of(net, rows, stuck, holds, mux),
+        Point::Mux(mux) => source_of(net, stuck, holds, passed, mux),
     }
 }
 
 /// Adds the register that a point is, and answers whether there was room for it among so many.
-pub(crate) fn meet(at: Point, count: usize, into: &mut List<u32>) -> bool
+fn meet(at: Point, count: usize, into: &mut List<u32>) -> bool
     requires few { length into.old.items ≤ count }
     requires room { count ≤ length into.old.items + into.old.spare }
     ensures room { length into.new.items + into.new.spare ≡ length into.old.items + into.old.spare }
@@ -110,7 +109,7 @@ pub(crate) fn meet(at: Point, count: usize, into: &mut List<u32>) -> bool
 }
 
 /// Whether a point is the network's scan-in.
-pub(crate) fn is_entry(at: Point) -> bool
+fn is_entry(at: Point) -> bool
     ensures { IsTrue result ↔ (at ≡ point.Entry) }
 {
     matches!(at, Point::Entry)
@@ -120,14 +119,13 @@ pub(crate) fn is_entry(at: Point) -> bool
 /// nothing where there is no path then. Takes no memory.
 pub(crate) fn find_stuck_path(
     net: &Net,
-    rows: &RowTable,
     holds: &Holds,
+    passed: &[Option<Point>],
     row: Branch,
     path: &mut List<u32>,
 )
-    requires rows { AreRows net.now rows.now }
     requires well_formed { IsNet net.now }
-    requires holds { AreHolds net.now holds.now }
+    requires known { IsKnown net.now holds.now passed.now }
     requires row { IsBranchOf net.now row }
     requires room { length net.now.regs.items ≤ length path.old.items + path.old.spare }
     ensures path { path.new.items ≡ stuck.stuck_route net.now row holds.now }
@@ -144,7 +142,75 @@ pub(crate) fn find_stuck_path(
             path.clear();
             return;
         }
-        match back(net, rows, Some(row), holds, at) {
+        match back(net, Some(row), holds, passed, at) {
+            Some(before) => at = before,
+            None => {
+                path.clear();
+                return;
+            }
+        }
+    }
+    if !is_entry(at) {
+        path.clear();
+    }
+}
+
+/// Marks the mux that a point is. Takes no memory.
+fn mark(at: Point, met: &mut Bits)
+    requires { steps.HasMark met.old.items at }
+    ensures { met.new.items ≡ steps.marked met.old.items at }
+{
+    if let Point::Mux(mux) = at {
+        met.set(mux, true);
+    }
+}
+
+/// Notes what each mux passes on by its select. Takes no memory.
+pub(crate) fn note_all(net: &Net, rows: &RowTable, holds: &Holds, passed: &mut List<Option<Point>>)
+    requires rows { AreRows net.now rows.now }
+    requires well_formed { IsNet net.now }
+    requires holds { AreHolds net.now holds.now }
+    requires long { length passed.old.items ≡ length net.now.muxes.items }
+    ensures { IsKnown net.now holds.now passed.new.items }
+{
+    for mux in 0..net.muxes.len() {
+        passed.set(mux, selected_source(net, rows, holds, mux as u32));
+    }
+}
+
+/// Leaves the registers of the active path in a list, nearest scan-out first, and nothing where there is no path; and marks the
+/// muxes that it goes through, and maybe others. Takes no memory.
+pub(crate) fn find_met(
+    net: &Net,
+    holds: &Holds,
+    passed: &[Option<Point>],
+    path: &mut List<u32>,
+    met: &mut Bits,
+)
+    requires well_formed { IsNet net.now }
+    requires known { IsKnown net.now holds.now passed.now }
+    requires room { length net.now.regs.items ≤ length path.old.items + path.old.spare }
+    requires long { length met.old.items ≡ length net.now.muxes.items }
+    ensures path { path.new.items ≡ paths.route_of net.now holds.now }
+    ensures room { length path.new.items + path.new.spare ≡ length path.old.items + path.old.spare }
+    ensures long { length met.new.items ≡ length net.now.muxes.items }
+    ensures unmarked { (m : ℕ) → m < length net.now.muxes.items → slice_index_or met.new.items m false ≡ false → NotIn m (active_muxes net.now holds.now) }
+{
+    path.clear();
+    met.fill(false);
+    let count = net.regs.len();
+    let mut at = net.out;
+    for _turn in 0..count + net.muxes.len() {
+        if is_entry(at) {
+            return;
+        }
+        if !meet(at, count, path) {
+            path.clear();
+            met.fill(true);
+            return;
+        }
+        mark(at, met);
+        match back(net, None, holds, passed, at) {
             Some(before) => at = before,
             None => {
                 path.clear();
@@ -158,14 +224,12 @@ pub(crate) fn find_stuck_path(
 }
 
 /// Whether a mux passes on by its select what it passes on in this row.
-pub(crate) fn is_passed(net: &Net, rows: &RowTable, holds: &Holds, row: Branch) -> bool
-    requires rows { AreRows net.now rows.now }
-    requires well_formed { IsNet net.now }
-    requires holds { AreHolds net.now holds.now }
+pub(crate) fn is_passed(net: &Net, _holds: &Holds, passed: &[Option<Point>], row: Branch) -> bool
+    requires known { IsKnown net.now _holds.now passed.now }
     requires row { IsBranchOf net.now row }
-    ensures { IsTrue result → paths.mux_source net.now holds.now row.mux ≡ stuck.row_source net.now row }
+    ensures { IsTrue result → paths.mux_source net.now _holds.now row.mux ≡ stuck.row_source net.now row }
 {
-    match selected_source(net, rows, holds, row.mux) {
+    match passed[row.mux as usize] {
         Some(source) => same_point(source, row_source(net, row)),
         None => false,
     }
