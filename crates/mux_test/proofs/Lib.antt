@@ -10,6 +10,9 @@ pub mod Reading
 pub mod Texts
 pub mod Filed
 pub mod StuckPaths
+pub mod Detours
+pub mod Parts
+pub mod Around
 pub mod Judged
 pub mod Listing
 pub mod Planning

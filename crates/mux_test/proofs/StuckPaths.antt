@@ -1,32 +1,31 @@
--- The active path where one mux is stuck, as a loop finds it, and the muxes that a path goes through.
-use Rattle.std.proofs.Common.{◌≡◌, ◌⊎◌, inl, inr, ℕ, zero, suc, ◌+◌, ◌-◌, ◌<◌, ◌≤◌, ◌≢◌, Bool, true, false, List, [], ◌∷◌, ◌++◌, length, get_or, Option, Some, None, refl, sym, ap, ◌∙◌, subst, arith, length-append}
-use Rattle.std.specs.Prelude.{map, All, option_map, ◌==◌, unwrap_or, replicate, slice_set}
+-- The active path, also where one mux is stuck, as a loop finds it.
+use Rattle.std.proofs.Common.{◌≡◌, ℕ, zero, suc, ◌+◌, ◌-◌, ◌<◌, ◌≤◌, ◌≢◌, Bool, true, false, List, [], ◌∷◌, ◌++◌, length, get_or, Option, Some, None, refl, sym, ap, ◌∙◌, subst, arith, length-append}
+use Rattle.std.specs.Prelude.{map, All, option_map, ◌==◌, unwrap_or}
 use Rattle.std.specs.List.{slice_get}
 use Rattle.std.specs.Option.{option_and_then}
-use Rattle.std.proofs.lemmas.Bool.{cases_eq, cases_lt, eq-eqb, eqb-true, true≢false}
-use Rattle.std.proofs.lemmas.List.{append_assoc, append-nil, get_or-map, get_or-set_same, get_or-set_other, length-set}
+use Rattle.std.proofs.lemmas.Bool.{eq-eqb, eqb-true}
+use Rattle.std.proofs.lemmas.List.{append_assoc, append-nil, get_or-map}
 use Rattle.std.proofs.lemmas.List.Elements.{All-head, All-tail}
 use Rattle.std.proofs.lemmas.Option.{same_Some, none-some}
 use Rattle.ij_bits.proofs.Lists.{map_some}
-use Rattle.net_graph.specs.Chain.{NotIn, IsRoute}
+use Rattle.net_graph.specs.Chain.{IsRoute}
 use Rattle.net_graph.specs.declared.branch.Branch.{Branch}
 use Rattle.net_graph.specs.declared.net.Mux.{Mux}
 use Rattle.net_graph.specs.declared.net.Net.{Net}
 use Rattle.net_graph.specs.declared.net.Point.{Point}
 use Rattle.net_graph.specs.declared.net.Point.TheVariants.{Entry, Reg, Mux as FromMux}
 use Rattle.net_graph.specs.declared.net.Row.{Row}
-use Rattle.net_graph.specs.MuxesMet.{active_muxes, muxes_met}
 use Rattle.net_graph.specs.Named.{IsPointOf}
 use Rattle.net_graph.specs.Nets.{IsNet}
-use Rattle.net_graph.specs.Path.{reg_source, rows_of, row_from, row_of, route_of, select_value, mux_source}
+use Rattle.net_graph.specs.Path.{reg_source, rows_of, row_from, row_of, select_value, mux_source}
 use Rattle.net_graph.specs.Signals.{Holds, row_point, some_matches}
 use Rattle.net_graph.specs.Stuck.{trace_by, row_source, stuck_source}
 use Rattle.net_graph.specs.Tracing.{registers_at}
 use Rattle.net_graph.proofs.Routes.{route_is}
-use Rattle.net_graph.proofs.Stuck.{trace_is_by}
+use Rattle.net_graph.proofs.Stuck.{stuck_route_is, trace_is_by}
 use Rattle.net_graph.proofs.Tracing.{before_is_point, mux_points, route_fits}
 use Rattle.path_planner.specs.Planning.{IsBranchOf}
-use Rattle.mux_test.specs.Steps.{HasMark, before, marked, source_of}
+use Rattle.mux_test.specs.Steps.{before, route_where, source_of}
 
 -- ---- what a mux passes on
 
@@ -73,6 +72,10 @@ no_row k (r ∷ rs) bits e = on (some_matches r.values.items bits) e (no_row (su
     on true f later = absurd (none-some k (sym f))
     on false f later = later f
 
+pub same_row_source : (net : Net) (a b : Branch) → a.mux ≡ b.mux → a.row ≡ b.row → row_source net a ≡ row_source net b
+same_row_source net a b e f =
+    ap (λ m. row_source net (record { mux = m; row = a.row })) e ∙ ap (λ q. row_source net (record { mux = b.mux; row = q })) f
+
 pub stuck_here : (net : Net) (b : Branch) (holds : Holds) (m : ℕ) → m ≡ b.mux → row_source net b ≡ stuck_source net b holds m
 stuck_here net b holds m e =
     ap (λ (t : Bool). elim t as (λ _. Option Point) [ true ↦ row_source net b | false ↦ mux_source net holds m ]) (sym (eq-eqb m b.mux e))
@@ -116,7 +119,7 @@ module _ (net : Net) (source : ℕ → Option Point) where
   IsTracedBy n p met = trace_by net source (moves net) net.out ≡ option_map (λ rs. met ++ rs) (trace_by net source n p)
 
   -- one step of a trace: what a point is, then what is met before it
-  by_step : (n : ℕ) (p : Point) → trace_by net source (suc n) p ≡ option_and_then (λ q. option_map (λ rs. registers_at p ++ rs) (trace_by net source n q)) (before net source p)
+  pub by_step : (n : ℕ) (p : Point) → trace_by net source (suc n) p ≡ option_and_then (λ q. option_map (λ rs. registers_at p ++ rs) (trace_by net source n q)) (before net source p)
   by_step n Entry = on n
     where
       on : (n : ℕ) → Some [] ≡ option_map (λ rs. [] ++ rs) (trace_by net source n Entry)
@@ -193,100 +196,31 @@ module _ (net : Net) (source : ℕ → Option Point) where
           let fits = route_fits (length net.regs.items) whole (subst (λ o. IsRoute (length net.regs.items) (unwrap_or o [])) e r) in
           absurd (omega (arith, fits, l, longer n tail f, ap length g, length-append met tail))
 
--- ---- what muxes pass on
+-- ---- the path, also where one mux is stuck, as it is traced by sources
 
--- one more of them is noted
-pub noted_more : (f : ℕ → Option Point) (xs now : List (Option Point)) (i : ℕ) (v : Option Point) → i < length xs → v ≡ f i → now ≡ slice_set xs i v → ((m : ℕ) → m < i → get_or xs m None ≡ f m) → (m : ℕ) → m < i + 1 → get_or now m None ≡ f m
-noted_more f xs now i v l e a k m h = ap (λ (ys : List (Option Point)). get_or ys m None) a ∙ on (cases_lt m i)
-  where
-    on : (m < i) ⊎ (i ≤ m) → get_or (slice_set xs i v) m None ≡ f m
-    on (inl b) = get_or-set_other xs i m v None (λ s. absurd (omega (arith, s, b))) ∙ k m b
-    on (inr b) =
-        let same : m ≡ i = omega (arith, h, b) in
-        ap (λ j. get_or (slice_set xs i v) j None) same ∙ get_or-set_same xs i v None l ∙ e ∙ ap f (sym same)
+where_route : (net : Net) (stuck : Option Branch) (holds : Holds) → route net (source_of net stuck holds) ≡ route_where net stuck holds
+where_route net None holds = ap (λ o. unwrap_or o []) (trace_is_by net holds (moves net) net.out)
+where_route net (Some b) holds = refl
 
--- ---- the muxes met so far
+where_route_is : (net : Net) (stuck : Option Branch) (holds : Holds) → IsNet net → IsRoute (length net.regs.items) (route net (source_of net stuck holds))
+where_route_is net None holds w =
+    subst (IsRoute (length net.regs.items)) (sym (where_route net None holds)) (route_is net holds w)
+where_route_is net (Some b) holds w = stuck_route_is net b holds w
 
-pub still_long : (marks now : List Bool) (p : Point) → now ≡ marked marks p → length now ≡ length marks
-still_long marks now Entry e = ap length e
-still_long marks now (Reg r) e = ap length e
-still_long marks now (FromMux m) e = ap length e ∙ length-set marks m true
+module _ (net : Net) (stuck : Option Branch) (holds : Holds) where
+  abbrev pub IsTraced : ℕ → Point → List ℕ → Type 0
+  IsTraced n p met = IsTracedBy net (source_of net stuck holds) n p met
 
-pub has_mark : (net : Net) (marks : List Bool) (p : Point) → length marks ≡ length net.muxes.items → IsPointOf net p → HasMark marks p
-has_mark net marks Entry l i = tt
-has_mark net marks (Reg r) l i = tt
-has_mark net marks (FromMux m) l i = omega (arith, l, i)
+  pub entry_where : (n : ℕ) (p : Point) (met : List ℕ) → p ≡ Entry → IsTraced n p met → met ≡ route_where net stuck holds
+  entry_where n p met e t = by_entry net (source_of net stuck holds) n p met e t ∙ where_route net stuck holds
 
-module _ (net : Net) (holds : Holds) where
-  abbrev pub AreMet : ℕ → Point → List Bool → Type 0
-  AreMet n p marks =
-      (m : ℕ) → m < length net.muxes.items → get_or marks m false ≡ false → NotIn m (muxes_met net holds n p) → NotIn m (active_muxes net holds)
+  pub none_where : (i : ℕ) (p : Point) (met now : List ℕ) → i < moves net → None ≡ before net (source_of net stuck holds) p → now ≡ [] → IsTraced (moves net - i) p met → now ≡ route_where net stuck holds
+  none_where i p met now l e a t =
+      by_none net (source_of net stuck holds) i p met now l e a t ∙ where_route net stuck holds
 
-  -- a mux without a mark isn't the one that is met, and had none
-  unmet : (marks : List Bool) (x m : ℕ) → x < length marks → get_or (slice_set marks x true) m false ≡ false → (x ≢ m) × (get_or marks m false ≡ false)
-  unmet marks x m l e = (
-    (λ s. true≢false (sym (get_or-set_same marks x true false l) ∙ ap (λ k. get_or (slice_set marks x true) k false) s ∙ e)),
-    on (cases_eq m x),
-  )
-    where
-      on : (m ≡ x) ⊎ ((m ≡ x) → ⊥) → get_or marks m false ≡ false
-      on (inl s) = absurd (true≢false (sym (get_or-set_same marks x true false l) ∙ ap (λ k. get_or (slice_set marks x true) k false) (sym s) ∙ e))
-      on (inr n) = sym (get_or-set_other marks x m true false n) ∙ e
+  pub end_where : (n : ℕ) (p : Point) (met now : List ℕ) → n ≡ 0 → (p ≡ Entry → ⊥) → now ≡ [] → IsTraced n p met → now ≡ route_where net stuck holds
+  end_where n p met now z e a t = by_end net (source_of net stuck holds) n p met now z e a t ∙ where_route net stuck holds
 
-  met_step : (n : ℕ) (p q : Point) (marks now : List Bool) → HasMark marks p → Some q ≡ before net (mux_source net holds) p → now ≡ marked marks p → AreMet (suc n) p marks → AreMet n q now
-  met_step n Entry q marks now h e a k m l z i = k m l (ap (λ (b : List Bool). get_or b m false) (sym a) ∙ z) tt
-  met_step n (Reg r) q marks now h e a k m l z i =
-      k m l (ap (λ (b : List Bool). get_or b m false) (sym a) ∙ z) (subst (λ p. NotIn m (muxes_met net holds n p)) (same_Some q (reg_source net r) e) i)
-  met_step n (FromMux x) q marks now h e a k m l z i =
-      let u = unmet marks x m h (ap (λ (b : List Bool). get_or b m false) (sym a) ∙ z) in
-      k m l u.1 (u.0, subst (λ o. NotIn m (elim o as (λ _. List ℕ) [ Some p ↦ muxes_met net holds n p | None ↦ [] ])) e i)
-
-  pub met_turn : (i : ℕ) (p q : Point) (marks now : List Bool) → i < moves net → HasMark marks p → Some q ≡ before net (mux_source net holds) p → now ≡ marked marks p → AreMet (moves net - i) p marks → AreMet (moves net - (i + 1)) q now
-  met_turn i p q marks now l h e a k =
-      let z : moves net - i ≡ suc (moves net - (i + 1)) = omega (arith, l) in
-      met_step (moves net - (i + 1)) p q marks now h e a (subst (λ n. AreMet n p marks) z k)
-
-  met_none : (n : ℕ) (p : Point) (marks now : List Bool) → HasMark marks p → None ≡ before net (mux_source net holds) p → now ≡ marked marks p → AreMet (suc n) p marks → (m : ℕ) → m < length net.muxes.items → get_or now m false ≡ false → NotIn m (active_muxes net holds)
-  met_none n Entry marks now h e a k m l z = absurd (none-some Entry e)
-  met_none n (Reg r) marks now h e a k m l z = absurd (none-some (reg_source net r) e)
-  met_none n (FromMux x) marks now h e a k m l z =
-      let u = unmet marks x m h (ap (λ (b : List Bool). get_or b m false) (sym a) ∙ z) in
-      k m l u.1 (u.0, subst (λ o. NotIn m (elim o as (λ _. List ℕ) [ Some p ↦ muxes_met net holds n p | None ↦ [] ])) e tt)
-
-  pub met_ends : (i : ℕ) (p : Point) (marks now : List Bool) → i < moves net → HasMark marks p → None ≡ before net (mux_source net holds) p → now ≡ marked marks p → AreMet (moves net - i) p marks → (m : ℕ) → m < length net.muxes.items → get_or now m false ≡ false → NotIn m (active_muxes net holds)
-  met_ends i p marks now l h e a k =
-      let z : moves net - i ≡ suc (moves net - (i + 1)) = omega (arith, l) in
-      met_none (moves net - (i + 1)) p marks now h e a (subst (λ n. AreMet n p marks) z k)
-
-  pub met_all : (n : ℕ) (p : Point) (marks : List Bool) → n ≡ 0 → AreMet n p marks → (m : ℕ) → m < length net.muxes.items → get_or marks m false ≡ false → NotIn m (active_muxes net holds)
-  met_all n p marks z k m l e = k m l e (subst (λ j. NotIn m (muxes_met net holds j p)) (sym z) (none p))
-    where
-      none : (p : Point) → NotIn m (muxes_met net holds 0 p)
-      none Entry = tt
-      none (Reg r) = tt
-      none (FromMux m) = tt
-
-  -- at the network's entry all are met
-  pub met_entry : (n : ℕ) (p : Point) (marks : List Bool) → p ≡ Entry → AreMet n p marks → (m : ℕ) → m < length net.muxes.items → get_or marks m false ≡ false → NotIn m (active_muxes net holds)
-  met_entry n p marks z k m l e = k m l e (subst (λ q. NotIn m (muxes_met net holds n q)) (sym z) (none n))
-    where
-      none : (n : ℕ) → NotIn m (muxes_met net holds n Entry)
-      none zero = tt
-      none (suc n) = tt
-
-  -- where each has a mark nothing is said
-  pub all_marked : (marks now : List Bool) → now ≡ replicate (length marks) true → length marks ≡ length net.muxes.items → (m : ℕ) → m < length net.muxes.items → get_or now m false ≡ false → NotIn m (active_muxes net holds)
-  all_marked marks now e s m l z =
-      absurd (true≢false (sym (marked_at (length marks) m (omega (arith, l, s))) ∙ ap (λ (b : List Bool). get_or b m false) (sym e) ∙ z))
-    where
-      marked_at : (n m : ℕ) → m < n → get_or (replicate n true) m false ≡ true
-      marked_at zero m l = absurd (omega (arith, l))
-      marked_at (suc n) zero l = refl
-      marked_at (suc n) (suc m) l = marked_at n m (omega (arith, l))
-
--- the active path, as it is traced by sources
-pub own_route : (net : Net) (holds : Holds) → route net (mux_source net holds) ≡ route_of net holds
-own_route net holds = ap (λ o. unwrap_or o []) (trace_is_by net holds (moves net) net.out)
-
-pub own_route_is : (net : Net) (holds : Holds) → IsNet net → IsRoute (length net.regs.items) (route net (mux_source net holds))
-own_route_is net holds w = subst (IsRoute (length net.regs.items)) (sym (own_route net holds)) (route_is net holds w)
+  pub full_where : (n : ℕ) (p : Point) (met now : List ℕ) → IsNet net → registers_at p ≢ [] → length met ≡ length net.regs.items → now ≡ [] → IsTraced n p met → now ≡ route_where net stuck holds
+  full_where n p met now w h l a t =
+      by_full net (source_of net stuck holds) n p met now h l (where_route_is net stuck holds w) a t ∙ where_route net stuck holds

@@ -6,7 +6,9 @@ pub mod Laws
 pub mod Reading
 pub mod Texts
 pub mod Steps
+pub mod KnownRows
 pub mod Planned
+pub mod Detours
 pub mod Judged
 pub mod Judging
 pub mod Given

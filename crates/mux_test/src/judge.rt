@@ -1,25 +1,32 @@
 // Which rows a mux may be stuck in unseen, scan by scan.
-ghost use Rattle.std.specs.Prelude.{◌≡◌, ◌+◌, ◌<◌, ◌≤◌, ◌^◌, [], ℕ, false, true, length, map, slice_index_or, All, IfOk, IsFalse, OnOk};
+ghost use Rattle.std.specs.Prelude.{◌≡◌, ◌<◌, ◌≤◌, length, map, All, Contains, IfOk, IsFalse, IsSome, IsTrue, OnOk};
 ghost use Rattle.std.specs.Str.{bytes_eq as same_registers};
 ghost use Rattle.net_graph.specs.Chain.{chain, IsRoute, NotIn};
 ghost use Rattle.net_graph.specs.declared.net.Net.{Net as ANet};
 ghost use Rattle.net_graph.specs.Held.{AreHolds};
 ghost use Rattle.net_graph.specs.MuxesMet.{active_muxes};
 ghost use Rattle.net_graph.specs.Nets.{IsNet};
-ghost use Rattle.net_graph.specs.Path.{route_of};
+ghost use Rattle.net_graph.specs.Path.{active, route_of};
 ghost use Rattle.net_graph.specs.Resets.{start_holds};
 ghost use Rattle.net_graph.specs.Signals.{Holds as SeenHolds};
 ghost use Rattle.net_graph.specs.Stuck as stuck;
 ghost use Rattle.path_planner.specs.Planning.{IsBranchOf};
+ghost use Rattle.path_planner.specs.Rows.{all_in};
+ghost use Rattle.path_planner.specs.Scannable.{IsScannable};
 ghost use Rattle.mux_test.specs.Judged as judged;
-ghost use Rattle.mux_test.specs.Judging.{HasJudgeRoom, Knows};
+ghost use Rattle.mux_test.specs.Judging.{HasJudgeRoom, IsReady};
+ghost use Rattle.mux_test.specs.Laws.{IsTestable};
 ghost use Rattle.mux_test.specs.Planned.{AreFlushable, holds_after, seen_planned};
 ghost use Rattle.mux_test.specs.Seen.{begins};
+ghost use Rattle.mux_test.specs.KnownRows.{AreKnown};
 
+use crate::detour::Detour;
+use crate::known::KnownRows;
 use crate::planned::PlannedScan;
-use crate::stuck::{find_met, find_stuck_path, is_passed, note_all};
-use ij_bits::{Bits, List, OutOfMemory};
-use net_graph::{Branch, Holds, Net, Point, RowTable};
+use crate::stuck::{find_path, is_passed};
+use ij_bits::{List, OutOfMemory};
+use net_graph::{Branch, Holds, Net};
+use net_tree::Tree;
 use path_planner::advance;
 use std::alloc::Global;
 
@@ -46,37 +53,10 @@ pub(crate) struct JudgedRow {
 /// What is known at the beginning of a scan, in room that is made once.
 #[derive(Drop)]
 pub(crate) struct Judge {
-    /// The rows of the network's muxes.
-    pub rows: RowTable,
-    /// The registers of the active path, nearest scan-out first.
-    pub own: List<u32>,
-    /// Those of another path.
-    pub other: List<u32>,
-    /// 1 for each mux that the active path goes through.
-    pub met: Bits,
-    /// What such a mux passes on by its select.
-    pub passed: List<Option<Point>>,
-}
-
-/// No registers, and room for those of a network.
-fn path_room(alloc: Global, net: &Net) -> Result<List<u32>, OutOfMemory>
-    ensures { IfOk result (λ path. length net.now.regs.items ≤ length path.items + path.spare) }
-{
-    let mut path = List::new(alloc);
-    path.reserve(net.regs.len())?;
-    Ok(path)
-}
-
-/// Nothing known of any mux of a network.
-fn passed_room(alloc: Global, net: &Net) -> Result<List<Option<Point>>, OutOfMemory>
-    ensures { IfOk result (λ passed. length passed.items ≡ length net.now.muxes.items) }
-{
-    let mut passed = List::new(alloc);
-    passed.reserve(net.muxes.len())?;
-    for _mux in 0..net.muxes.len() {
-        passed.push_reserved(None);
-    }
-    Ok(passed)
+    /// The row that each mux is in then.
+    pub known: KnownRows,
+    /// What is traced from a mux on.
+    pub detour: Detour,
 }
 
 /// How many bits the registers of a path have. Takes no memory.
@@ -123,117 +103,175 @@ fn is_open(row: JudgedRow) -> bool
     matches!(row.verdict, Verdict::Open)
 }
 
+/// Whether each of some muxes is in its row. Takes no memory.
+fn are_in(net: &Net, holds: &Holds, known: &KnownRows, place: &[Branch]) -> bool
+    requires known { AreKnown net.now holds.now known.now }
+    requires place { All (IsBranchOf net.now) place.now }
+    ensures { result ≡ all_in net.now place.now holds.now }
+{
+    for row in place {
+        if known.row_of(net, holds, row.mux) != Some(row.row) {
+            return false;
+        }
+    }
+    true
+}
+
+/// Whether the active path goes through a mux: each mux around it is in the row that it stands in. Takes no memory.
+fn is_met(net: &Net, tree: &Tree, holds: &Holds, known: &KnownRows, mux: u32) -> bool
+    requires testable { IsTestable net.now tree.now }
+    requires scannable { IsScannable net.now holds.now }
+    requires known { AreKnown net.now holds.now known.now }
+    requires mux { mux < length net.now.muxes.items }
+    ensures met { IsTrue result → Contains (active_muxes net.now holds.now) mux }
+    ensures unmet { IsFalse result → NotIn mux (active_muxes net.now holds.now) }
+{
+    let place = tree.place_of_mux(mux);
+    are_in(net, holds, known, place.as_slice())
+}
+
 impl Judge {
-    /// Room for the paths and the muxes of a network.
+    /// Room for what is known of a network.
     fn new(alloc: Global, net: &Net) -> Result<Judge, OutOfMemory>
         requires { IsNet net.now }
         ensures { IfOk result (HasJudgeRoom net.now) }
     {
         Ok(Judge {
-            rows: RowTable::new(alloc, net)?,
-            own: path_room(alloc, net)?,
-            other: path_room(alloc, net)?,
-            met: Bits::zeros(alloc, net.muxes.len() as u32)?,
-            passed: passed_room(alloc, net)?,
+            known: KnownRows::new(alloc, net)?,
+            detour: Detour::new(alloc, net)?,
         })
     }
 
-    /// Finds the active path and its muxes. Takes no memory.
-    fn look(&mut self, net: &Net, holds: &Holds)
+    /// What the whole paths say of a row. Takes no memory.
+    fn whole_verdict(&mut self, net: &Net, holds: &Holds, row: Branch) -> Verdict
         requires well_formed { IsNet net.now }
         requires holds { AreHolds net.now holds.now }
-        requires room { HasJudgeRoom net.now self.old }
-        ensures room { HasJudgeRoom net.now self.new }
-        ensures knows { Knows net.now holds.now self.new }
+        requires row { IsBranchOf net.now row }
+        requires ready { IsReady net.now holds.now self.old }
+        ensures verdict { result ≡ judged.verdict_of holds.now (route_of net.now holds.now) (stuck.stuck_route net.now row holds.now) }
+        ensures ready { IsReady net.now holds.now self.new }
     {
-        note_all(net, &self.rows, holds, &mut self.passed);
-        find_met(
-            net,
+        self.detour.forget();
+        find_path(net, None, holds, &self.known, &mut self.detour.own);
+        find_path(net, Some(row), holds, &self.known, &mut self.detour.other);
+        verdict_of(
             holds,
-            self.passed.as_slice(),
-            &mut self.own,
-            &mut self.met,
-        );
+            self.detour.own.as_slice(),
+            self.detour.other.as_slice(),
+        )
+    }
+
+    /// The same for a mux that the active path goes through, by the parts of the paths that differ where they join again. Takes
+    /// no memory.
+    fn verdict_met(&mut self, net: &Net, tree: &Tree, holds: &Holds, row: Branch) -> Verdict
+        requires well_formed { IsNet net.now }
+        requires holds { AreHolds net.now holds.now }
+        requires row { IsBranchOf net.now row }
+        requires met { Contains (active_muxes net.now holds.now) row.mux }
+        requires path { IsSome (active net.now holds.now) }
+        requires ready { IsReady net.now holds.now self.old }
+        ensures verdict { result ≡ judged.verdict_of holds.now (route_of net.now holds.now) (stuck.stuck_route net.now row holds.now) }
+        ensures ready { IsReady net.now holds.now self.new }
+    {
+        if self.detour.find(net, tree, holds, &self.known, row) {
+            verdict_of(
+                holds,
+                self.detour.own.as_slice(),
+                self.detour.other.as_slice(),
+            )
+        } else {
+            self.whole_verdict(net, holds, row)
+        }
     }
 
     /// What a scan says of a row that no scan has told yet. A mux that the path doesn't go through, or that passes on the same
     /// in this row, changes no path. Takes no memory.
-    fn verdict(&mut self, net: &Net, holds: &Holds, row: Branch) -> Verdict
-        requires well_formed { IsNet net.now }
-        requires holds { AreHolds net.now holds.now }
+    fn verdict(&mut self, net: &Net, tree: &Tree, holds: &Holds, row: Branch) -> Verdict
+        requires testable { IsTestable net.now tree.now }
+        requires scannable { IsScannable net.now holds.now }
         requires row { IsBranchOf net.now row }
-        requires room { HasJudgeRoom net.now self.old }
-        requires knows { Knows net.now holds.now self.old }
+        requires ready { IsReady net.now holds.now self.old }
         ensures verdict { result ≡ judged.verdict_of holds.now (route_of net.now holds.now) (stuck.stuck_route net.now row holds.now) }
-        ensures room { HasJudgeRoom net.now self.new }
-        ensures knows { Knows net.now holds.now self.new }
+        ensures ready { IsReady net.now holds.now self.new }
     {
-        let passed = self.passed.as_slice();
-        if !self.met.get(row.mux) || is_passed(net, holds, passed, row) {
+        if is_passed(net, holds, &self.known, row) {
             return Verdict::Open;
         }
-        find_stuck_path(net, holds, passed, row, &mut self.other);
-        verdict_of(holds, self.own.as_slice(), self.other.as_slice())
+        if !is_met(net, tree, holds, &self.known, row.mux) {
+            return Verdict::Open;
+        }
+        self.verdict_met(net, tree, holds, row)
     }
 
     /// Judges a row. Takes no memory.
-    fn judge(&mut self, net: &Net, holds: &Holds, row: JudgedRow) -> JudgedRow
-        requires well_formed { IsNet net.now }
-        requires holds { AreHolds net.now holds.now }
+    fn judge(&mut self, net: &Net, tree: &Tree, holds: &Holds, row: JudgedRow) -> JudgedRow
+        requires testable { IsTestable net.now tree.now }
+        requires scannable { IsScannable net.now holds.now }
         requires row { IsBranchOf net.now row.branch }
-        requires room { HasJudgeRoom net.now self.old }
-        requires knows { Knows net.now holds.now self.old }
+        requires ready { IsReady net.now holds.now self.old }
         ensures row { result ≡ judged.judged_row net.now holds.now row }
-        ensures room { HasJudgeRoom net.now self.new }
-        ensures knows { Knows net.now holds.now self.new }
+        ensures ready { IsReady net.now holds.now self.new }
     {
         match row.verdict {
             Verdict::Open => JudgedRow {
                 branch: row.branch,
-                verdict: self.verdict(net, holds, row.branch),
+                verdict: self.verdict(net, tree, holds, row.branch),
             },
             Verdict::Seen | Verdict::Unseen => row,
         }
     }
 
     /// Judges the row at an index in its place, where it is open. Takes no memory.
-    fn judge_at(&mut self, net: &Net, holds: &Holds, rows: &mut List<JudgedRow>, i: usize)
-        requires well_formed { IsNet net.now }
-        requires holds { AreHolds net.now holds.now }
+    fn judge_at(
+        &mut self,
+        net: &Net,
+        tree: &Tree,
+        holds: &Holds,
+        rows: &mut List<JudgedRow>,
+        i: usize,
+    )
+        requires testable { IsTestable net.now tree.now }
+        requires scannable { IsScannable net.now holds.now }
         requires rows { All (λ r. IsBranchOf net.now r.branch) rows.old.items }
         requires there { i < length rows.old.items }
-        requires room { HasJudgeRoom net.now self.old }
-        requires knows { Knows net.now holds.now self.old }
+        requires ready { IsReady net.now holds.now self.old }
         ensures rows { rows.new.items ≡ judged.judged_at net.now holds.now i rows.old.items }
-        ensures room { HasJudgeRoom net.now self.new }
-        ensures knows { Knows net.now holds.now self.new }
+        ensures ready { IsReady net.now holds.now self.new }
     {
         let row = *rows.get(i);
         if !is_open(row) {
             return;
         }
-        rows.set(i, self.judge(net, holds, row));
+        rows.set(i, self.judge(net, tree, holds, row));
     }
 
     /// Judges all rows at the beginning of a scan. Takes no memory.
-    fn judge_rows(&mut self, net: &Net, holds: &Holds, rows: &mut List<JudgedRow>)
-        requires well_formed { IsNet net.now }
-        requires holds { AreHolds net.now holds.now }
+    fn judge_rows(&mut self, net: &Net, tree: &Tree, holds: &Holds, rows: &mut List<JudgedRow>)
+        requires testable { IsTestable net.now tree.now }
+        requires scannable { IsScannable net.now holds.now }
         requires rows { All (λ r. IsBranchOf net.now r.branch) rows.old.items }
         requires room { HasJudgeRoom net.now self.old }
         ensures rows { rows.new.items ≡ map (judged.judged_row net.now holds.now) rows.old.items }
         ensures room { HasJudgeRoom net.now self.new }
     {
-        self.look(net, holds);
+        self.known.note(net, holds);
+        self.detour.forget();
         for i in 0..rows.len() {
-            self.judge_at(net, holds, rows, i);
+            self.judge_at(net, tree, holds, rows, i);
         }
     }
 
     /// The same where the scan before changed something; else they are judged so already. Takes no memory.
-    fn judge_changed(&mut self, net: &Net, holds: &Holds, changed: bool, rows: &mut List<JudgedRow>)
-        requires well_formed { IsNet net.now }
-        requires holds { AreHolds net.now holds.now }
+    fn judge_changed(
+        &mut self,
+        net: &Net,
+        tree: &Tree,
+        holds: &Holds,
+        changed: bool,
+        rows: &mut List<JudgedRow>,
+    )
+        requires testable { IsTestable net.now tree.now }
+        requires scannable { IsScannable net.now holds.now }
         requires rows { All (λ r. IsBranchOf net.now r.branch) rows.old.items }
         requires room { HasJudgeRoom net.now self.old }
         requires alike { IsFalse changed → map (judged.judged_row net.now holds.now) rows.old.items ≡ rows.old.items }
@@ -241,7 +279,7 @@ impl Judge {
         ensures room { HasJudgeRoom net.now self.new }
     {
         if changed {
-            self.judge_rows(net, holds, rows);
+            self.judge_rows(net, tree, holds, rows);
         }
     }
 }
@@ -250,10 +288,11 @@ impl Judge {
 fn judge_scans(
     alloc: Global,
     net: &Net,
+    tree: &Tree,
     scans: &[PlannedScan],
     rows: &mut List<JudgedRow>,
 ) -> Result<(), OutOfMemory>
-    requires well_formed { IsNet net.now }
+    requires testable { IsTestable net.now tree.now }
     requires scans { AreFlushable net.now (start_holds net.now) (map seen_planned scans.now) }
     requires rows { All (λ r. IsBranchOf net.now r.branch) rows.old.items }
     ensures { OnOk result (rows.new.items ≡ judged.judged_rows net.now (begins (start_holds net.now) (holds_after (start_holds net.now) (map seen_planned scans.now))) rows.old.items) }
@@ -262,7 +301,7 @@ fn judge_scans(
     let mut judge = Judge::new(alloc, net)?;
     let mut changed = true;
     for scan in scans {
-        judge.judge_changed(net, &holds, changed, rows);
+        judge.judge_changed(net, tree, &holds, changed, rows);
         changed = !scan.plan.writes.is_empty();
         advance(&mut holds, &scan.plan);
     }
@@ -301,15 +340,16 @@ fn untold_rows(alloc: Global, rows: &[JudgedRow]) -> Result<List<Branch>, OutOfM
 pub(crate) fn unseen_rows(
     alloc: Global,
     net: &Net,
+    tree: &Tree,
     branches: &[Branch],
     scans: &[PlannedScan],
 ) -> Result<List<Branch>, OutOfMemory>
-    requires well_formed { IsNet net.now }
+    requires testable { IsTestable net.now tree.now }
     requires branches { All (IsBranchOf net.now) branches.now }
     requires scans { AreFlushable net.now (start_holds net.now) (map seen_planned scans.now) }
     ensures { IfOk result (λ unseen. unseen.items ≡ judged.unseen_rows net.now branches.now (begins (start_holds net.now) (holds_after (start_holds net.now) (map seen_planned scans.now)))) }
 {
     let mut rows = open_rows(alloc, branches)?;
-    judge_scans(alloc, net, scans, &mut rows)?;
+    judge_scans(alloc, net, tree, scans, &mut rows)?;
     untold_rows(alloc, rows.as_slice())
 }

@@ -1,9 +1,11 @@
 //! The test of a network's scan muxes: a marker is taken through every row of every mux (IEEE 1687-2014: ScanMux).
 #![tactic(auto)]
 
+mod detour;
 mod fault;
 mod file;
 mod judge;
+mod known;
 mod law;
 mod planned;
 mod report;

@@ -1,22 +1,19 @@
-// The active path where one mux always passes on the same row, and the muxes that are met.
-ghost use Rattle.std.specs.Prelude.{◌≡◌, ◌≢◌, ◌↔◌, ◌+◌, ◌<◌, ◌≤◌, ◌++◌, ℕ, IsTrue, IsFalse, None, Some, [], false, length, slice_index_or};
+// The active path point by point, also where one mux always passes on the same row.
+ghost use Rattle.std.specs.Prelude.{◌≡◌, ◌≢◌, ◌↔◌, ◌+◌, ◌<◌, ◌≤◌, ◌++◌, IsTrue, IsFalse, Some, [], length};
 ghost use Rattle.std.specs.Option.{ForSome};
-ghost use Rattle.net_graph.specs.Chain.{NotIn};
-ghost use Rattle.net_graph.specs.Held.{AreHolds};
-ghost use Rattle.net_graph.specs.MuxesMet.{active_muxes};
 ghost use Rattle.net_graph.specs.Named.{IsPointOf};
 ghost use Rattle.net_graph.specs.Nets.{IsNet};
 ghost use Rattle.net_graph.specs.Path as paths;
-ghost use Rattle.net_graph.specs.RowTables.{AreRows};
 ghost use Rattle.net_graph.specs.Stuck as stuck;
 ghost use Rattle.net_graph.specs.Tracing.{registers_at};
 ghost use Rattle.net_graph.specs.declared.net.Point.TheVariants as point;
 ghost use Rattle.path_planner.specs.Planning.{IsBranchOf};
-ghost use Rattle.mux_test.specs.Judging.{IsKnown};
 ghost use Rattle.mux_test.specs.Steps as steps;
+ghost use Rattle.mux_test.specs.KnownRows.{AreKnown};
 
-use ij_bits::{Bits, List};
-use net_graph::{Branch, Holds, Net, Point, RowTable};
+use crate::known::KnownRows;
+use ij_bits::List;
+use net_graph::{Branch, Holds, Net, Point};
 use net_tree::same_point;
 
 /// What a row of a mux passes on.
@@ -31,73 +28,72 @@ fn row_source(net: &Net, row: Branch) -> Point
         .from
 }
 
-/// What a mux passes on by its select.
-fn selected_source(net: &Net, rows: &RowTable, holds: &Holds, mux: u32) -> Option<Point>
-    requires rows { AreRows net.now rows.now }
-    requires well_formed { IsNet net.now }
-    requires holds { AreHolds net.now holds.now }
+/// What a mux passes on by its select, where the row that it is in is known.
+fn selected_source(net: &Net, holds: &Holds, known: &KnownRows, mux: u32) -> Option<Point>
+    requires known { AreKnown net.now holds.now known.now }
     requires mux { mux < length net.now.muxes.items }
     ensures { result ≡ paths.mux_source net.now holds.now mux }
 {
-    match rows.row_of(net, holds, mux) {
+    match known.row_of(net, holds, mux) {
         Some(row) => Some(row_source(net, Branch { mux, row })),
         None => None,
     }
 }
 
-/// What a mux passes on by what is known, and a mux that is stuck in a row what it passes on there.
+/// What a mux passes on by its select, and a mux that is stuck in a row what it passes on there.
 fn source_of(
     net: &Net,
     stuck: Option<Branch>,
-    _holds: &Holds,
-    passed: &[Option<Point>],
+    holds: &Holds,
+    known: &KnownRows,
     mux: u32,
 ) -> Option<Point>
     requires stuck { ForSome stuck (IsBranchOf net.now) }
-    requires known { IsKnown net.now _holds.now passed.now }
+    requires known { AreKnown net.now holds.now known.now }
     requires mux { mux < length net.now.muxes.items }
-    ensures { result ≡ steps.source_of net.now stuck _holds.now mux }
+    ensures { result ≡ steps.source_of net.now stuck holds.now mux }
 {
     match stuck {
         Some(row) => {
             if mux == row.mux {
                 Some(row_source(net, row))
             } else {
-                passed[mux as usize]
+                selected_source(net, holds, known, mux)
             }
         }
-        None => passed[mux as usize],
+        None => selected_source(net, holds, known, mux),
     }
 }
 
 /// What is met before a point, going back.
-fn back(
+pub(crate) fn back(
     net: &Net,
     stuck: Option<Branch>,
     holds: &Holds,
-    passed: &[Option<Point>],
+    known: &KnownRows,
     from: Point,
 ) -> Option<Point>
+    requires known { AreKnown net.now holds.now known.now }
     requires stuck { ForSome stuck (IsBranchOf net.now) }
-    requires known { IsKnown net.now holds.now passed.now }
     requires there { IsPointOf net.now from }
     ensures { result ≡ steps.before net.now (steps.source_of net.now stuck holds.now) from }
 {
     match from {
         Point::Entry => Some(Point::Entry),
         Point::Reg(reg) => Some(net.regs.get(reg as usize).from),
-        Point::Mux(mux) => source_of(net, stuck, holds, passed, mux),
+        Point::Mux(mux) => source_of(net, stuck, holds, known, mux),
     }
 }
 
 /// Adds the register that a point is, and answers whether there was room for it among so many.
-fn meet(at: Point, count: usize, into: &mut List<u32>) -> bool
+pub(crate) fn meet(at: Point, count: usize, into: &mut List<u32>) -> bool
     requires few { length into.old.items ≤ count }
     requires room { count ≤ length into.old.items + into.old.spare }
     ensures room { length into.new.items + into.new.spare ≡ length into.old.items + into.old.spare }
     ensures few { length into.new.items ≤ count }
     ensures met { IsTrue result → into.new.items ≡ into.old.items ++ registers_at at }
     ensures full { IsFalse result → (length into.old.items ≡ count) × (registers_at at ≢ []) }
+    ensures stays { IsFalse result → into.new.items ≡ into.old.items }
 {
     if let Point::Reg(reg) = at {
         if into.len() == count {
@@ -115,20 +111,20 @@ fn is_entry(at: Point) -> bool
     matches!(at, Point::Entry)
 }
 
-/// Leaves the registers of the active path in a list, nearest scan-out first, where a mux always passes on this row; and
-/// nothing where there is no path then. Takes no memory.
-pub(crate) fn find_stuck_path(
+/// Leaves the registers of the active path in a list, nearest scan-out first, also where a mux is stuck in a row; and nothing
+/// where there is no path then. Takes no memory.
+pub(crate) fn find_path(
     net: &Net,
+    stuck: Option<Branch>,
     holds: &Holds,
-    passed: &[Option<Point>],
-    row: Branch,
+    known: &KnownRows,
     path: &mut List<u32>,
 )
     requires well_formed { IsNet net.now }
-    requires known { IsKnown net.now holds.now passed.now }
-    requires row { IsBranchOf net.now row }
+    requires known { AreKnown net.now holds.now known.now }
+    requires stuck { ForSome stuck (IsBranchOf net.now) }
     requires room { length net.now.regs.items ≤ length path.old.items + path.old.spare }
-    ensures path { path.new.items ≡ stuck.stuck_route net.now row holds.now }
+    ensures path { path.new.items ≡ steps.route_where net.now stuck holds.now }
     ensures room { length path.new.items + path.new.spare ≡ length path.old.items + path.old.spare }
 {
     path.clear();
@@ -142,7 +138,7 @@ pub(crate) fn find_stuck_path(
             path.clear();
             return;
         }
-        match back(net, Some(row), holds, passed, at) {
+        match back(net, stuck, holds, known, at) {
             Some(before) => at = before,
             None => {
                 path.clear();
@@ -155,82 +151,25 @@ pub(crate) fn find_stuck_path(
     }
 }
 
-/// Marks the mux that a point is. Takes no memory.
-fn mark(at: Point, met: &mut Bits)
-    requires { steps.HasMark met.old.items at }
-    ensures { met.new.items ≡ steps.marked met.old.items at }
+/// Whether two rows of a mux pass on the same.
+fn have_same_source(net: &Net, a: Branch, b: Branch) -> bool
+    requires a { IsBranchOf net.now a }
+    requires b { IsBranchOf net.now b }
+    requires mux { a.mux ≡ b.mux }
+    ensures { IsTrue result → stuck.row_source net.now a ≡ stuck.row_source net.now b }
 {
-    if let Point::Mux(mux) = at {
-        met.set(mux, true);
-    }
-}
-
-/// Notes what each mux passes on by its select. Takes no memory.
-pub(crate) fn note_all(net: &Net, rows: &RowTable, holds: &Holds, passed: &mut List<Option<Point>>)
-    requires rows { AreRows net.now rows.now }
-    requires well_formed { IsNet net.now }
-    requires holds { AreHolds net.now holds.now }
-    requires long { length passed.old.items ≡ length net.now.muxes.items }
-    ensures { IsKnown net.now holds.now passed.new.items }
-{
-    for mux in 0..net.muxes.len() {
-        passed.set(mux, selected_source(net, rows, holds, mux as u32));
-    }
-}
-
-/// Leaves the registers of the active path in a list, nearest scan-out first, and nothing where there is no path; and marks the
-/// muxes that it goes through, and maybe others. Takes no memory.
-pub(crate) fn find_met(
-    net: &Net,
-    holds: &Holds,
-    passed: &[Option<Point>],
-    path: &mut List<u32>,
-    met: &mut Bits,
-)
-    requires well_formed { IsNet net.now }
-    requires known { IsKnown net.now holds.now passed.now }
-    requires room { length net.now.regs.items ≤ length path.old.items + path.old.spare }
-    requires long { length met.old.items ≡ length net.now.muxes.items }
-    ensures path { path.new.items ≡ paths.route_of net.now holds.now }
-    ensures room { length path.new.items + path.new.spare ≡ length path.old.items + path.old.spare }
-    ensures long { length met.new.items ≡ length net.now.muxes.items }
-    ensures unmarked { (m : ℕ) → m < length net.now.muxes.items → slice_index_or met.new.items m false ≡ false → NotIn m (active_muxes net.now holds.now) }
-{
-    path.clear();
-    met.fill(false);
-    let count = net.regs.len();
-    let mut at = net.out;
-    for _turn in 0..count + net.muxes.len() {
-        if is_entry(at) {
-            return;
-        }
-        if !meet(at, count, path) {
-            path.clear();
-            met.fill(true);
-            return;
-        }
-        mark(at, met);
-        match back(net, None, holds, passed, at) {
-            Some(before) => at = before,
-            None => {
-                path.clear();
-                return;
-            }
-        }
-    }
-    if !is_entry(at) {
-        path.clear();
-    }
+    a.row == b.row || same_point(row_source(net, a), row_source(net, b))
 }
 
 /// Whether a mux passes on by its select what it passes on in this row.
-pub(crate) fn is_passed(net: &Net, _holds: &Holds, passed: &[Option<Point>], row: Branch) -> bool
-    requires known { IsKnown net.now _holds.now passed.now }
+pub(crate) fn is_passed(net: &Net, holds: &Holds, known: &KnownRows, row: Branch) -> bool
+    requires known { AreKnown net.now holds.now known.now }
     requires row { IsBranchOf net.now row }
-    ensures { IsTrue result → paths.mux_source net.now _holds.now row.mux ≡ stuck.row_source net.now row }
+    ensures { IsTrue result → paths.mux_source net.now holds.now row.mux ≡ stuck.row_source net.now row }
 {
-    match passed[row.mux as usize] {
-        Some(source) => same_point(source, row_source(net, row)),
+    let mux = row.mux;
+    match known.row_of(net, holds, mux) {
+        Some(now) => have_same_source(net, Branch { mux, row: now }, row),
         None => false,
     }
 }

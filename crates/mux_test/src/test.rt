@@ -144,7 +144,7 @@ impl<'a> MuxTest<'a> {
     {
         let rows = branches_of(alloc, net)?;
         let scans = plan_test(alloc, net, tree, rows.as_slice())?;
-        let unseen = unseen_rows(alloc, net, rows.as_slice(), scans.as_slice())?;
+        let unseen = unseen_rows(alloc, net, tree, rows.as_slice(), scans.as_slice())?;
         let holds = Holds::power_up(alloc, net)?;
         let path = HeldPath::of(alloc, net, tree, &holds)?;
         Ok(MuxTest {

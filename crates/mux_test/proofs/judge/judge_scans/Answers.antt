@@ -1,3 +1,7 @@
+use Rattle.std.proofs.Common.{drop}
+use Rattle.std.specs.Prelude.{map}
+use Rattle.mux_test.specs.Planned.{seen_planned}
+use Rattle.mux_test.proofs.Planning.{flushable_now}
 use Rattle.mux_test.proofs.Judged.{all_judged, next_alike, next_can, next_judged, was_empty, writes_held}
 use Rattle.mux_test.proofs.judge.judge_scans.Goals as goal
 
@@ -17,3 +21,7 @@ loop-scan-preserved c =
 pub advance-requires : goal.advance-requires
 advance-requires c =
     writes_held c.args.net.now c.args.scans.now c.loop-scan.scan-index c.scan-item.result c.loop-scan-test.true c.scan-item.is c.loop-scan.holds c.loop-scan.invariant.can
+
+pub judge_changed-requires-clause-scannable : goal.judge_changed-requires-clause-scannable
+judge_changed-requires-clause-scannable c =
+    flushable_now c.args.net.now c.loop-scan.holds (map seen_planned (drop c.loop-scan.scan-index c.args.scans.now)) c.loop-scan.invariant.can

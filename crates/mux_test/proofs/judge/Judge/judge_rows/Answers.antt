@@ -6,6 +6,5 @@ loop-i-preserved c =
     record {
       rows = next_row_judged c.args.net.now c.args.holds.now c.args.rows.now.items c.loop-i.rows.items c.judge_at.new.rows.items c.loop-i.i c.loop-i.invariant.rows c.judge_at.ensures.rows;
       there = row_there c.args.net.now c.args.holds.now c.loop-i.rows.items c.judge_at.new.rows.items c.loop-i.i c.judge_at.ensures.rows c.loop-i.invariant.there;
-      room = c.judge_at.ensures.room;
-      knows = c.judge_at.ensures.knows;
+      ready = c.judge_at.ensures.ready;
     }
