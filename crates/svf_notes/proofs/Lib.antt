@@ -8,8 +8,11 @@ pub mod Lengths
 pub mod Longest
 pub mod OnLine
 pub mod Same
+pub mod RowHeads
 pub mod Rows
 pub mod Scanning
+pub mod Packed
+pub mod Shifting
 pub mod Texts
 pub mod Numbered
 pub mod Earlier

@@ -9,6 +9,7 @@ use Rattle.net_graph.specs.declared.net.Net.{Net}
 use Rattle.net_graph.specs.declared.net.Reg.{Reg}
 use Rattle.net_graph.specs.Chain.{chain, IsRoute}
 use Rattle.net_graph.specs.Held.{AreHolds}
+use Rattle.net_graph.specs.Named.{width_of}
 use Rattle.net_graph.specs.Nets.{IsNet}
 use Rattle.net_graph.specs.Path.{route_of}
 use Rattle.net_graph.specs.Signals.{Holds, bits_at}
@@ -24,12 +25,14 @@ route_at n [] i h is = absurd (omega arith)
 route_at n (r ∷ rs) zero h is = is.0
 route_at n (r ∷ rs) (suc i) h is = route_at n rs i (omega arith) is.2
 
+-- a register has as many bits as its update stage holds
+pub width_is : (net : Net) (holds : Holds) (r : ℕ) → AreHolds net holds → width_of net r ≡ length (bits_at holds r)
+width_is net holds r held = sym (length_at holds r ∙ ap (λ (ns : List ℕ). get_or ns r 0) held)
+
 -- a register on a path has bits
 pub some_bits : (net : Net) (holds : Holds) (r : ℕ) → IsNet net → AreHolds net holds → r < length net.regs.items → 1 ≤ length (bits_at holds r)
 some_bits net holds r is held there =
-    let wide = wide_at net net.regs.items r is.regs there in
-    let same : length (bits_at holds r) ≡ get_or (map (λ reg. reg.width) net.regs.items) r 0 = length_at holds r ∙ ap (λ (ns : List ℕ). get_or ns r 0) held in
-    omega (arith, wide, same)
+    omega (arith, wide_at net net.regs.items r is.regs there, width_is net holds r held)
 
 chain_both : (xs ys : List ℕ) (holds : Holds) → chain (xs ++ ys) holds ≡ chain xs holds ++ chain ys holds
 chain_both [] ys holds = refl

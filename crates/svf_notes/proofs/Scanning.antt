@@ -1,7 +1,6 @@
 -- Scans clock by clock.
 use Rattle.std.proofs.Common.{◌≡◌, ℕ, suc, ◌<◌, ◌≤◌, Bool, true, false, cond, Option, Some, None, Result, Ok, Err, List, [], ◌∷◌, ◌++◌, length, drop, get_or, map, refl, ap, sym, ◌∙◌, arith}
 use Rattle.std.specs.Prelude.{◌==◌, IfOk, MatchOption}
-use Rattle.std.proofs.lemmas.List.{drop_all}
 use Rattle.ij_bits.specs.BitLists.{bits_of}
 use Rattle.ij_bits.proofs.Lists.{none_below}
 use Rattle.ij_bits.proofs.WordBits.{length-bits_of}
@@ -37,14 +36,6 @@ module _ {L : Type 0} where
   led_both : (cs bs : List Shifted) (xs : List (Scan L)) → led (cs ++ bs) xs ≡ led cs (led bs xs)
   led_both [] bs xs = refl
   led_both (c ∷ cs) bs xs = ap (led_by c) (led_both cs bs xs)
-
--- one of some clocks, and those after it
-pub bits_step : (p : Pins) (ps qs : List Pins) (f : Bool) (fs gs : List Bool) → qs ≡ p ∷ ps → gs ≡ f ∷ fs → shifted_bits qs gs ≡ shifted_at p f ∷ shifted_bits ps fs
-bits_step p ps qs f fs gs given is = ap (λ l. shifted_bits l gs) given ∙ ap (shifted_bits (p ∷ ps)) is
-
--- after the last of them
-pub bits_end : (qs : List Pins) (gs : List Bool) (n : ℕ) → length qs ≡ n → shifted_bits (drop n qs) gs ≡ []
-bits_end qs gs n len = ap (λ l. shifted_bits l gs) (drop_all n qs (omega arith))
 
 -- some clocks at once
 module _ {L : Type 0} (chip : Chip L) where

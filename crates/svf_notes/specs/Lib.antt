@@ -1,6 +1,8 @@
 pub mod Scans
 pub mod Notes
+pub mod Packed
 pub mod Explained
+pub mod Heads
 pub mod Most
 pub mod Targets
 pub mod Left

@@ -1,13 +1,12 @@
 // The values of bits.
-ghost use Rattle.std.specs.Prelude.{◌≡◌, ◌≤◌, Some, length, OnOk};
-ghost use Rattle.std.specs.List.{list_any};
-ghost use Rattle.ij_bits.specs.BitLists.{bits_eq};
+ghost use Rattle.std.specs.Prelude.{◌≡◌, ◌+◌, ◌≤◌, Some, drop, length, take, OnOk};
 ghost use Rattle.ij_io.specs.Bytes.{Adds};
 ghost use Rattle.report.specs.Registers.{digit};
 ghost use Rattle.svf_notes.specs.Notes as notes;
+ghost use Rattle.svf_notes.specs.Packed.{part_bits};
 
+use crate::bits::{Part, ScanBits};
 use crate::scan::{Shifted, Shown};
-use ij_bits::Bits;
 use ij_io::{Sink, StoreFault, SureSink};
 
 /// The digit of a bit.
@@ -28,6 +27,7 @@ pub(crate) fn expected_digit(expect: Option<bool>) -> u8
 }
 
 /// The digit of one value of a bit.
+#[inline(always)]
 fn digit_of(shown: Shown, bit: Shifted) -> u8
     ensures { result ≡ notes.digit_of shown bit }
 {
@@ -42,39 +42,39 @@ fn digit_of(shown: Shown, bit: Shifted) -> u8
 }
 
 /// Writes one value of each of up to 64 bits, the highest position first.
-fn put_some_digits(shown: Shown, bits: &[Shifted], note: &mut SureSink) -> Result<(), StoreFault>
-    requires { length bits.now ≤ 64 }
-    ensures { OnOk result (Adds (Some note.old) (Some note.new) (notes.digits shown bits.now)) }
+#[inline(always)]
+fn put_some_digits(shown: Shown, part: &Part, note: &mut SureSink) -> Result<(), StoreFault>
+    requires { part.now.count ≤ 64 }
+    ensures { OnOk result (Adds (Some note.old) (Some note.new) (notes.digits shown (part_bits part.now))) }
 {
+    let n = part.count;
     let mut text = [0; 64];
-    for j in 0..bits.len() {
-        text[j] = digit_of(shown, bits[bits.len() - 1 - j]);
+    for j in 0..n {
+        text[j as usize] = digit_of(shown, part.at(n - 1 - j));
     }
-    note.write(&text[..bits.len()])
+    note.write(&text[..n as usize])
 }
 
-/// Writes one value of each of some bits, the highest position first.
+/// Writes one value of each of some bits from a position on, the highest position first.
+#[inline(always)]
 pub(crate) fn put_digits(
     shown: Shown,
-    bits: &[Shifted],
+    bits: &ScanBits,
+    at: u32,
+    width: u32,
     note: &mut SureSink,
 ) -> Result<(), StoreFault>
-    ensures { OnOk result (Adds (Some note.old) (Some note.new) (notes.digits shown bits.now)) }
+    requires { at + width ≤ length bits.now.items }
+    ensures { OnOk result (Adds (Some note.old) (Some note.new) (notes.digits shown (take width (drop at bits.now.items)))) }
 {
-    let mut end = bits.len();
-    while end > 64 {
-        put_some_digits(shown, &bits[end - 64..end], note)?;
-        end -= 64;
+    let _all = bits.len();
+    let mut left = width;
+    while left > 64 {
+        left -= 64;
+        put_some_digits(shown, &bits.part(at + left, 64), note)?;
     }
-    put_some_digits(shown, &bits[..end], note)?;
+    put_some_digits(shown, &bits.part(at, left), note)?;
     Ok(())
-}
-
-/// Whether a bit is compared.
-fn is_compared(bit: Shifted) -> bool
-    ensures { result ≡ notes.is_compared bit }
-{
-    bit.expect.is_some()
 }
 
 /// Whether another bit is found than is expected.
@@ -85,41 +85,4 @@ pub(crate) fn differs(bit: Shifted) -> bool
         None => false,
         Some(expect) => expect != bit.found,
     }
-}
-
-/// Whether some bit is compared.
-pub(crate) fn any_compared(bits: &[Shifted]) -> bool
-    ensures { result ≡ list_any notes.is_compared bits.now }
-{
-    for bit in bits {
-        if is_compared(*bit) {
-            return true;
-        }
-    }
-    false
-}
-
-/// Whether some bit differs.
-pub(crate) fn any_differs(bits: &[Shifted]) -> bool
-    ensures { result ≡ list_any notes.differs bits.now }
-{
-    for bit in bits {
-        if differs(*bit) {
-            return true;
-        }
-    }
-    false
-}
-
-/// Whether a register holds already what is written.
-pub(crate) fn is_held(bits: &[Shifted], held: &Bits) -> bool
-    requires { length bits.now ≡ length held.now.items }
-    ensures { result ≡ bits_eq (notes.tdi_bits bits.now) held.now.items }
-{
-    for i in 0..held.len() {
-        if bits[i as usize].tdi != held.get(i) {
-            return false;
-        }
-    }
-    true
 }

@@ -45,7 +45,6 @@ fn closing(rest: &[u8]) -> &'static [u8]
 
 /// Adds the note of the next scan, before the rest of the text.
 fn add_next_note(
-    alloc: Global,
     playing: &mut Playing,
     rest: &[u8],
     piece: &mut SureSink,
@@ -55,10 +54,10 @@ fn add_next_note(
     ensures left { OnOk result (left_notes playing.new ≡ drop 1 (left_notes playing.old)) }
     ensures playing { IsPlaying playing.new }
 {
-    match playing.next_note(alloc)? {
+    match playing.next()? {
         None => Ok(()),
-        Some(note) => {
-            add(note.bytes(), piece)?;
+        Some(number) => {
+            playing.add_note(number, piece)?;
             add(closing(rest), piece)?;
             Ok(())
         }
@@ -67,7 +66,6 @@ fn add_next_note(
 
 /// Adds what stands after the `;` of a command, before the rest of the text.
 fn add_note(
-    alloc: Global,
     playing: &mut Playing,
     scans: bool,
     rest: &[u8],
@@ -79,7 +77,7 @@ fn add_note(
     ensures playing { IsPlaying playing.new }
 {
     if scans {
-        add_next_note(alloc, playing, rest, piece)
+        add_next_note(playing, rest, piece)
     } else {
         Ok(())
     }
@@ -87,7 +85,6 @@ fn add_note(
 
 /// Adds a command with its `;`, and its note, before the rest of the text.
 fn add_command(
-    alloc: Global,
     playing: &mut Playing,
     command: &[u8],
     rest: &[u8],
@@ -100,7 +97,7 @@ fn add_command(
 {
     add(command, piece)?;
     add(b";", piece)?;
-    add_note(alloc, playing, is_scan(command), rest, piece)
+    add_note(playing, is_scan(command), rest, piece)
 }
 
 /// Writes a text with the notes that are left after a piece of a file's text, and finishes the file. After a refusal the file
@@ -125,7 +122,7 @@ fn put_text<S: Shelf>(
     let mut piece = piece;
     let mut rest = src;
     while let Some(next) = next_text(rest) {
-        add_command(alloc, playing, next.piece, next.rest, &mut piece)?;
+        add_command(playing, next.piece, next.rest, &mut piece)?;
         piece = next_piece(alloc, name, piece, shelf)?;
         rest = next.rest;
     }
@@ -146,7 +143,7 @@ fn note_len(
     ensures playing { IsPlaying playing.new }
 {
     let mut note = SureSink::new(alloc);
-    add_note(alloc, playing, scans, rest, &mut note)?;
+    add_note(playing, scans, rest, &mut note)?;
     Ok(note.bytes().len() as u64)
 }
 
@@ -166,11 +163,12 @@ fn text_len(alloc: Global, playing: &mut Playing, src: &[u8]) -> Result<u64, Out
     Ok(len.saturating_add(rest.len() as u64))
 }
 
-/// How many bytes [`put_explained_file`] writes, at most `u64::MAX`. It plays, and keeps no more of the text than one note.
+/// How many bytes [`put_explained_file`] writes, at most `u64::MAX`. It plays, and keeps no more of the text than one note and what
+/// rows begin with.
 ///
 /// # Errors
 ///
-/// `OutOfMemory`, where there is no memory for the bench, for the bits of one scan or for one note.
+/// `OutOfMemory`, where there is no memory for the bench, for the bits of one scan, for what rows begin with or for one note.
 pub fn explained_len(
     alloc: Global,
     net: &Net,
@@ -191,7 +189,7 @@ pub fn explained_len(
 /// Writes an SVF text once more to a file, from its front, byte for byte, with a note after the `;` of each scan (Serial
 /// Vector Format, revision E: comments, SIR, SDR). `commands` are those of the text; they are played from power-up on a device
 /// with a scan network and its instruments, of which `models` has one for each, in the network's order. Of the new text no
-/// more than 65,536 bytes, a command and its note are kept.
+/// more than 65,536 bytes, a command and its note are kept, and what the row of each register began with, up to 256 bytes.
 ///
 /// A note is lines that begin with `!:`. The first has the scan's number, counted from 1 over SIR and SDR alike, and what
 /// the scan goes through: an instruction, in hexadecimal digits, and what it selects; the network's active path with its
@@ -205,8 +203,8 @@ pub fn explained_len(
 ///
 /// - `Failed`: the shelf could not begin the file, write a piece or keep it, and its count of failed stores under this name
 ///   rose.
-/// - `OutOfMemory`: there was no memory for the bench, for the bits of one scan or for a piece of the text, or the shelf had
-///   none.
+/// - `OutOfMemory`: there was no memory for the bench, for the bits of one scan, for what rows begin with or for a piece of the
+///   text, or the shelf had none.
 ///
 /// After a refusal the file is as before, or holds some first bytes of the text. Other files and the counts of failed loads
 /// stay.

@@ -4,24 +4,11 @@ ghost use Rattle.ij_io.specs.Bytes.{Adds};
 ghost use Rattle.net_bench.specs.Board.{seen_register};
 ghost use Rattle.svf_notes.specs.Notes as notes;
 
-use crate::scan::Shifted;
-use ij_bits::{Bits, OutOfMemory};
+use crate::bits::ScanBits;
+use ij_bits::Bits;
 use ij_io::{Sink, StoreFault, SureSink, Word, put_words};
 use net_bench::{DataRegister, selected_by};
 use net_graph::Device;
-use std::alloc::Global;
-
-/// The bits at TDI, of which there are this many.
-fn tdi_bits(alloc: Global, count: u32, bits: &[Shifted]) -> Result<Bits, OutOfMemory>
-    requires { length bits.now ≡ count }
-    ensures { IfOk result (λ tdi. tdi.items ≡ notes.tdi_bits bits.now) }
-{
-    let mut tdi = Bits::zeros(alloc, 0)?;
-    for bit in bits {
-        tdi.push(bit.tdi)?;
-    }
-    Ok(tdi)
-}
 
 /// Writes the n lowest hexadecimal digits, the highest first.
 fn put_hex_digits(bits: &Bits, n: u32, note: &mut SureSink) -> Result<(), StoreFault>
@@ -78,40 +65,19 @@ fn put_opcode(device: &Device, opcode: &Bits, note: &mut SureSink) -> Result<(),
     Ok(())
 }
 
-/// Writes an instruction, which has this many bits, and what it selects.
-fn put_selected(
-    alloc: Global,
-    device: &Device,
-    count: u32,
-    bits: &[Shifted],
-    note: &mut SureSink,
-) -> Result<(), StoreFault>
-    requires count { length bits.now ≡ count }
-    requires ir { count ≡ device.now.ir }
-    ensures { OnOk result (Adds (Some note.old) (Some note.new) (notes.opcode_text device.now (notes.tdi_bits bits.now))) }
-{
-    let opcode = tdi_bits(alloc, count, bits)?;
-    put_opcode(device, &opcode, note)
-}
-
 /// Writes an instruction and what it selects, or that it hasn't the length of the instruction register.
 pub(crate) fn put_instruction(
-    alloc: Global,
     device: &Device,
-    bits: &[Shifted],
+    bits: &ScanBits,
     note: &mut SureSink,
 ) -> Result<(), StoreFault>
-    ensures { OnOk result (Adds (Some note.old) (Some note.new) (notes.instruction_text device.now bits.now)) }
+    ensures { OnOk result (Adds (Some note.old) (Some note.new) (notes.instruction_text device.now bits.now.items)) }
 {
-    let ir = device.ir;
-    if bits.len() as u64 == u64::from(ir) {
-        put_selected(alloc, device, ir, bits, note)
+    let count = u64::from(bits.len());
+    let ir = u64::from(device.ir);
+    if count == ir {
+        put_opcode(device, bits.tdi(), note)
     } else {
-        put_other_length(
-            b"instruction register ",
-            bits.len() as u64,
-            u64::from(ir),
-            note,
-        )
+        put_other_length(b"instruction register ", count, ir, note)
     }
 }

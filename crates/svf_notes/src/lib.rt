@@ -2,8 +2,10 @@
 #![tactic(auto)]
 
 mod before;
+mod bits;
 mod digits;
 mod explained;
+mod heads;
 mod instruction;
 mod laws;
 mod most;

@@ -6,13 +6,13 @@ ghost use Rattle.net_graph.specs.Nets.{IsNet};
 ghost use Rattle.svf_notes.specs.Notes as notes;
 ghost use Rattle.svf_notes.specs.Targets.{seen_target};
 
+use crate::bits::ScanBits;
+use crate::heads::Heads;
 use crate::instruction::{put_instruction, put_other_length, register_name};
 use crate::row::put_rows;
-use crate::scan::Shifted;
 use ij_io::{Sink, StoreFault, SureSink, Word, put_words};
 use net_bench::{Bench, DataRegister};
 use net_graph::{Device, Holds, Net};
-use std::alloc::Global;
 use tap_machine::TapState;
 
 /// What a scan goes through.
@@ -69,19 +69,23 @@ fn put_path_len(len: u64, note: &mut SureSink) -> Result<(), StoreFault>
 fn put_path(
     net: &Net,
     bench: &Bench,
-    bits: &[Shifted],
+    bits: &ScanBits,
+    heads: &mut Heads,
     note: &mut SureSink,
 ) -> Result<(), StoreFault>
     requires well_formed { IsNet net.now }
     requires net { bench.now.net ≡ net.now }
-    ensures { OnOk result (Adds (Some note.old) (Some note.new) (notes.path_text (length bits.now) (notes.path_length net.now bench.now.state.holds) ++ notes.note_text (notes.rows_if (length bits.now == notes.path_length net.now bench.now.state.holds) net.now bench.now.state.holds bits.now))) }
+    requires heads { heads.old ≡ net.now }
+    ensures heads { heads.new ≡ heads.old }
+    ensures text { OnOk result (Adds (Some note.old) (Some note.new) (notes.path_text (length bits.now.items) (notes.path_length net.now bench.now.state.holds) ++ notes.note_text (notes.rows_if (length bits.now.items == notes.path_length net.now bench.now.state.holds) net.now bench.now.state.holds bits.now.items))) }
 {
     let len = u64::from(path_len(net, bench));
-    if bits.len() as u64 != len {
-        return put_other_length(b"path ", bits.len() as u64, len, note);
+    let count = u64::from(bits.len());
+    if count != len {
+        return put_other_length(b"path ", count, len, note);
     }
     put_path_len(len, note)?;
-    put_rows(net, bench.holds(), bench.path().as_slice(), bits, note)?;
+    put_rows(heads, bench.holds(), bench.path().as_slice(), bits, note)?;
     Ok(())
 }
 
@@ -98,23 +102,25 @@ fn put_number(number: u32, note: &mut SureSink) -> Result<(), StoreFault>
 
 /// Writes the note of the scan whose last bit was just shifted.
 pub(crate) fn put_note(
-    alloc: Global,
     net: &Net,
     device: &Device,
     bench: &Bench,
     number: u32,
-    bits: &[Shifted],
+    bits: &ScanBits,
+    heads: &mut Heads,
     note: &mut SureSink,
 ) -> Result<(), StoreFault>
     requires well_formed { IsNet net.now }
     requires net { bench.now.net ≡ net.now }
     requires device { bench.now.device ≡ device.now }
-    ensures { OnOk result (Adds (Some note.old) (Some note.new) (notes.note_text (notes.note_of net.now device.now (record { number = number; bits = bits.now; state = bench.now.state })))) }
+    requires heads { heads.old ≡ net.now }
+    ensures heads { heads.new ≡ heads.old }
+    ensures text { OnOk result (Adds (Some note.old) (Some note.new) (notes.note_text (notes.note_of net.now device.now (record { number = number; bits = bits.now.items; state = bench.now.state })))) }
 {
     put_number(number, note)?;
     match target(bench) {
-        ScanTarget::Instruction => put_instruction(alloc, device, bits, note)?,
-        ScanTarget::Data(DataRegister::Network) => put_path(net, bench, bits, note)?,
+        ScanTarget::Instruction => put_instruction(device, bits, note)?,
+        ScanTarget::Data(DataRegister::Network) => put_path(net, bench, bits, heads, note)?,
         ScanTarget::Data(register) => note.write(register_name(register))?,
     }
     Ok(())

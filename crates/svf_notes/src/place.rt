@@ -99,7 +99,7 @@ fn put_register_bit(net: &Net, bit: BitId, line: &mut SureSink) -> Result<(), St
 fn put_on_path(
     net: &Net,
     bench: &Bench,
-    len: usize,
+    len: u32,
     at: u64,
     line: &mut SureSink,
 ) -> Result<(), StoreFault>
@@ -107,7 +107,7 @@ fn put_on_path(
     requires net { bench.now.net ≡ net.now }
     ensures { OnOk result (Adds (Some line.old) (Some line.new) (places.on_path net.now bench.now.state.holds len at)) }
 {
-    if len as u64 != u64::from(path_len(net, bench)) {
+    if len != path_len(net, bench) {
         return line.write(b" no register");
     }
     match bit_on(bench.holds(), bench.path().as_slice(), at) {
@@ -160,7 +160,7 @@ fn put_position(number: u32, at: u64, line: &mut SureSink) -> Result<(), StoreFa
 fn put_target(
     net: &Net,
     bench: &Bench,
-    len: usize,
+    len: u32,
     at: u64,
     line: &mut SureSink,
 ) -> Result<(), StoreFault>
@@ -216,14 +216,14 @@ fn bit_in(alloc: Global, playing: &Playing, number: u32, at: u64) -> Result<Foun
     ensures answer { IfOk result (λ found. found.answer ≡ places.scan_answer at (Some (record { number = number; bits = playing.now.bits.items; state = playing.now.bench.state }))) }
     ensures line { IfOk result (λ found. found.line ≡ places.scan_text playing.now.net.now playing.now.device.now at (Some (record { number = number; bits = playing.now.bits.items; state = playing.now.bench.state }))) }
 {
-    match playing.bits.as_slice().get(at as usize) {
+    match playing.bits.get(at) {
         None => Ok(FoundBit {
             answer: BitAnswer::NoBit,
             line: SureSink::new(alloc),
         }),
         Some(bit) => Ok(FoundBit {
-            answer: answer_of(*bit),
-            line: line_of(alloc, playing, number, at, *bit)?,
+            answer: answer_of(bit),
+            line: line_of(alloc, playing, number, at, bit)?,
         }),
     }
 }

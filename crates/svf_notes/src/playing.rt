@@ -1,14 +1,16 @@
 // A play that is under way, and the notes that are still to come.
-ghost use Rattle.std.specs.Prelude.{◌≡◌, ◌≤◌, ◌∷◌, [], drop, length, map, IfOk, MatchOption};
+ghost use Rattle.std.specs.Prelude.{◌≡◌, ◌≤◌, ◌++◌, ◌∷◌, [], map, IfOk, MatchOption, OnOk};
 ghost use Rattle.instruments.specs.Runners.{AreModels};
 ghost use Rattle.instruments.specs.Seen.{seen_model};
 ghost use Rattle.net_graph.specs.Nets.{IsNet};
-ghost use Rattle.svf_notes.specs.Left.{left_notes, left_scans, IsPlaying};
-ghost use Rattle.svf_notes.specs.Notes.{notes, note_text, note_of, played_scans};
+ghost use Rattle.svf_notes.specs.Left.{left_scans, IsPlaying};
+ghost use Rattle.svf_notes.specs.Notes.{note_text, note_of, played_scans};
 ghost use Rattle.tap_machine.specs.Play.{scans_in};
 
+use crate::bits::ScanBits;
+use crate::heads::Heads;
 use crate::note::put_note;
-use crate::scan::{Shifted, next_scan};
+use crate::scan::next_scan;
 use ij_bits::{List, OutOfMemory};
 use ij_io::SureSink;
 use instruments::Model;
@@ -18,14 +20,15 @@ use std::alloc::Global;
 use svf_writer::Commands;
 use tap_machine::{Player, Stable};
 
-/// A play of commands on the bench of a network, and the bits of the scan that was shifted last, position 0 first.
+/// A play of commands on the bench of a network, and the bits of the scan that was shifted last.
 #[derive(Drop)]
 pub(crate) struct Playing<'a> {
     pub net: &'a Net,
     pub device: &'a Device,
     pub bench: Bench<'a>,
     pub player: Player<'a>,
-    pub bits: List<Shifted>,
+    pub bits: ScanBits,
+    pub heads: Heads<'a>,
 }
 
 impl<'a> Playing<'a> {
@@ -52,7 +55,8 @@ impl<'a> Playing<'a> {
             device,
             bench,
             player,
-            bits: List::new(alloc),
+            bits: ScanBits::new(alloc)?,
+            heads: Heads::new(alloc, net)?,
         })
     }
 
@@ -67,37 +71,23 @@ impl<'a> Playing<'a> {
         next_scan(&mut self.player, &mut self.bench, &mut self.bits)
     }
 
-    /// The note of the scan that was shifted last, by its number.
-    fn note(&self, alloc: Global, number: u32) -> Result<SureSink, OutOfMemory>
-        requires { IsPlaying self.now }
-        ensures { IfOk result (λ note. note ≡ note_text (note_of self.now.net.now self.now.device.now (record { number = number; bits = self.now.bits.items; state = self.now.bench.state }))) }
+    /// Adds the note of the scan that was shifted last to a piece of a text, by its number.
+    pub(crate) fn add_note(&mut self, number: u32, piece: &mut SureSink) -> Result<(), OutOfMemory>
+        requires { IsPlaying self.old }
+        ensures same { self.new ≡ self.old }
+        ensures text { OnOk result (piece.new ≡ piece.old ++ note_text (note_of self.old.net.now self.old.device.now (record { number = number; bits = self.old.bits.items; state = self.old.bench.state }))) }
     {
-        let mut note = SureSink::new(alloc);
-        let bits = self.bits.as_slice();
         match put_note(
-            alloc,
             self.net,
             self.device,
             &self.bench,
             number,
-            bits,
-            &mut note,
+            &self.bits,
+            &mut self.heads,
+            piece,
         ) {
-            Ok(()) => Ok(note),
+            Ok(()) => Ok(()),
             Err(_) => Err(OutOfMemory),
-        }
-    }
-
-    /// Plays on to the next scan; answers its note, and `None` where the play ends first.
-    pub(crate) fn next_note(&mut self, alloc: Global) -> Result<Option<SureSink>, OutOfMemory>
-        requires { IsPlaying self.old }
-        ensures playing { IsPlaying self.new }
-        ensures note { IfOk result (λ note. MatchOption note (left_notes self.old ≡ []) (λ text. left_notes self.old ≡ text ∷ left_notes self.new)) }
-        ensures rest { IfOk result (λ _. left_notes self.new ≡ drop 1 (left_notes self.old)) }
-    {
-        match self.next()? {
-            None => Ok(None),
-            Some(number) => Ok(Some(self.note(alloc, number)?)),
         }
     }
 }

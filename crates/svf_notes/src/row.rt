@@ -1,131 +1,115 @@
 // The rows of a note: the registers of a path.
-ghost use Rattle.std.specs.Prelude.{◌≡◌, ◌<◌, ◌≤◌, ◌+◌, ◌^◌, ◌++◌, [], Some, codes, cond, drop, length, OnOk};
+ghost use Rattle.std.specs.Prelude.{◌≡◌, ◌<◌, ◌≤◌, ◌+◌, ◌++◌, [], Some, codes, cond, drop, length, take, OnOk};
 ghost use Rattle.ij_io.specs.Bytes.{Adds};
 ghost use Rattle.net_graph.specs.Chain.{chain, IsRoute};
 ghost use Rattle.net_graph.specs.Held.{AreHolds};
+ghost use Rattle.net_graph.specs.Named.{width_of};
 ghost use Rattle.net_graph.specs.Nets.{IsNet};
-ghost use Rattle.net_graph.specs.Signals.{bits_at};
+ghost use Rattle.svf_notes.specs.Heads.{values_after};
 ghost use Rattle.svf_notes.specs.Notes as notes;
 
-use crate::digits::{any_compared, any_differs, is_held, put_digits};
-use crate::names::{put_range, put_register_path};
-use crate::scan::{Shifted, Shown};
+use crate::bits::ScanBits;
+use crate::digits::put_digits;
+use crate::heads::Heads;
+use crate::scan::Shown;
 use ij_bits::Bits;
-use ij_io::{Sink, StoreFault, SureSink, Word, put_words};
-use net_graph::{Holds, Net};
+use ij_io::{Sink, StoreFault, SureSink};
+use net_graph::Holds;
 
 /// Writes some words, if they hold.
 fn put_if(holds: bool, words: &[u8], note: &mut SureSink) -> Result<(), StoreFault>
     ensures { OnOk result (Adds (Some note.old) (Some note.new) (cond holds words.now [])) }
 {
-    if holds {
-        note.write(words)
-    } else {
-        note.write(b"")
-    }
+    if holds { note.write(words) } else { Ok(()) }
 }
 
-/// Writes some words and one value of each bit, if there is something to show.
+/// Writes some words and one value of each of some bits from a position on, if there is something to show.
 fn put_shown_if(
     there: bool,
     words: &[u8],
     shown: Shown,
-    bits: &[Shifted],
+    bits: &ScanBits,
+    at: u32,
+    width: u32,
     note: &mut SureSink,
 ) -> Result<(), StoreFault>
-    ensures { OnOk result (Adds (Some note.old) (Some note.new) (cond there (words.now ++ notes.digits shown bits.now) [])) }
+    requires { at + width ≤ length bits.now.items }
+    ensures { OnOk result (Adds (Some note.old) (Some note.new) (cond there (words.now ++ notes.digits shown (take width (drop at bits.now.items))) [])) }
 {
     if !there {
-        return note.write(b"");
+        return Ok(());
     }
     note.write(words)?;
-    put_digits(shown, bits, note)?;
+    put_digits(shown, bits, at, width, note)?;
     Ok(())
 }
 
-/// Writes the values of a register.
-fn put_values(held: &Bits, bits: &[Shifted], note: &mut SureSink) -> Result<(), StoreFault>
-    requires { length bits.now ≡ length held.now.items }
-    ensures { OnOk result (Adds (Some note.old) (Some note.new) (notes.values_text held.now.items bits.now)) }
+/// Writes the values of a register, after the word `writes`.
+fn put_values(held: &Bits, bits: &ScanBits, at: u32, note: &mut SureSink) -> Result<(), StoreFault>
+    requires { at + length held.now.items ≤ length bits.now.items }
+    ensures { OnOk result (Adds (Some note.old) (Some note.new) (values_after held.now.items (take (length held.now.items) (drop at bits.now.items)))) }
 {
-    note.write(b" writes ")?;
-    put_digits(Shown::Written, bits, note)?;
-    put_if(is_held(bits, held), b" as before", note)?;
+    let width = held.len();
+    put_digits(Shown::Written, bits, at, width, note)?;
+    put_if(bits.is_held(at, held), b" as before", note)?;
+    let compared = bits.any_compared(at, width);
     put_shown_if(
-        any_compared(bits),
+        compared,
         b" expects ",
         Shown::Expected,
         bits,
+        at,
+        width,
         note,
     )?;
-    put_shown_if(any_differs(bits), b" finds ", Shown::Found, bits, note)?;
+    let differs = bits.any_differs(at, width);
+    put_shown_if(differs, b" finds ", Shown::Found, bits, at, width, note)?;
     Ok(())
-}
-
-/// Writes the positions of a register of this width, from a position on.
-#[tactic(auto, unfolding(ij_io::specs::Words::words_text))]
-fn put_positions(at: u32, width: u32, note: &mut SureSink) -> Result<(), StoreFault>
-    requires { 1 ≤ width }
-    ensures { OnOk result (Adds (Some note.old) (Some note.new) (codes "\n!:" ++ notes.positions_text at width)) }
-{
-    let low = u64::from(at);
-    put_words(
-        note,
-        &[
-            Word::Text(b"\n!:   "),
-            Word::Number(low + u64::from(width - 1)),
-            Word::Text(b".."),
-            Word::Number(low),
-            Word::Text(b" "),
-        ],
-    )
 }
 
 /// Writes the row of a register, whose position 0 is this one of the scan.
 fn put_row(
-    net: &Net,
+    heads: &mut Heads,
     reg: u32,
     at: u32,
     held: &Bits,
-    bits: &[Shifted],
+    bits: &ScanBits,
     note: &mut SureSink,
 ) -> Result<(), StoreFault>
-    requires well_formed { IsNet net.now }
-    requires there { reg < length net.now.regs.items }
-    requires wide { 1 ≤ length held.now.items }
-    requires same { length bits.now ≡ length held.now.items }
-    ensures { OnOk result (Adds (Some note.old) (Some note.new) (codes "\n!:" ++ notes.row net.now reg at held.now.items bits.now)) }
+    requires well_formed { IsNet heads.old }
+    requires there { reg < length heads.old.regs.items }
+    requires wide { width_of heads.old reg ≡ length held.now.items }
+    requires within { at + length held.now.items ≤ length bits.now.items }
+    ensures same { heads.new ≡ heads.old }
+    ensures row { OnOk result (Adds (Some note.old) (Some note.new) (codes "\n!:" ++ notes.row heads.old reg at held.now.items (take (length held.now.items) (drop at bits.now.items)))) }
 {
-    let width = held.len();
-    put_positions(at, width, note)?;
-    put_register_path(net, reg, note)?;
-    put_range(net, reg, width, note)?;
-    put_values(held, bits, note)?;
+    heads.put(reg, at, note)?;
+    put_values(held, bits, at, note)?;
     Ok(())
 }
 
 /// Writes the rows of a path, the register nearest scan-in first. `path` has the one nearest scan-out first, and `bits` one
 /// bit for each of its positions.
 pub(crate) fn put_rows(
-    net: &Net,
+    heads: &mut Heads,
     holds: &Holds,
     path: &[u32],
-    bits: &[Shifted],
+    bits: &ScanBits,
     note: &mut SureSink,
 ) -> Result<(), StoreFault>
-    requires well_formed { IsNet net.now }
-    requires holds { AreHolds net.now holds.now }
-    requires route { IsRoute (length net.now.regs.items) path.now }
-    requires same { length bits.now ≡ length (chain path.now holds.now) }
-    requires short { length bits.now < 2 ^ 32 }
-    ensures { OnOk result (Adds (Some note.old) (Some note.new) (notes.note_text (notes.rows net.now holds.now 0 path.now bits.now))) }
+    requires well_formed { IsNet heads.old }
+    requires holds { AreHolds heads.old holds.now }
+    requires route { IsRoute (length heads.old.regs.items) path.now }
+    requires same { length bits.now.items ≡ length (chain path.now holds.now) }
+    ensures same { heads.new ≡ heads.old }
+    ensures rows { OnOk result (Adds (Some note.old) (Some note.new) (notes.note_text (notes.rows heads.old holds.now 0 path.now bits.now.items))) }
 {
     let mut end = bits.len();
     for j in 0..path.len() {
         let reg = path[path.len() - 1 - j];
         let held = holds.register(reg);
-        let at = end - held.len() as usize;
-        put_row(net, reg, at as u32, held, &bits[at..end], note)?;
+        let at = end - held.len();
+        put_row(heads, reg, at, held, bits, note)?;
         end = at;
     }
     Ok(())

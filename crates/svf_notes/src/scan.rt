@@ -5,7 +5,8 @@ ghost use Rattle.bench_report.specs.Report.{chip_of};
 ghost use Rattle.svf_notes.specs.Scans.{scans_of, shifted_bits};
 ghost use Rattle.tap_machine.specs.Pieces.{piece_pins};
 
-use ij_bits::{List, OutOfMemory};
+use crate::bits::{Part, ScanBits};
+use ij_bits::OutOfMemory;
 use net_bench::{Bench, Played};
 use tap_machine::Player;
 
@@ -29,20 +30,17 @@ pub(crate) enum Shown {
 }
 
 /// Adds the bits of some clocks that shift.
-fn add_bits(played: &Played, bits: &mut List<Shifted>) -> Result<(), OutOfMemory>
+fn add_bits(played: &Played, bits: &mut ScanBits) -> Result<(), OutOfMemory>
     requires few { played.now.piece.count ≤ 64 }
-    requires short { played.now.piece.bit + played.now.piece.count < 2 ^ 32 }
     ensures { OnOk result (bits.new.items ≡ bits.old.items ++ shifted_bits (piece_pins played.now.piece) (bits_of played.now.piece.count played.now.found)) }
 {
-    for i in 0..played.piece.count {
-        let pins = played.piece.at(i);
-        bits.push(Shifted {
-            tdi: pins.tdi,
-            expect: pins.expect,
-            found: played.found_at(i),
-        })?;
-    }
-    Ok(())
+    bits.append(&Part {
+        count: played.piece.count,
+        tdi: played.piece.tdi,
+        compared: played.piece.compared,
+        expected: played.piece.expected,
+        found: played.found,
+    })
 }
 
 /// Plays up to the last shift clock of the next scan, so before its update; answers the scan's number, and `None` where
@@ -50,7 +48,7 @@ fn add_bits(played: &Played, bits: &mut List<Shifted>) -> Result<(), OutOfMemory
 pub(crate) fn next_scan(
     player: &mut Player,
     bench: &mut Bench,
-    bits: &mut List<Shifted>,
+    bits: &mut ScanBits,
 ) -> Result<Option<u32>, OutOfMemory>
     ensures bench { bench.new ≡ record bench.old { state = bench.new.state } }
     ensures scan { IfOk result (λ number. MatchOption number ((scans_of (chip_of bench.old) player.old.pins bench.old.state ≡ []) × (player.new.pins ≡ [])) (λ n. scans_of (chip_of bench.old) player.old.pins bench.old.state ≡ record { number = n; bits = bits.new.items; state = bench.new.state } ∷ scans_of (chip_of bench.old) player.new.pins bench.new.state)) }

@@ -5,13 +5,14 @@ use Rattle.ij_io.proofs.Adding.{whole_as}
 use Rattle.svf_notes.specs.Notes.{opcode_text, other_length, tdi_bits}
 use Rattle.svf_notes.proofs.instruction.put_instruction.Goals as goal
 
-pub returns-else-bits-from : goal.returns-else-bits-from
-returns-else-bits-from c =
+pub returns-else-count-ir : goal.returns-else-count-ir
+returns-else-count-ir c =
     let device = c.args.device.now in
-    let bits = c.args.bits.now in
+    let bits = c.args.bits.now.items in
     let register = codes "instruction register " in
     let other : (length bits == device.ir) ≡ false = grind (arith, nat_tests) in
-    let same : c.from-else-bits-from.result ≡ device.ir = grind (arith, nat_tests) in
+    let count : c.from-count.result ≡ length bits = grind (arith, nat_tests) in
+    let same : c.from-ir.result ≡ device.ir = grind (arith, nat_tests) in
     whole_as c.put_other_length.result (Some c.args.note.now) (Some c.put_other_length.new.note)
-    (ap (λ (n : ℕ). other_length register (length bits) n) same ∙ sym (ap (λ k. cond k (opcode_text device (tdi_bits bits)) (other_length register (length bits) device.ir)) other))
+    (ap (λ (n : ℕ). other_length register n c.from-ir.result) count ∙ ap (λ (n : ℕ). other_length register (length bits) n) same ∙ sym (ap (λ k. cond k (opcode_text device (tdi_bits bits)) (other_length register (length bits) device.ir)) other))
     c.put_other_length.ensures

@@ -10,6 +10,7 @@ invariant-loop-j l =
     let i = length l.path - l.j in
     record {
       end : l.end ≡ length (chain (take i l.path) l.holds);
-      within : l.end ≤ length l.bits;
-      rows : Adds (Some l.fn.note) (Some l.note) (note_text (rows l.net l.holds l.end (drop i l.path) (drop l.end l.bits)));
+      within : l.end ≤ length l.bits.items;
+      same : l.heads ≡ l.fn.heads;
+      rows : Adds (Some l.fn.note) (Some l.note) (note_text (rows l.fn.heads l.holds l.end (drop i l.path) (drop l.end l.bits.items)));
     }

@@ -1,7 +1,0 @@
-use Rattle.std.proofs.Common.{◌≡◌, drop}
-use Rattle.std.specs.List.{list_any}
-use Rattle.svf_notes.specs.Notes.{is_compared}
-use Rattle.svf_notes.proofs.digits.any_compared.Given as goal
-
-abbrev pub invariant-loop-bit : goal.invariant-loop-bit
-invariant-loop-bit l = list_any is_compared (drop l.bit-index l.bits) ≡ list_any is_compared l.bits
