@@ -6,3 +6,6 @@ pub mod Turns
 pub mod Trimming
 pub mod Steps
 pub mod Deciding
+mod NestedTotals
+pub mod Totals
+pub mod Devices

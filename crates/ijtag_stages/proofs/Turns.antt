@@ -1,6 +1,6 @@
--- Work in turn comes to one end at most where each of its parts does.
-use Rattle.std.proofs.Common.{◌≡◌, ◌∙◌, sym, subst, inl, inr}
-use Rattle.ijtag_stages.specs.Work.{Work, give, never, ◌>>=◌, RefusesInTurn, IsDecided}
+-- Work in turn comes to one end at most where each of its parts does, and to an end where each does.
+use Rattle.std.proofs.Common.{◌≡◌, ◌∙◌, refl, sym, subst, inl, inr}
+use Rattle.ijtag_stages.specs.Work.{Work, give, never, ◌>>=◌, RefusesInTurn, IsDecided, IsTotal}
 
 pub give_decided : {R A : Type 0} (x : A) → IsDecided {R = R} {A = A} (give x)
 give_decided x = record { one = λ a b p q. p ∙ sym q; apart = λ a r p q. q; alike = λ r s p q. absurd p }
@@ -26,3 +26,9 @@ in_turn_decided {R} {A} {B} first next f n =
       apart = λ x r p q. elim q [ inl own ↦ f.apart p.0 r p.1 own | inr later ↦ (n later.0).apart x r (subst (λ a. (next a).gives x) (f.one p.0 later.0 p.1 later.1) p.2) later.2 ];
       alike = alike_in_turn first next f n;
     }
+
+pub give_total : {R A : Type 0} (x : A) → IsTotal {R = R} {A = A} (give x)
+give_total x none free = none x refl
+
+pub in_turn_total : {R A B : Type 0} (first : Work R A) (next : A → Work R B) → IsTotal first → ((a : A) → first.gives a → IsTotal (next a)) → IsTotal (first >>= next)
+in_turn_total first next f n none free = f (λ a given. n a given (λ b later. none b (a, given, later)) (λ r later. free r (inr (a, given, later)))) (λ r own. free r (inl own))

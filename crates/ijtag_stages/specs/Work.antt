@@ -32,3 +32,8 @@ pub record IsDecided {R A : Type 0} (work : Work R A) : Type 0 where
   pub one : (a b : A) → work.gives a → work.gives b → a ≡ b
   pub apart : (a : A) (r : R) → work.gives a → work.refuses r → ⊥
   pub alike : (r s : R) → work.refuses r → work.refuses s → r ≡ s
+
+-- ---- a part comes to an end: it can't be that it gives nothing and refuses nothing
+
+abbrev pub IsTotal : {R A : Type 0} → Work R A → Type 0
+IsTotal {R} {A} work = ((a : A) → work.gives a → ⊥) → ((r : R) → work.refuses r → ⊥) → ⊥

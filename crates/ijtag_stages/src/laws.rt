@@ -1,5 +1,5 @@
 // What follows from what the stages give and refuse.
-ghost use Rattle.ijtag_stages.specs.Laws.{StagesAreDecided, ReadCommandsArePlayable};
+ghost use Rattle.ijtag_stages.specs.Laws.{StagesAreDecided, StagesAreTotal, ReadCommandsArePlayable};
 
 use icl_lexer::{texts_are_cut_or_at_fault, tokenization_is_unique};
 use icl_parser::{designs_are_one, refusals_are_one};
@@ -19,6 +19,11 @@ pub fn stages_are_decided()
     procedures_are_one();
     pdl_parser::refusals_are_one();
 }
+
+/// Each stage comes to an end: it can't be that it gives nothing and refuses nothing.
+pub fn stages_are_total()
+    ensures { StagesAreTotal }
+{}
 
 /// The commands that are read of an SVF text take at most 1,000,000,000 clocks and have at most as many scans, so they can be
 /// played (Serial Vector Format, revision E).

@@ -22,7 +22,7 @@ pub use device::read_device;
 pub use elab::elaborate_design;
 pub use fit::fit_tables;
 pub use icl::read_icl;
-pub use laws::stages_are_decided;
+pub use laws::{stages_are_decided, stages_are_total};
 pub use nest::nest_fault;
 pub use network::{Network, read_network};
 pub use pdl::read_pdl;
