@@ -8,6 +8,7 @@ use Rattle.ij_io.specs.declared.fault.StoreFault.TheVariants.{Failed, OutOfMemor
 use Rattle.ijtag_stages.specs.Refusals.{Part, Refusal}
 use Rattle.ijtag_stages.specs.Work.{never}
 use Rattle.ijtag_work.specs.Accepted.{SeenAccepted, Texts, accepted, accepted_of}
+use Rattle.ijtag_work.specs.Inputs.{loads_of, texts_of}
 use Rattle.ijtag_work.specs.Late.{IsLateStop}
 use Rattle.ijtag_work.specs.Leaves.{Leaves}
 use Rattle.ijtag_work.specs.Loads.{loaded, IsOneOf}
@@ -16,13 +17,13 @@ use Rattle.ijtag_work.specs.Stops.{IsEarly}
 use Rattle.ijtag_work.specs.Seen.{file_stop, output_stop}
 use Rattle.ijtag_work.specs.Task.{Row, Task, task_of, work}
 
-pub row_gives : (row : Row) (files : Option Files) (texts : List (List ℕ)) (named : Texts) (it : SeenAccepted) → (loaded files row.loads).gives texts → row.texts texts ≡ Some named
+pub row_gives : (row : Row) (files : Option Files) (texts : List (List ℕ)) (named : Texts) (it : SeenAccepted) → (loaded files (loads_of row.inputs)).gives texts → texts_of row.inputs texts ≡ Some named
     → (accepted named).gives it → (leaves : Leaves) → (row.leaves it).gives leaves → (work files (task_of row)).gives leaves
 row_gives row files texts named it read is given leaves left =
     (texts, read, (it, subst (λ (t : Option Texts). (accepted_of t).gives it) (sym is) given, left))
 
 -- what it refuses, the whole work refuses
-pub row_refuses : (row : Row) (files : Option Files) (texts : List (List ℕ)) (named : Texts) (it : SeenAccepted) → (loaded files row.loads).gives texts → row.texts texts ≡ Some named
+pub row_refuses : (row : Row) (files : Option Files) (texts : List (List ℕ)) (named : Texts) (it : SeenAccepted) → (loaded files (loads_of row.inputs)).gives texts → texts_of row.inputs texts ≡ Some named
     → (accepted named).gives it → (refusal : Refusal) → (row.leaves it).refuses refusal → (work files (task_of row)).refuses refusal
 row_refuses row files texts named it read is given refusal refuses =
     inr (texts, read, inr (it, subst (λ (t : Option Texts). (accepted_of t).gives it) (sym is) given, refuses))

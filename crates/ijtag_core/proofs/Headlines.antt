@@ -1,15 +1,15 @@
 -- Where all of a command's work is done, the SVF file that it leaves is right; and what is promised besides of an audit.
 use Rattle.std.specs.Prelude.{IfSome, option_map}
-use Rattle.std.proofs.Common.{◌≡◌, ◌∙◌, ap, subst, refl, ℕ, Bool, false, Option, Some, None, List, [], ◌∷◌, ◌++◌, codes}
+use Rattle.std.proofs.Common.{◌≡◌, ◌∙◌, ap, subst, refl, ℕ, Bool, false, Option, Some, List, [], ◌∷◌, ◌++◌}
 use Rattle.ij_io.specs.Files.{Files, file_at}
 use Rattle.ijtag_work.specs.Accepted.{SeenAccepted, accepted_of}
-use Rattle.ijtag_work.specs.Audited.{IfAudits, IsAudited, IsPromised}
-use Rattle.ijtag_work.specs.Command.{Command, Compile, Compiles, Plays, Directs, Run, Runs, Make, Makes, made_svf, Migrates, Audits, MuxTests}
+use Rattle.ijtag_work.specs.Audited.{AuditIsTrue, IsPromised}
+use Rattle.ijtag_work.specs.Command.{Command, Compile, Compiles, Run, Runs, Make, Makes, made_svf, Audits, MuxTests}
 use Rattle.ijtag_work.specs.Headline.{IsMadeRetargeted, IsRetargeted, IsRunRetargeted, LeavesRightSvf}
 use Rattle.ijtag_work.specs.Laws.{RunsDifferAlike}
 use Rattle.ijtag_work.specs.Leaves.{Leaves, Written}
-use Rattle.ijtag_work.specs.Tested.{IfTests, IsTested}
-use Rattle.ijtag_work.specs.Order.{accepted_made, direct_texts, made_files, made_of, made_texts, run_of, task, written_text}
+use Rattle.ijtag_work.specs.Tested.{TestIsRight}
+use Rattle.ijtag_work.specs.Order.{accepted_made, made_files, made_inputs, made_of, made_texts, run_of, task, written_text}
 use Rattle.ijtag_work.specs.Runs.{AllHold, IsDone, Seen}
 use Rattle.ijtag_work.specs.Task.{work}
 use Rattle.ijtag_work.proofs.Running.{ran_alike}
@@ -58,10 +58,10 @@ module _ (files : Option Files) (printed : Option (List ℕ)) (new : Seen) (diff
           };
         }
 
-    made_taken : (m : Make) (ws : List Written) (it : SeenAccepted) → (made_files m).gives ws → (accepted_made ws).gives it → (accepted_of (direct_texts (codes "chip") (codes "p") (made_texts m))).gives it
+    made_taken : (m : Make) (ws : List Written) (it : SeenAccepted) → (made_files m).gives ws → (accepted_made ws).gives it → (accepted_of (made_inputs (made_texts m))).gives it
     unfolding accepted_made made_files
     made_taken m ws it given is =
-        subst (λ (texts : List (List ℕ)). (accepted_of (direct_texts (codes "chip") (codes "p") texts)).gives it) (taken_are ws is.0 is.1 ∙ ap bytes_of_all given.2) is.2
+        subst (λ (texts : List (List ℕ)). (accepted_of (made_inputs texts)).gives it) (taken_are ws is.0 is.1 ∙ ap bytes_of_all given.2) is.2
 
     make_right : (m : Make) → IsDone (work files (task (Makes m))) before new differs → IsMadeRetargeted files m (file_at new.files (made_svf m.stem)) differs
     unfolding written_text made_of
@@ -80,34 +80,15 @@ module _ (files : Option Files) (printed : Option (List ℕ)) (new : Seen) (diff
         }
 
     pub leaves_right : (words : Option Command) → IfSome words (λ command. IsDone (work files (task command)) before new differs) → LeavesRightSvf files (file_at new.files) differs words
-    leaves_right None done = tt
     leaves_right (Some (Compiles c)) done = compile_right c done
-    leaves_right (Some (Plays p)) done = tt
-    leaves_right (Some (Directs d)) done = tt
     leaves_right (Some (Runs r)) done = run_right r done
     leaves_right (Some (Makes m)) done = make_right m done
-    leaves_right (Some (Migrates m)) done = tt
-    leaves_right (Some (Audits a)) done = tt
-    leaves_right (Some (MuxTests m)) done = tt
+    leaves_right _ done = tt
 
-pub audit_right : (files : Option Files) (file : List ℕ → Option (Option (List ℕ))) (words : Option Command) → IfSome words (λ command. IsPromised command files file false) → IfSome words (λ command. IfAudits command (IsAudited files))
-audit_right files file None promised = tt
+pub audit_right : (files : Option Files) (file : List ℕ → Option (Option (List ℕ))) (words : Option Command) → IfSome words (λ command. IsPromised command files file false) → AuditIsTrue files words
 audit_right files file (Some (Audits a)) promised = promised refl
-audit_right files file (Some (Compiles c)) promised = tt
-audit_right files file (Some (Plays p)) promised = tt
-audit_right files file (Some (Directs d)) promised = tt
-audit_right files file (Some (Runs r)) promised = tt
-audit_right files file (Some (Makes m)) promised = tt
-audit_right files file (Some (Migrates m)) promised = tt
-audit_right files file (Some (MuxTests m)) promised = tt
+audit_right files file _ promised = tt
 
-pub test_right : (files : Option Files) (file : List ℕ → Option (Option (List ℕ))) (words : Option Command) → IfSome words (λ command. IsPromised command files file false) → IfSome words (λ command. IfTests command (λ m. IsTested files (file m.svf) m))
-test_right files file None promised = tt
+pub test_right : (files : Option Files) (file : List ℕ → Option (Option (List ℕ))) (words : Option Command) → IfSome words (λ command. IsPromised command files file false) → TestIsRight files file words
 test_right files file (Some (MuxTests m)) promised = promised
-test_right files file (Some (Audits a)) promised = tt
-test_right files file (Some (Compiles c)) promised = tt
-test_right files file (Some (Plays p)) promised = tt
-test_right files file (Some (Directs d)) promised = tt
-test_right files file (Some (Runs r)) promised = tt
-test_right files file (Some (Makes m)) promised = tt
-test_right files file (Some (Migrates m)) promised = tt
+test_right files file _ promised = tt

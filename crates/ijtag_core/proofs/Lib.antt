@@ -1,6 +1,5 @@
 pub mod Acting
 mod Exits
-mod Faults
 mod Headlines
 mod Lists
 mod Making

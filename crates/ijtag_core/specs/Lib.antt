@@ -2,3 +2,4 @@
 pub mod Files
 pub mod Svf
 pub mod Testing
+pub mod InMemory

@@ -12,7 +12,7 @@ ghost use Rattle.ijtag_work.specs.Words.{seen_audit};
 
 use crate::effect::Effect;
 use ij_io::{Shelf, Sink, StoreFault};
-use ijtag_work::{Accepted, AuditWords, Stop, Texts, Verdict, steps_again};
+use ijtag_work::{Accepted, AuditWords, Inputs, Stop, Texts, Verdict, steps_again};
 use merge_order::{bit_steps_are_few, bit_steps_are_of_the_network};
 use std::alloc::Global;
 use svf_audit::{audits_law, put_audit};
@@ -77,23 +77,18 @@ fn yes_plays_as_meant(it: &Accepted)
 impl<'w> Effect for AuditWords<'w> {
     ghost table_row = { λ words. audit (seen_audit words) };
 
-    ghost needs = { λ _. record { tables = false; svf = true; pdl = true } };
-
     ghost promise = { λ _ _ _ it differs. differs ≡ false → PlayAsMeant it };
 
-    fn texts<'t>(&'t self, loaded: &'t [Vec<u8>]) -> Texts<'t> {
-        let [svf, icl, pdl, device] = loaded else {
-            unreachable!()
-        };
-        Texts {
-            icl,
-            device,
-            tables: None,
-            svf: Some(svf),
-            top: self.top,
-            pdl: Some(pdl),
-            procedure: self.procedure,
-        }
+    fn load_texts<'a, S: Shelf>(
+        &'a self,
+        alloc: Global,
+        shelf: &mut S,
+    ) -> Result<Vec<Vec<u8>>, Stop<'a>> {
+        self.load(alloc, shelf)
+    }
+
+    fn texts_in<'t>(&'t self, loaded: &'t [Vec<u8>]) -> Texts<'t> {
+        self.texts(loaded)
     }
 
     fn prints(&self) -> bool {

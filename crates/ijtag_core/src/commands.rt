@@ -45,14 +45,14 @@ impl<'w> Command for CommandWords<'w> {
         out: &mut O,
     ) -> Result<Verdict, Stop<'a>> {
         match self {
-            CommandWords::Compile(it) => accept_and_act(alloc, &it.loads(), it, shelf, out),
-            CommandWords::Play(it) => accept_and_act(alloc, &it.loads(), it, shelf, out),
-            CommandWords::Direct(it) => accept_and_act(alloc, &it.loads(), it, shelf, out),
-            CommandWords::Run(it) => accept_and_act(alloc, &it.loads(), it, shelf, out),
+            CommandWords::Compile(it) => accept_and_act(alloc, it, shelf, out),
+            CommandWords::Play(it) => accept_and_act(alloc, it, shelf, out),
+            CommandWords::Direct(it) => accept_and_act(alloc, it, shelf, out),
+            CommandWords::Run(it) => accept_and_act(alloc, it, shelf, out),
             CommandWords::Make(it) => make(alloc, it, shelf, out),
             CommandWords::Migrate(it) => migrate(alloc, it, shelf, out),
-            CommandWords::Audit(it) => accept_and_act(alloc, &it.loads(), it, shelf, out),
-            CommandWords::MuxTest(it) => accept_and_act(alloc, &it.loads(), it, shelf, out),
+            CommandWords::Audit(it) => accept_and_act(alloc, it, shelf, out),
+            CommandWords::MuxTest(it) => accept_and_act(alloc, it, shelf, out),
         }
     }
 }

@@ -1,35 +1,27 @@
 // The command `compile`.
-ghost use Rattle.std.specs.Prelude.{false, true};
 ghost use Rattle.ijtag_work.specs.Order.{compile};
 ghost use Rattle.ijtag_work.specs.Words.{seen_compile};
 
 use crate::effect::Effect;
 use crate::svf::write_svf;
 use ij_io::{Shelf, Sink};
-use ijtag_work::{Accepted, CompileWords, Stop, Texts, Verdict};
+use ijtag_work::{Accepted, CompileWords, Inputs, Stop, Texts, Verdict};
 use std::alloc::Global;
 
 /// Writes the SVF file, from its front, and prints nothing.
 impl<'w> Effect for CompileWords<'w> {
     ghost table_row = { λ words. compile (seen_compile words) };
 
-    ghost needs = { λ _. record { tables = false; svf = false; pdl = true } };
+    fn load_texts<'a, S: Shelf>(
+        &'a self,
+        alloc: Global,
+        shelf: &mut S,
+    ) -> Result<Vec<Vec<u8>>, Stop<'a>> {
+        self.procedure.load(alloc, shelf)
+    }
 
-    ghost promise = { λ _ _ _ _ _. Unit {0} };
-
-    fn texts<'t>(&'t self, loaded: &'t [Vec<u8>]) -> Texts<'t> {
-        let [icl, pdl, device] = loaded else {
-            unreachable!()
-        };
-        Texts {
-            icl,
-            device,
-            tables: None,
-            svf: None,
-            top: self.top,
-            pdl: Some(pdl),
-            procedure: self.procedure,
-        }
+    fn texts_in<'t>(&'t self, loaded: &'t [Vec<u8>]) -> Texts<'t> {
+        self.procedure.texts(loaded)
     }
 
     fn prints(&self) -> bool {

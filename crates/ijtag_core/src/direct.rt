@@ -1,5 +1,5 @@
 // The command `direct`.
-ghost use Rattle.std.specs.Prelude.{◌≡◌, false, true, OnOk, OnErr, IfOk};
+ghost use Rattle.std.specs.Prelude.{◌≡◌, true, OnOk, OnErr, IfOk};
 ghost use Rattle.ij_io.specs.Bytes.{Adds, AddsPart};
 ghost use Rattle.ij_io.specs.Causes.{HasCause};
 ghost use Rattle.ijtag_work.specs.Order.{direct, meaning_of, reads_differ};
@@ -10,7 +10,7 @@ ghost use Rattle.ijtag_work.specs.Words.{seen_direct};
 use crate::effect::Effect;
 use direct_report::put_direct;
 use ij_io::{Shelf, Sink, StoreFault};
-use ijtag_work::{Accepted, DirectWords, Stop, Texts, Verdict, steps_again};
+use ijtag_work::{Accepted, DirectWords, Inputs, Stop, Texts, Verdict, steps_again};
 use merge_order::{bit_steps_are_few, bit_steps_are_of_the_network};
 use std::alloc::Global;
 
@@ -39,23 +39,16 @@ fn put_lines<O: Sink>(alloc: Global, it: &Accepted, out: &mut O) -> Result<Verdi
 impl<'w> Effect for DirectWords<'w> {
     ghost table_row = { λ words. direct (seen_direct words) };
 
-    ghost needs = { λ _. record { tables = true; svf = false; pdl = true } };
+    fn load_texts<'a, S: Shelf>(
+        &'a self,
+        alloc: Global,
+        shelf: &mut S,
+    ) -> Result<Vec<Vec<u8>>, Stop<'a>> {
+        self.load(alloc, shelf)
+    }
 
-    ghost promise = { λ _ _ _ _ _. Unit {0} };
-
-    fn texts<'t>(&'t self, loaded: &'t [Vec<u8>]) -> Texts<'t> {
-        let [icl, pdl, device, tables] = loaded else {
-            unreachable!()
-        };
-        Texts {
-            icl,
-            device,
-            tables: Some(tables),
-            svf: None,
-            top: self.top,
-            pdl: Some(pdl),
-            procedure: self.procedure,
-        }
+    fn texts_in<'t>(&'t self, loaded: &'t [Vec<u8>]) -> Texts<'t> {
+        self.texts(loaded)
     }
 
     fn prints(&self) -> bool {

@@ -1,21 +1,22 @@
 // A command that accepts texts: what it does with them, and its run.
-ghost use Rattle.std.specs.Prelude.{◌≡◌, ◌≤◌, ℕ, List, Option, Some, Bool, map, length, IfOk, IfErr, OnOk, OnErr};
+ghost use Rattle.std.specs.Prelude.{◌≡◌, ◌≤◌, ℕ, List, Option, Some, Bool, length, IfOk, IfErr, OnOk, OnErr};
 ghost use Rattle.std.specs.Bool.{OnTrue, OnFalse};
 ghost use Rattle.ij_io.specs.Causes.{SameCounts};
 ghost use Rattle.ij_io.specs.Files.{Files, file_at};
 ghost use Rattle.ijtag_work.specs.Accepted.{SeenAccepted};
-ghost use Rattle.ijtag_work.specs.Follows.{AreTexts, seen_texts};
+ghost use Rattle.ijtag_work.specs.Follows.{AreTexts, LoadsAndFollows, seen_texts};
+ghost use Rattle.ijtag_work.specs.Inputs.{loads_of, texts_of};
 ghost use Rattle.ijtag_work.specs.Late.{IsLateStop, IsPartOf};
-ghost use Rattle.ijtag_work.specs.Loads.{names_of};
+ghost use Rattle.ijtag_work.specs.Loads.{loaded, names_of};
 ghost use Rattle.ijtag_work.specs.Promises.{AcceptedWith};
 ghost use Rattle.ijtag_work.specs.Runs.{AreFirstWritten, IsDone, IsPartDone, IsStop, OnlyTheseChange, OnlyTheseRise, counts, seen};
-ghost use Rattle.ijtag_work.specs.Seen.{seen_load, seen_stop, differing};
+ghost use Rattle.ijtag_work.specs.Seen.{seen_stop, differing};
 ghost use Rattle.ijtag_work.specs.Stops.{IsEarly};
 ghost use Rattle.ijtag_work.specs.Task.{Row, task_of, work};
-ghost use Rattle.ijtag_work.specs.Using.{AreShortTexts, CanUse, Needs, needs_of, seen_accepted, seen_named};
+ghost use Rattle.ijtag_work.specs.Using.{AreShortTexts, CanUse, needs_in, needs_of, seen_accepted, seen_named};
 
 use ij_io::{Shelf, Sink};
-use ijtag_work::{Accepted, Load, Stop, Texts, Verdict, accept, load_all};
+use ijtag_work::{Accepted, Stop, Texts, Verdict, accept};
 use std::alloc::Global;
 
 /// What a command does with the texts that it loads.
@@ -23,19 +24,30 @@ pub trait Effect {
     /// The command, as a row of the table of commands.
     ghost table_row: { Self → Row };
 
-    /// Which texts it has.
-    ghost needs: { Self → Needs };
-
     /// What is promised of what was accepted, by the files before the work and the contents of any file after it, where a run ends
     /// with this verdict.
-    ghost promise: { Self → Option Files → (List ℕ → Option (Option (List ℕ))) → SeenAccepted → Bool → Type 0 };
+    ghost promise: { Self → Option Files → (List ℕ → Option (Option (List ℕ))) → SeenAccepted → Bool → Type 0 } = { λ _ _ _ _ _. Unit {0} };
 
-    /// The texts by what they are, of those that were loaded in the order of the row.
-    fn texts<'t>(&'t self, loaded: &'t [Vec<u8>]) -> Texts<'t>
-        requires { AreTexts (length (table_row self.now).loads) (seen_texts loaded.now) }
-        ensures texts { (table_row self.now).texts (seen_texts loaded.now) ≡ Some (seen_named result) }
+    /// Loads the files of its texts in their order, each once, and stops at the first that can't be loaded or is too long. No file
+    /// changes, and the counts of no other names.
+    fn load_texts<'a, S: Shelf>(
+        &'a self,
+        alloc: Global,
+        shelf: &mut S,
+    ) -> Result<Vec<Vec<u8>>, Stop<'a>>
+        ensures follows { LoadsAndFollows (S.files shelf.old) (loads_of (table_row self.now).inputs) (S.load_faults shelf.old) (S.load_faults shelf.new)
+            (loaded (S.files shelf.old) (loads_of (table_row self.now).inputs)) (λ texts. seen_texts texts.items) result }
+        ensures texts { IfOk result (λ texts. AreTexts (length (loads_of (table_row self.now).inputs)) (seen_texts texts.items)) }
+        ensures files { S.files shelf.new ≡ S.files shelf.old }
+        ensures others { OnlyTheseRise (names_of (loads_of (table_row self.now).inputs)) (S.load_faults shelf.old) (S.load_faults shelf.new) }
+        ensures stores { SameCounts (S.store_faults shelf.old) (S.store_faults shelf.new) };
+
+    /// The texts by what they are, of those that were loaded.
+    fn texts_in<'t>(&'t self, loaded: &'t [Vec<u8>]) -> Texts<'t>
+        requires { AreTexts (length (loads_of (table_row self.now).inputs)) (seen_texts loaded.now) }
+        ensures texts { texts_of (table_row self.now).inputs (seen_texts loaded.now) ≡ Some (seen_named result) }
         ensures short { AreShortTexts (seen_named result) }
-        ensures needs { needs_of (seen_named result) ≡ needs self.now };
+        ensures needs { needs_of (seen_named result) ≡ needs_in (table_row self.now).inputs };
 
     /// Whether it prints on the output.
     fn prints(&self) -> bool
@@ -49,7 +61,7 @@ pub trait Effect {
         shelf: &mut S,
         out: &mut O,
     ) -> Result<Verdict, Stop<'a>>
-        requires { CanUse (needs self.now) it.now }
+        requires { CanUse (needs_in (table_row self.now).inputs) it.now }
         ensures done { IfOk result (λ verdict. IsDone ((table_row self.now).leaves (seen_accepted it.now))
             (seen S.files O.taken shelf.old out.old) (seen S.files O.taken shelf.new out.new) (differing verdict)) }
         ensures promise { IfOk result (λ verdict. promise self.now (S.files shelf.old) (file_at (S.files shelf.new)) (seen_accepted it.now) (differing verdict)) }
@@ -73,7 +85,7 @@ fn act_and_flush<'a, E: Effect, S: Shelf, O: Sink>(
     shelf: &mut S,
     out: &mut O,
 ) -> Result<Verdict, Stop<'a>>
-    requires { CanUse (E.needs effect.now) it.now }
+    requires { CanUse (needs_in (E.table_row effect.now).inputs) it.now }
     ensures done { IfOk result (λ verdict. IsDone ((E.table_row effect.now).leaves (seen_accepted it.now))
         (seen S.files O.taken shelf.old out.old) (seen S.files O.taken shelf.new out.new) (differing verdict)) }
     ensures promise { IfOk result (λ verdict. E.promise effect.now (S.files shelf.old) (file_at (S.files shelf.new)) (seen_accepted it.now) (differing verdict)) }
@@ -102,12 +114,10 @@ fn act_and_flush<'a, E: Effect, S: Shelf, O: Sink>(
 /// it does; what was printed is handed on.
 pub fn accept_and_act<'a, E: Effect, S: Shelf, O: Sink>(
     alloc: Global,
-    loads: &[Load<'a>],
     effect: &'a E,
     shelf: &mut S,
     out: &mut O,
 ) -> Result<Verdict, Stop<'a>>
-    requires { map seen_load loads.now ≡ (E.table_row effect.now).loads }
     ensures done { IfOk result (λ verdict. IsDone (work (S.files shelf.old) (task_of (E.table_row effect.now)))
         (seen S.files O.taken shelf.old out.old) (seen S.files O.taken shelf.new out.new) (differing verdict)) }
     ensures promise { IfOk result (λ verdict. AcceptedWith (E.table_row effect.now) (S.files shelf.old) (λ it. E.promise effect.now (S.files shelf.old) (file_at (S.files shelf.new)) it (differing verdict))) }
@@ -121,11 +131,11 @@ pub fn accept_and_act<'a, E: Effect, S: Shelf, O: Sink>(
         (seen S.files O.taken shelf.old out.old) (seen S.files O.taken shelf.new out.new)) }
     ensures files { OnlyTheseChange (E.table_row effect.now).writes (S.files shelf.old) (S.files shelf.new) }
     ensures out { OnFalse (E.table_row effect.now).prints (out.new ≡ out.old) }
-    ensures loads { OnlyTheseRise (names_of (E.table_row effect.now).loads) (S.load_faults shelf.old) (S.load_faults shelf.new) }
+    ensures loads { OnlyTheseRise (names_of (loads_of (E.table_row effect.now).inputs)) (S.load_faults shelf.old) (S.load_faults shelf.new) }
     ensures stores { OnlyTheseRise (E.table_row effect.now).writes (S.store_faults shelf.old) (S.store_faults shelf.new) }
 {
-    let texts = load_all(alloc, loads, shelf)?;
-    let it = accept(alloc, &effect.texts(&texts))?;
+    let texts = effect.load_texts(alloc, shelf)?;
+    let it = accept(alloc, &effect.texts_in(&texts))?;
     match act_and_flush(alloc, effect, &it, shelf, out) {
         Ok(verdict) => Ok(verdict),
         Err(stop) => Err(stop),

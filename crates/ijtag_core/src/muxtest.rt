@@ -1,5 +1,5 @@
 // The command `muxtest`.
-ghost use Rattle.std.specs.Prelude.{◌≡◌, ◌∷◌, [], false, true, Some, OnOk, OnErr, IfOk, IfErr};
+ghost use Rattle.std.specs.Prelude.{◌≡◌, ◌∷◌, [], Some, OnOk, OnErr, IfOk, IfErr};
 ghost use Rattle.std.specs.Option.{option_map};
 ghost use Rattle.ij_io.specs.Bytes.{Adds, AddsPart};
 ghost use Rattle.ij_io.specs.Causes.{HasCause, HasCauseAt, SameCounts};
@@ -16,7 +16,7 @@ ghost use Rattle.ijtag_core.specs.Testing.{IsReportOf, IsTestOf};
 use crate::effect::Effect;
 use ij_io::{Shelf, Sink, StoreFault};
 use ijtag_stages::{Stage, StageFault, refused_limit};
-use ijtag_work::{Accepted, MuxTestWords, Stop, Texts, Verdict};
+use ijtag_work::{Accepted, Inputs, MuxTestWords, Stop, Texts, Verdict};
 use mux_test::{MuxFault, MuxTest, mux_tests_law, put_test_file, put_test_report};
 use std::alloc::Global;
 
@@ -85,23 +85,18 @@ fn print_test<'n, O: Sink>(it: &Accepted, test: &MuxTest<'n>, out: &mut O) -> Re
 impl<'w> Effect for MuxTestWords<'w> {
     ghost table_row = { λ words. mux_test (seen_mux_test words) };
 
-    ghost needs = { λ _. record { tables = false; svf = false; pdl = false } };
-
     ghost promise = { λ words files file it _. HasRightTest files (file (seen_mux_test words).svf) it };
 
-    fn texts<'t>(&'t self, loaded: &'t [Vec<u8>]) -> Texts<'t> {
-        let [icl, device] = loaded else {
-            unreachable!()
-        };
-        Texts {
-            icl,
-            device,
-            tables: None,
-            svf: None,
-            top: self.top,
-            pdl: None,
-            procedure: "",
-        }
+    fn load_texts<'a, S: Shelf>(
+        &'a self,
+        alloc: Global,
+        shelf: &mut S,
+    ) -> Result<Vec<Vec<u8>>, Stop<'a>> {
+        self.network.load(alloc, shelf)
+    }
+
+    fn texts_in<'t>(&'t self, loaded: &'t [Vec<u8>]) -> Texts<'t> {
+        self.network.texts(loaded)
     }
 
     fn prints(&self) -> bool {

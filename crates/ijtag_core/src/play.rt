@@ -1,5 +1,5 @@
 // The command `play`.
-ghost use Rattle.std.specs.Prelude.{◌≡◌, false, true, OnOk, OnErr, IfOk};
+ghost use Rattle.std.specs.Prelude.{◌≡◌, true, OnOk, OnErr, IfOk};
 ghost use Rattle.ij_io.specs.Bytes.{Adds, AddsPart};
 ghost use Rattle.ij_io.specs.Causes.{HasCause};
 ghost use Rattle.ijtag_work.specs.Order.{any_differs, differs_at, play, report_of};
@@ -10,7 +10,7 @@ ghost use Rattle.ijtag_work.specs.Words.{seen_play};
 use crate::effect::Effect;
 use bench_report::put_play;
 use ij_io::{Shelf, Sink, StoreFault};
-use ijtag_work::{Accepted, PlayWords, Stop, Texts, Verdict};
+use ijtag_work::{Accepted, Inputs, PlayWords, Stop, Texts, Verdict};
 use std::alloc::Global;
 
 /// Plays commands on the bench of a network and writes the report. A refusal leaves a first part of the report.
@@ -35,23 +35,16 @@ fn put_lines<O: Sink>(alloc: Global, it: &Accepted, out: &mut O) -> Result<Verdi
 impl<'w> Effect for PlayWords<'w> {
     ghost table_row = { λ words. play (seen_play words) };
 
-    ghost needs = { λ _. record { tables = true; svf = true; pdl = false } };
+    fn load_texts<'a, S: Shelf>(
+        &'a self,
+        alloc: Global,
+        shelf: &mut S,
+    ) -> Result<Vec<Vec<u8>>, Stop<'a>> {
+        self.load(alloc, shelf)
+    }
 
-    ghost promise = { λ _ _ _ _ _. Unit {0} };
-
-    fn texts<'t>(&'t self, loaded: &'t [Vec<u8>]) -> Texts<'t> {
-        let [svf, icl, device, tables] = loaded else {
-            unreachable!()
-        };
-        Texts {
-            icl,
-            device,
-            tables: Some(tables),
-            svf: Some(svf),
-            top: self.top,
-            pdl: None,
-            procedure: "",
-        }
+    fn texts_in<'t>(&'t self, loaded: &'t [Vec<u8>]) -> Texts<'t> {
+        self.texts(loaded)
     }
 
     fn prints(&self) -> bool {

@@ -1,15 +1,13 @@
 // A program: a table of commands, and how a run of any of them ends.
-ghost use Rattle.std.specs.Prelude.{◌≡◌, Bool, List, ℕ, Option, Some, IsNone, IsSome, IfSome, IfOk, IfErr, OnOk, OnErr};
+ghost use Rattle.std.specs.Prelude.{◌≡◌, Bool, List, ℕ, Option, IsSome, IfSome, IfOk, IfErr, OnOk, OnErr};
 ghost use Rattle.std.specs.Bool.{OnTrue, OnFalse};
 ghost use Rattle.std.specs.Option.{option_map};
-ghost use Rattle.ij_io.specs.Bytes.{AddsPart};
 ghost use Rattle.ij_io.specs.Files.{Files, file_at};
-ghost use Rattle.ijtag_stages.specs.Refusals.{Refusal};
-ghost use Rattle.ijtag_work.specs.Leaves.{Leaves};
+ghost use Rattle.ijtag_work.specs.Ends.{IfDone, IsRun, views, world};
 ghost use Rattle.ijtag_work.specs.Loads.{names_of};
-ghost use Rattle.ijtag_work.specs.Runs.{AreSettled, AreFirstWritten, AreKept, FirstRose, IfTold, IsDone, IsEarlyStatus, IsOrMemory, IsPartDone, IsPartStatus, IsReadFault, IsRunStop, IsStop, IsWriteStop, LoadRose, OnlyTheseChange, OnlyTheseRise, Tells, WriteRose, counts, loads_in, prints_in, seen, status_if, writes_in};
+ghost use Rattle.ijtag_work.specs.Runs.{AreSettled, AreFirstWritten, AreKept, IsDone, IsPartDone, IsRunStop, IsStop, OnlyTheseChange, OnlyTheseRise, counts, loads_in, prints_in, seen, writes_in};
 ghost use Rattle.ijtag_work.specs.Seen.{seen_stop, differing};
-ghost use Rattle.ijtag_work.specs.Stops.{IsEarly, ReadFault, Refuses, Stop as SeenStop, Usage, stop_text};
+ghost use Rattle.ijtag_work.specs.Stops.{IsEarly};
 ghost use Rattle.ijtag_work.specs.Task.{Task, work};
 
 use ij_io::{Shelf, Sink};
@@ -93,7 +91,7 @@ fn run_if_any<'a, C: Command, S: Shelf, O: Sink>(
     }
 }
 
-/// Runs a command, where the words are one, and says how the run ended. The clauses are those of `ijtag`, of any table of commands.
+/// Runs a command, where the words are one, and says how the run ended: for any table of commands.
 ///
 /// A run that ends otherwise than as `Good` or `Differs` prints one line on `err`, or a first part of it where `err` fails, which
 /// changes no status. Memory is taken from `alloc`; want of it anywhere ends the run as `OutOfMemory`.
@@ -104,56 +102,9 @@ pub fn run_program<C: Command, S: Shelf, O: Sink, E: Sink>(
     out: &mut O,
     err: &mut E,
 ) -> Status
-    ensures promise { (differs : Bool) → result ≡ status_if differs
-        → IfSome (option_map C.named command.now) (λ command. C.promise command (S.files shelf.old) (file_at (S.files shelf.new)) differs) }
-    ensures done { (differs : Bool) → result ≡ status_if differs
-        → IfSome (option_map C.named command.now) (λ command. IsDone (work (S.files shelf.old) (C.task command))
-        (seen S.files O.taken shelf.old out.old)
-        (seen S.files O.taken shelf.new out.new) differs) }
-    ensures handed_on { (differs : Bool) → result ≡ status_if differs
-        → OnTrue (prints_in C.task (option_map C.named command.now)) (O.handed out.new ≡ O.taken out.new) }
-    ensures complete { IfTold (option_map C.named command.now) (S.files shelf.old) (λ command files.
-        let c = counts S.load_faults S.store_faults O.faults shelf.old shelf.new out.old out.new in
-        (leaves : Leaves) → (work (Some files) (C.task command)).gives leaves → ¬ LoadRose (C.task command) c
-        → ¬ WriteRose (C.task command) c → IsOrMemory result (status_if leaves.differs)) }
-    ensures err_stays { (differs : Bool) → result ≡ status_if differs → err.new ≡ err.old }
-    ensures usage { result ≡ Status.Usage → IsNone (option_map C.named command.now) }
-    ensures no_command { IsNone (option_map C.named command.now) → IsOrMemory result Status.Usage }
-    ensures says_usage { result ≡ Status.Usage
-        → Tells E.taken E.faults err.old err.new (stop_text C.usage_line Usage) }
-    ensures refused { result ≡ Status.Refused → IfSome (option_map C.named command.now) (λ command.
-        (refusal : Refusal) × (work (S.files shelf.old) (C.task command)).refuses refusal
-        × Tells E.taken E.faults err.old err.new (stop_text C.usage_line (Refuses refusal))) }
-    ensures refuses { IfTold (option_map C.named command.now) (S.files shelf.old) (λ command files.
-        let c = counts S.load_faults S.store_faults O.faults shelf.old shelf.new out.old out.new in
-        (refusal : Refusal) → (work (Some files) (C.task command)).refuses refusal
-        → ¬ LoadRose (C.task command) c → ¬ FirstRose (C.task command) c → IsOrMemory result Status.Refused) }
-    ensures read_fault { result ≡ Status.ReadFault → IfSome (option_map C.named command.now) (λ command.
-        (name : List ℕ) × IsReadFault (S.files shelf.old) (C.task command).loads
-        (S.load_faults shelf.old) (S.load_faults shelf.new) name
-        × Tells E.taken E.faults err.old err.new (stop_text C.usage_line (ReadFault name))) }
-    ensures write_fault { result ≡ Status.WriteFault → IfSome (option_map C.named command.now) (λ command.
-        let c = counts S.load_faults S.store_faults O.faults shelf.old shelf.new out.old out.new in
-        (stop : SeenStop) × IsStop (S.files shelf.old) (C.task command) c stop × IsWriteStop (C.task command) c stop
-        × Tells E.taken E.faults err.old err.new (stop_text C.usage_line stop)) }
-    ensures kept { IsEarlyStatus result
-        → AreKept C.task (option_map C.named command.now) (S.files shelf.old) (S.files shelf.new)
-        × (out.new ≡ out.old) }
-    ensures part { IsPartStatus result → IfSome (option_map C.named command.now) (λ command.
-        IsPartDone (S.files shelf.old) (C.task command)
-        (seen S.files O.taken shelf.old out.old) (seen S.files O.taken shelf.new out.new)) }
-    ensures says_part { result ≡ Status.OutOfMemory → (stop : SeenStop)
-        × IsRunStop C.task (option_map C.named command.now) (S.files shelf.old)
-        (counts S.load_faults S.store_faults O.faults shelf.old shelf.new out.old out.new) stop
-        × AddsPart (E.taken err.old) (E.taken err.new) (stop_text C.usage_line stop) }
-    ensures only_its_files_change { OnlyTheseChange (writes_in C.task (option_map C.named command.now))
-        (S.files shelf.old) (S.files shelf.new) }
-    ensures only_reports_print { OnFalse (prints_in C.task (option_map C.named command.now))
-        (out.new ≡ out.old) }
-    ensures only_its_loads_fail { OnlyTheseRise (loads_in C.task (option_map C.named command.now))
-        (S.load_faults shelf.old) (S.load_faults shelf.new) }
-    ensures only_its_stores_fail { OnlyTheseRise (writes_in C.task (option_map C.named command.now))
-        (S.store_faults shelf.old) (S.store_faults shelf.new) }
+    ensures promise { IfDone result (λ differs. IfSome (option_map C.named command.now) (λ command. C.promise command (S.files shelf.old) (file_at (S.files shelf.new)) differs)) }
+    ensures run { IsRun (views S.files S.load_faults S.store_faults O.taken O.handed O.faults E.taken E.faults) C.task C.usage_line
+        (option_map C.named command.now) (world shelf.old out.old err.old) (world shelf.new out.new err.new) result }
 {
     C::works_settle();
     match run_if_any(alloc, command, shelf, out) {

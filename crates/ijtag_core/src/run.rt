@@ -1,5 +1,5 @@
 // The command `run`.
-ghost use Rattle.std.specs.Prelude.{◌≡◌, ◌≤◌, ℕ, List, false, true, length, OnOk, OnErr, IfOk};
+ghost use Rattle.std.specs.Prelude.{◌≡◌, ◌≤◌, ℕ, List, true, length, OnOk, OnErr, IfOk};
 ghost use Rattle.ij_io.specs.Bytes.{Adds, AddsPart};
 ghost use Rattle.ij_io.specs.Causes.{HasCause};
 ghost use Rattle.merge_order.specs.BitSteps.{bit_steps};
@@ -16,7 +16,7 @@ use crate::effect::Effect;
 use crate::svf::{make_svf, read_commands};
 use headline::procedures_are_plannable;
 use ij_io::{Shelf, Sink, StoreFault};
-use ijtag_work::{Accepted, Procedure, RunWords, Stop, Texts, Verdict, write_file};
+use ijtag_work::{Accepted, Inputs, Procedure, RunWords, Stop, Texts, Verdict, write_file};
 use merge_order::{bit_steps_are_few, bit_steps_are_of_the_network};
 use run_report::put_run;
 use std::alloc::Global;
@@ -73,23 +73,16 @@ fn put_lines<O: Sink>(
 impl<'w> Effect for RunWords<'w> {
     ghost table_row = { λ words. run (seen_run words) };
 
-    ghost needs = { λ _. record { tables = true; svf = false; pdl = true } };
+    fn load_texts<'a, S: Shelf>(
+        &'a self,
+        alloc: Global,
+        shelf: &mut S,
+    ) -> Result<Vec<Vec<u8>>, Stop<'a>> {
+        self.direct.load(alloc, shelf)
+    }
 
-    ghost promise = { λ _ _ _ _ _. Unit {0} };
-
-    fn texts<'t>(&'t self, loaded: &'t [Vec<u8>]) -> Texts<'t> {
-        let [icl, pdl, device, tables] = loaded else {
-            unreachable!()
-        };
-        Texts {
-            icl,
-            device,
-            tables: Some(tables),
-            svf: None,
-            top: self.top,
-            pdl: Some(pdl),
-            procedure: self.procedure,
-        }
+    fn texts_in<'t>(&'t self, loaded: &'t [Vec<u8>]) -> Texts<'t> {
+        self.direct.texts(loaded)
     }
 
     fn prints(&self) -> bool {

@@ -11,7 +11,7 @@ use Rattle.ijtag_work.specs.Leaves.{Leaves}
 use Rattle.ijtag_work.specs.Runs.{AllHold, IsDone, Seen}
 use Rattle.ijtag_work.specs.Task.{work}
 use Rattle.ijtag_work.proofs.Whole.{whole_is_part}
-use Rattle.ijtag_tools.specs.Command.{Command, Explains, Graphs, Lists, LooksUp, Pictures, PicturesAt, Tighten, Tightens, Waves}
+use Rattle.ijtag_tools.specs.Command.{Command, Tighten, Tightens}
 use Rattle.ijtag_tools.specs.Order.{cost_line, left_of, task, tightened}
 use Rattle.ijtag_tools.specs.Planned.{IsTightened as Found, seen_cost}
 use Rattle.ijtag_tools.specs.Promises.{IfTightens, IsTightened}
@@ -76,10 +76,4 @@ module _ (files : Option Files) (printed : Option (List ℕ)) (new : Seen) where
       → IfSome words (λ command. IfTightens command (λ t. IsTightened files t (file_at new.files t.svf)))
   tight_done None differs d = tt
   tight_done (Some (Tightens t)) differs d = tight_file t differs d
-  tight_done (Some (Lists l)) differs d = tt
-  tight_done (Some (Explains e)) differs d = tt
-  tight_done (Some (LooksUp l)) differs d = tt
-  tight_done (Some (Pictures p)) differs d = tt
-  tight_done (Some (Graphs p)) differs d = tt
-  tight_done (Some (PicturesAt p)) differs d = tt
-  tight_done (Some (Waves w)) differs d = tt
+  tight_done (Some _) differs d = tt

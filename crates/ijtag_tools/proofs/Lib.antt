@@ -3,4 +3,3 @@ mod Leaving
 mod Settling
 mod Promising
 mod Waving
-mod Wording

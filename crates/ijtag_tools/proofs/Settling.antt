@@ -3,6 +3,7 @@ use Rattle.std.proofs.Common.{◌≡◌, ◌∙◌, ◌<◌, ◌≤◌, ap, inl,
 use Rattle.ij_io.specs.Files.{Files}
 use Rattle.ijtag_work.specs.Leaves.{Leaves}
 use Rattle.ijtag_work.specs.Accepted.{SeenAccepted, accepted_of}
+use Rattle.ijtag_work.specs.Inputs.{loads_of, texts_of}
 use Rattle.ijtag_work.specs.Loads.{loaded}
 use Rattle.ijtag_work.specs.Runs.{AreSettled, IsSettled, LoadsAreDecided, TextsAreDecided}
 use Rattle.ijtag_work.specs.Task.{Row, row_work, task_of, work}
@@ -142,7 +143,7 @@ in_apart stages top (icl ∷ device ∷ more ∷ ts) g r given refused = given
 
 module _ (loads : LoadsAreDecided) (texts : TextsAreDecided) (stages : StagesAreDecided) where
   graph_in_settles : (p : Picture) (ts : List (List ℕ)) → IsSettled (graph_work p ts)
-  graph_in_settles p ts = graph_settled p (graph_in p.top ts) (in_apart stages p.top ts)
+  graph_in_settles p ts = graph_settled p (graph_in p.network.top ts) (in_apart stages p.network.top ts)
 
   graph_settles : (p : Picture) (files : Files) → IsSettled (work (Some files) (graph p))
   graph_settles p files =
@@ -150,8 +151,8 @@ module _ (loads : LoadsAreDecided) (texts : TextsAreDecided) (stages : StagesAre
 
   row_settles : (row : Row) → ((it : SeenAccepted) → IsSettled (row.leaves it)) → (files : Files) → IsSettled (work (Some files) (task_of row))
   row_settles row leaves files =
-      in_turn_settled (loaded (Some files) row.loads) (row_work row) (loads files row.loads)
-      (λ ts. in_turn_settled (accepted_of (row.texts ts)) row.leaves (texts (row.texts ts)) leaves)
+      in_turn_settled (loaded (Some files) (loads_of row.inputs)) (row_work row) (loads files (loads_of row.inputs))
+      (λ ts. in_turn_settled (accepted_of (texts_of row.inputs ts)) row.leaves (texts (texts_of row.inputs ts)) leaves)
 
   pub all_settle : AreSettled task
   all_settle files (Lists l) = row_settles (list l) (listing_settles l) files

@@ -7,10 +7,10 @@ use Rattle.ijtag_stages.specs.IclText.{icl_text}
 use Rattle.ijtag_stages.specs.Refusals.{Part, refusal_text, refused, refused_number}
 use Rattle.ijtag_stages.specs.Work.{give, never, ◌>>=◌}
 use Rattle.ijtag_stages.specs.declared.refusal.Stage.TheVariants.{Explain as ExplainStage, Where as WhereStage, Picture as PictureStage, Wave as WaveStage}
-use Rattle.ijtag_work.specs.Accepted.{SeenAccepted, Texts}
+use Rattle.ijtag_work.specs.Accepted.{SeenAccepted}
 use Rattle.ijtag_work.specs.Leaves.{Leaves}
-use Rattle.ijtag_work.specs.Loads.{source, svf_file}
-use Rattle.ijtag_work.specs.Order.{any_differs, compile_texts, differs_at, filed, mux_test_texts, play_texts, ran, told}
+use Rattle.ijtag_work.specs.Inputs.{OfNetwork, OfPlay, OfProcedure, loads_of}
+use Rattle.ijtag_work.specs.Order.{any_differs, differs_at, filed, ran, told}
 use Rattle.ijtag_work.specs.Task.{Row, Task, task_of}
 use Rattle.net_graph.specs.declared.net.Net.{Net}
 use Rattle.net_graph.specs.declared.net.Point.{Point}
@@ -43,8 +43,7 @@ listed format it = list_text format it.network.net it.network.form
 
 abbrev pub list : Listing → Row
 list l = record {
-  loads = source l.icl ∷ source l.device ∷ [];
-  texts = mux_test_texts l.top;
+  inputs = OfNetwork l.network;
   writes = [];
   prints = true;
   leaves = λ it. give (told (listed l.format it) false);
@@ -69,8 +68,7 @@ explained name it = do
 
 abbrev pub explain : Explain → Row
 explain e = record {
-  loads = svf_file e.svf ∷ source e.icl ∷ source e.device ∷ source e.tables ∷ [];
-  texts = play_texts e.top;
+  inputs = OfPlay e.play;
   writes = e.new ∷ [];
   prints = false;
   leaves = explained e.new;
@@ -98,8 +96,7 @@ looked_up scan bit it = do
 
 abbrev pub look_up : Lookup → Row
 look_up l = record {
-  loads = svf_file l.svf ∷ source l.icl ∷ source l.device ∷ source l.tables ∷ [];
-  texts = play_texts l.top;
+  inputs = OfPlay l.play;
   writes = [];
   prints = true;
   leaves = looked_up l.scan l.bit;
@@ -119,8 +116,7 @@ first_drawing it = drawing_of Svg it (start_holds it.network.net)
 
 abbrev pub picture : Picture → Row
 picture p = record {
-  loads = source p.icl ∷ source p.device ∷ [];
-  texts = mux_test_texts p.top;
+  inputs = OfNetwork p.network;
   writes = p.new ∷ [];
   prints = false;
   leaves = λ it. give (filed p.new (first_drawing it));
@@ -151,11 +147,11 @@ graph_in top _ = never
 
 abbrev pub graph_work : Picture → List (List ℕ) → Part Leaves
 graph_work p texts = do
-  graph ← graph_in p.top texts
+  graph ← graph_in p.network.top texts
   give (filed p.new (graph_text graph))
 
 abbrev pub graph : Picture → Task
-graph p = record { loads = source p.icl ∷ source p.device ∷ []; begins = never; first_writes = []; writes = p.new ∷ []; prints = false; work_on = graph_work p }
+graph p = record { loads = loads_of (OfNetwork p.network); begins = never; first_writes = []; writes = p.new ∷ []; prints = false; work_on = graph_work p }
 
 -- the same, with the active path before a scan of a play, or at its end; there must be such a scan
 abbrev pub held : ℕ → Option Holds → Part Holds
@@ -172,8 +168,7 @@ pictured_at p it = do
 
 abbrev pub picture_at : PictureAt → Row
 picture_at p = record {
-  loads = svf_file p.svf ∷ source p.icl ∷ source p.device ∷ source p.tables ∷ [];
-  texts = play_texts p.top;
+  inputs = OfPlay p.play;
   writes = p.new ∷ [];
   prints = false;
   leaves = pictured_at p;
@@ -198,8 +193,7 @@ tightened name it = record {
 
 abbrev pub tighten : Tighten → Row
 tighten t = record {
-  loads = source t.icl ∷ source t.pdl ∷ source t.device ∷ [];
-  texts = compile_texts t.top t.procedure;
+  inputs = OfProcedure t.procedure;
   writes = t.svf ∷ [];
   prints = true;
   leaves = tightened t.svf;
@@ -233,12 +227,11 @@ waves_of kind top window it = wave_text kind it.network.net it.device it.models 
 abbrev pub waved : Wave → SeenAccepted → Part Leaves
 waved w it = do
   window ← window_of w.window it
-  give (ran w.new (waves_of w.kind w.top window it) [] (any_differs (differs_at it it.commands)))
+  give (ran w.new (waves_of w.kind w.play.network.top window it) [] (any_differs (differs_at it it.commands)))
 
 abbrev pub wave : Wave → Row
 wave w = record {
-  loads = svf_file w.svf ∷ source w.icl ∷ source w.device ∷ source w.tables ∷ [];
-  texts = play_texts w.top;
+  inputs = OfPlay w.play;
   writes = w.new ∷ [];
   prints = false;
   leaves = waved w;

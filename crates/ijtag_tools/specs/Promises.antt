@@ -5,7 +5,7 @@ use Rattle.ij_io.specs.Files.{Files}
 use Rattle.svf_reader.specs.Meaning.{svf}
 use Rattle.ijtag_work.specs.Accepted.{SeenAccepted}
 use Rattle.ijtag_work.specs.Promises.{AcceptedWith}
-use Rattle.ijtag_tools.specs.Command.{Command, Explain, Explains, Graphs, Lists, LooksUp, Pictures, PicturesAt, Tighten, Tightens, Waves}
+use Rattle.ijtag_tools.specs.Command.{Command, Explain, Explains, Tighten, Tightens}
 use Rattle.ijtag_tools.specs.Order.{explain, tighten}
 use Rattle.ijtag_tools.specs.Tight.{IsTight, NoneTakesFewer}
 
@@ -36,33 +36,16 @@ IsBounded files t = AcceptedWith (tighten t) files NoneTakesFewer
 
 -- what is promised besides of the commands
 abbrev pub IsPromised : Command → Option Files → (List ℕ → Option (Option (List ℕ))) → Bool → Type 0
-IsPromised (Lists l) files file differs = Unit {0}
 IsPromised (Explains e) files file differs = IsExplained files e (file e.new)
-IsPromised (LooksUp l) files file differs = Unit {0}
-IsPromised (Pictures p) files file differs = Unit {0}
-IsPromised (Graphs p) files file differs = Unit {0}
-IsPromised (PicturesAt p) files file differs = Unit {0}
-IsPromised (Waves w) files file differs = Unit {0}
 IsPromised (Tightens t) files file differs = IsBounded files t
+IsPromised _ files file differs = Unit {0}
 
 -- what holds where a command is an explain
 abbrev pub IfExplains : Command → (Explain → Type 0) → Type 0
 IfExplains (Explains e) P = P e
-IfExplains (Lists l) P = Unit {0}
-IfExplains (LooksUp l) P = Unit {0}
-IfExplains (Pictures p) P = Unit {0}
-IfExplains (Graphs p) P = Unit {0}
-IfExplains (PicturesAt p) P = Unit {0}
-IfExplains (Tightens t) P = Unit {0}
-IfExplains (Waves w) P = Unit {0}
+IfExplains _ P = Unit {0}
 
 -- what holds where a command is a tighten
 abbrev pub IfTightens : Command → (Tighten → Type 0) → Type 0
 IfTightens (Tightens t) P = P t
-IfTightens (Lists l) P = Unit {0}
-IfTightens (Explains e) P = Unit {0}
-IfTightens (LooksUp l) P = Unit {0}
-IfTightens (Pictures p) P = Unit {0}
-IfTightens (Graphs p) P = Unit {0}
-IfTightens (PicturesAt p) P = Unit {0}
-IfTightens (Waves w) P = Unit {0}
+IfTightens _ P = Unit {0}

@@ -10,35 +10,31 @@ use Rattle.ijtag_tools.specs.declared.words.ListWords.{ListWords}
 use Rattle.ijtag_tools.specs.declared.words.TightenWords.{TightenWords}
 use Rattle.ijtag_tools.specs.declared.words.ToolWords.{ToolWords}
 use Rattle.ijtag_tools.specs.declared.words.ToolWords.TheVariants.{List as ListCommand, Explain as ExplainCommand, Where as WhereCommand, Picture as PictureCommand, Graph as GraphCommand, PictureAt as PictureAtCommand, Tighten as TightenCommand, Wave as WaveCommand}
+use Rattle.ijtag_work.specs.Words.{seen_network, seen_play, seen_procedure}
 
 abbrev pub seen_list : ListWords → Listing
-seen_list words = record { format = words.format; icl = words.icl.now; device = words.device.now; top = words.top.now }
+seen_list words = record { format = words.format; network = seen_network words.network }
 
 abbrev pub seen_tighten : TightenWords → Tighten
-seen_tighten words =
-    record { how = words.how; icl = words.icl.now; pdl = words.pdl.now; device = words.device.now; top = words.top.now; procedure = words.procedure.now; svf = words.svf.now }
+seen_tighten words = record { how = words.how; procedure = seen_procedure words.procedure; svf = words.svf.now }
 
 abbrev pub seen_explain : ExplainWords → Explain
-seen_explain words =
-    record { svf = words.svf.now; icl = words.icl.now; device = words.device.now; tables = words.tables.now; top = words.top.now; new = words.new_svf.now }
+seen_explain words = record { play = seen_play words.play; new = words.new_svf.now }
 
 abbrev pub seen_where : WhereWords → Lookup
-seen_where words =
-    record { svf = words.svf.now; icl = words.icl.now; device = words.device.now; tables = words.tables.now; top = words.top.now; scan = words.scan; bit = words.bit }
+seen_where words = record { play = seen_play words.play; scan = words.scan; bit = words.bit }
 
 abbrev pub seen_picture : PictureWords → Picture
-seen_picture words = record { icl = words.icl.now; device = words.device.now; top = words.top.now; new = words.picture.now }
+seen_picture words = record { network = seen_network words.network; new = words.picture.now }
 
 abbrev pub seen_graph_words : GraphWords → Picture
-seen_graph_words words = record { icl = words.icl.now; device = words.device.now; top = words.top.now; new = words.graph.now }
+seen_graph_words words = record { network = seen_network words.network; new = words.graph.now }
 
 abbrev pub seen_picture_at : PictureAtWords → PictureAt
-seen_picture_at words =
-    record { format = words.format; icl = words.icl.now; device = words.device.now; top = words.top.now; new = words.picture.now; svf = words.svf.now; tables = words.tables.now; scan = words.scan }
+seen_picture_at words = record { format = words.format; play = seen_play words.play; new = words.picture.now; scan = words.scan }
 
 abbrev pub seen_wave : WaveWords → Wave
-seen_wave words =
-    record { kind = words.kind; svf = words.svf.now; icl = words.icl.now; device = words.device.now; tables = words.tables.now; top = words.top.now; new = words.waves.now; window = words.window }
+seen_wave words = record { kind = words.kind; play = seen_play words.play; new = words.waves.now; window = words.window }
 
 abbrev pub seen_command : ToolWords → Command
 seen_command (ListCommand words) = Lists (seen_list words)

@@ -45,14 +45,14 @@ impl<'w> Command for ToolWords<'w> {
         out: &mut O,
     ) -> Result<Verdict, Stop<'a>> {
         match self {
-            ToolWords::List(it) => accept_and_act(alloc, &it.loads(), it, shelf, out),
-            ToolWords::Explain(it) => accept_and_act(alloc, &it.loads(), it, shelf, out),
-            ToolWords::Where(it) => accept_and_act(alloc, &it.loads(), it, shelf, out),
-            ToolWords::Picture(it) => accept_and_act(alloc, &it.loads(), it, shelf, out),
+            ToolWords::List(it) => accept_and_act(alloc, it, shelf, out),
+            ToolWords::Explain(it) => accept_and_act(alloc, it, shelf, out),
+            ToolWords::Where(it) => accept_and_act(alloc, it, shelf, out),
+            ToolWords::Picture(it) => accept_and_act(alloc, it, shelf, out),
             ToolWords::Graph(it) => draw_graph(alloc, it, shelf, out),
-            ToolWords::PictureAt(it) => accept_and_act(alloc, &it.loads(), it, shelf, out),
-            ToolWords::Tighten(it) => accept_and_act(alloc, &it.loads(), it, shelf, out),
-            ToolWords::Wave(it) => accept_and_act(alloc, &it.loads(), it, shelf, out),
+            ToolWords::PictureAt(it) => accept_and_act(alloc, it, shelf, out),
+            ToolWords::Tighten(it) => accept_and_act(alloc, it, shelf, out),
+            ToolWords::Wave(it) => accept_and_act(alloc, it, shelf, out),
         }
     }
 }

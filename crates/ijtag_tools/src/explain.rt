@@ -1,5 +1,5 @@
 // The command `explain`.
-ghost use Rattle.std.specs.Prelude.{◌≡◌, ◌≤◌, false, true, length, Some, Ok, OnOk, OnErr};
+ghost use Rattle.std.specs.Prelude.{◌≡◌, ◌≤◌, true, length, Some, Ok, OnOk, OnErr};
 ghost use Rattle.std.specs.Option.{option_map};
 ghost use Rattle.ij_io.specs.Causes.{HasCauseAt, SameCounts};
 ghost use Rattle.ij_io.specs.Files.{OthersStay, file_at};
@@ -15,7 +15,7 @@ use crate::words::ExplainWords;
 use ij_io::{Shelf, Sink, StoreFault};
 use ijtag_core::{Effect, SVF_LIMIT};
 use ijtag_stages::{Stage, StageFault, refused};
-use ijtag_work::{Accepted, Stop, Texts, Verdict};
+use ijtag_work::{Accepted, Inputs, Stop, Texts, Verdict};
 use std::alloc::Global;
 use svf_notes::{explained_commands_stay, explained_len, explained_most, put_explained_file};
 
@@ -102,23 +102,18 @@ fn notes_change_no_command(it: &Accepted)
 impl<'w> Effect for ExplainWords<'w> {
     ghost table_row = { λ words. explain (seen_explain words) };
 
-    ghost needs = { λ _. record { tables = true; svf = true; pdl = false } };
-
     ghost promise = { λ words files file it _. HoldsSameCommands files (file (seen_explain words).new) it };
 
-    fn texts<'t>(&'t self, loaded: &'t [Vec<u8>]) -> Texts<'t> {
-        let [svf, icl, device, tables] = loaded else {
-            unreachable!()
-        };
-        Texts {
-            icl,
-            device,
-            tables: Some(tables),
-            svf: Some(svf),
-            top: self.top,
-            pdl: None,
-            procedure: "",
-        }
+    fn load_texts<'a, S: Shelf>(
+        &'a self,
+        alloc: Global,
+        shelf: &mut S,
+    ) -> Result<Vec<Vec<u8>>, Stop<'a>> {
+        self.play.load(alloc, shelf)
+    }
+
+    fn texts_in<'t>(&'t self, loaded: &'t [Vec<u8>]) -> Texts<'t> {
+        self.play.texts(loaded)
     }
 
     fn prints(&self) -> bool {

@@ -19,7 +19,7 @@ use crate::words::GraphWords;
 use ij_bits::OutOfMemory;
 use ij_io::{Shelf, Sink, StoreFault, SureSink};
 use ijtag_stages::{StageFault, put_refusal, read_device, read_icl};
-use ijtag_work::{Stop, Verdict, load_all, write_file};
+use ijtag_work::{Inputs, Stop, Verdict, write_file};
 use net_graph::{Holds, Point};
 use net_picture::put_dot;
 use std::alloc::Global;
@@ -106,8 +106,8 @@ pub fn draw_graph<'a, S: Shelf, O: Sink>(
     ensures loads { OnlyTheseRise (names_of (graph (seen_graph_words words.now)).loads) (S.load_faults shelf.old) (S.load_faults shelf.new) }
     ensures stores { OnlyTheseRise (words.now.graph.now ∷ []) (S.store_faults shelf.old) (S.store_faults shelf.new) }
 {
-    let texts = load_all(alloc, &words.loads(), shelf)?;
-    let graph = accept(alloc, &texts, words.top)?;
+    let texts = words.network.load(alloc, shelf)?;
+    let graph = accept(alloc, &texts, words.network.top)?;
     let text = make_text(alloc, &graph)?;
     match write_file(words.graph, text.bytes(), shelf) {
         Ok(()) => Ok(Verdict::Agrees),

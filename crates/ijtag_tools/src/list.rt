@@ -1,5 +1,5 @@
 // The command `list`.
-ghost use Rattle.std.specs.Prelude.{◌≡◌, false, true, OnOk, OnErr};
+ghost use Rattle.std.specs.Prelude.{◌≡◌, OnOk, OnErr};
 ghost use Rattle.ij_io.specs.Bytes.{Adds, AddsPart};
 ghost use Rattle.ij_io.specs.Causes.{HasCause};
 ghost use Rattle.ijtag_work.specs.Using.{IsUsable, seen_accepted};
@@ -9,7 +9,7 @@ ghost use Rattle.ijtag_tools.specs.Words.{seen_list};
 use crate::words::ListWords;
 use ij_io::{Shelf, Sink, StoreFault};
 use ijtag_core::Effect;
-use ijtag_work::{Accepted, Stop, Texts, Verdict};
+use ijtag_work::{Accepted, Inputs, Stop, Texts, Verdict};
 use net_list::{ListFormat, put_list};
 use std::alloc::Global;
 
@@ -33,23 +33,16 @@ fn put_lines<O: Sink>(
 impl<'w> Effect for ListWords<'w> {
     ghost table_row = { λ words. list (seen_list words) };
 
-    ghost needs = { λ _. record { tables = false; svf = false; pdl = false } };
+    fn load_texts<'a, S: Shelf>(
+        &'a self,
+        alloc: Global,
+        shelf: &mut S,
+    ) -> Result<Vec<Vec<u8>>, Stop<'a>> {
+        self.network.load(alloc, shelf)
+    }
 
-    ghost promise = { λ _ _ _ _ _. Unit {0} };
-
-    fn texts<'t>(&'t self, loaded: &'t [Vec<u8>]) -> Texts<'t> {
-        let [icl, device] = loaded else {
-            unreachable!()
-        };
-        Texts {
-            icl,
-            device,
-            tables: None,
-            svf: None,
-            top: self.top,
-            pdl: None,
-            procedure: "",
-        }
+    fn texts_in<'t>(&'t self, loaded: &'t [Vec<u8>]) -> Texts<'t> {
+        self.network.texts(loaded)
     }
 
     fn prints(&self) -> bool {

@@ -1,5 +1,5 @@
 // The command `picture`.
-ghost use Rattle.std.specs.Prelude.{◌≡◌, false, true, Some, IfOk, OnOk};
+ghost use Rattle.std.specs.Prelude.{◌≡◌, true, Some, IfOk, OnOk};
 ghost use Rattle.ij_io.specs.Bytes.{Adds};
 ghost use Rattle.net_graph.specs.Held.{AreHolds};
 ghost use Rattle.ijtag_stages.specs.Follows.{Follows};
@@ -12,7 +12,7 @@ use ij_bits::OutOfMemory;
 use ij_io::{Shelf, Sink, StoreFault, SureSink};
 use ijtag_core::Effect;
 use ijtag_stages::{Stage, StageFault, refused_number};
-use ijtag_work::{Accepted, Stop, Texts, Verdict, write_file};
+use ijtag_work::{Accepted, Inputs, Stop, Texts, Verdict, write_file};
 use net_graph::Holds;
 use net_picture::{put_dot, put_svg};
 use std::alloc::Global;
@@ -87,23 +87,16 @@ fn look_before(alloc: Global, it: &Accepted, scan: u64) -> Result<Holds, StageFa
 impl<'w> Effect for PictureWords<'w> {
     ghost table_row = { λ words. picture (seen_picture words) };
 
-    ghost needs = { λ _. record { tables = false; svf = false; pdl = false } };
+    fn load_texts<'a, S: Shelf>(
+        &'a self,
+        alloc: Global,
+        shelf: &mut S,
+    ) -> Result<Vec<Vec<u8>>, Stop<'a>> {
+        self.network.load(alloc, shelf)
+    }
 
-    ghost promise = { λ _ _ _ _ _. Unit {0} };
-
-    fn texts<'t>(&'t self, loaded: &'t [Vec<u8>]) -> Texts<'t> {
-        let [icl, device] = loaded else {
-            unreachable!()
-        };
-        Texts {
-            icl,
-            device,
-            tables: None,
-            svf: None,
-            top: self.top,
-            pdl: None,
-            procedure: "",
-        }
+    fn texts_in<'t>(&'t self, loaded: &'t [Vec<u8>]) -> Texts<'t> {
+        self.network.texts(loaded)
     }
 
     fn prints(&self) -> bool {
@@ -129,23 +122,16 @@ impl<'w> Effect for PictureWords<'w> {
 impl<'w> Effect for PictureAtWords<'w> {
     ghost table_row = { λ words. picture_at (seen_picture_at words) };
 
-    ghost needs = { λ _. record { tables = true; svf = true; pdl = false } };
+    fn load_texts<'a, S: Shelf>(
+        &'a self,
+        alloc: Global,
+        shelf: &mut S,
+    ) -> Result<Vec<Vec<u8>>, Stop<'a>> {
+        self.play.load(alloc, shelf)
+    }
 
-    ghost promise = { λ _ _ _ _ _. Unit {0} };
-
-    fn texts<'t>(&'t self, loaded: &'t [Vec<u8>]) -> Texts<'t> {
-        let [svf, icl, device, tables] = loaded else {
-            unreachable!()
-        };
-        Texts {
-            icl,
-            device,
-            tables: Some(tables),
-            svf: Some(svf),
-            top: self.top,
-            pdl: None,
-            procedure: "",
-        }
+    fn texts_in<'t>(&'t self, loaded: &'t [Vec<u8>]) -> Texts<'t> {
+        self.play.texts(loaded)
     }
 
     fn prints(&self) -> bool {

@@ -1,5 +1,5 @@
 // The command `tighten`.
-ghost use Rattle.std.specs.Prelude.{◌≡◌, false, true, OnOk, OnErr};
+ghost use Rattle.std.specs.Prelude.{◌≡◌, OnOk, OnErr};
 ghost use Rattle.ij_io.specs.Bytes.{Adds, AddsPart};
 ghost use Rattle.ij_io.specs.Causes.{HasCause};
 ghost use Rattle.ijtag_tools.specs.Order.{cost_line, tighten};
@@ -12,7 +12,7 @@ use crate::planned::{none_takes_fewer, tightest};
 use crate::words::TightenWords;
 use ij_io::{Shelf, Sink, StoreFault, Word, put_words};
 use ijtag_core::Effect;
-use ijtag_work::{Accepted, Stop, Texts, Verdict, write_file};
+use ijtag_work::{Accepted, Inputs, Stop, Texts, Verdict, write_file};
 use std::alloc::Global;
 
 /// Prints what commands take, what those of a compile take, and the clocks that any take at least.
@@ -44,23 +44,18 @@ fn put_costs<O: Sink>(now: Cost, before: Cost, least: u64, out: &mut O) -> Resul
 impl<'w> Effect for TightenWords<'w> {
     ghost table_row = { λ words. tighten (seen_tighten words) };
 
-    ghost needs = { λ _. record { tables = false; svf = false; pdl = true } };
-
     ghost promise = { λ _ _ _ it _. NoneTakesFewer it };
 
-    fn texts<'t>(&'t self, loaded: &'t [Vec<u8>]) -> Texts<'t> {
-        let [icl, pdl, device] = loaded else {
-            unreachable!()
-        };
-        Texts {
-            icl,
-            device,
-            tables: None,
-            svf: None,
-            top: self.top,
-            pdl: Some(pdl),
-            procedure: self.procedure,
-        }
+    fn load_texts<'a, S: Shelf>(
+        &'a self,
+        alloc: Global,
+        shelf: &mut S,
+    ) -> Result<Vec<Vec<u8>>, Stop<'a>> {
+        self.procedure.load(alloc, shelf)
+    }
+
+    fn texts_in<'t>(&'t self, loaded: &'t [Vec<u8>]) -> Texts<'t> {
+        self.procedure.texts(loaded)
     }
 
     fn prints(&self) -> bool {

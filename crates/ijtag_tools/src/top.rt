@@ -1,16 +1,10 @@
 // The top call.
-ghost use Rattle.std.specs.Prelude.{◌≡◌, Bool, Some, IsNone, IfSome, List, ℕ};
-ghost use Rattle.std.specs.Bool.{OnTrue, OnFalse};
-ghost use Rattle.ij_io.specs.Bytes.{AddsPart};
+ghost use Rattle.std.specs.Prelude.{◌≡◌, IfSome};
 ghost use Rattle.ij_io.specs.Files.{file_at};
-ghost use Rattle.ijtag_stages.specs.Refusals.{Refusal};
 ghost use Rattle.ijtag_tools.specs.Command.{command_in, usage_line};
 ghost use Rattle.ijtag_tools.specs.Order.{task};
 ghost use Rattle.ijtag_tools.specs.Promises.{IfExplains, IfTightens, IsBounded, IsExplained, IsTightened};
-ghost use Rattle.ijtag_work.specs.Leaves.{Leaves};
-ghost use Rattle.ijtag_work.specs.Runs.{AreKept, IsDone, IsPartDone, IsReadFault, IsRunStop, IsStop, IfTold, LoadRose, FirstRose, WriteRose, OnlyTheseChange, OnlyTheseRise, Tells, IsOrMemory, IsEarlyStatus, IsPartStatus, IsWriteStop, status_if, counts, seen, loads_in, writes_in, prints_in};
-ghost use Rattle.ijtag_work.specs.Stops.{Stop, Usage, Refuses, ReadFault, stop_text};
-ghost use Rattle.ijtag_work.specs.Task.{work};
+ghost use Rattle.ijtag_work.specs.Ends.{IsRun, views, world};
 
 use crate::words::read_words;
 use ij_io::{Shelf, Sink};
@@ -53,7 +47,7 @@ pub fn ijtag_tools<S: Shelf, O: Sink, E: Sink>(
     ensures tightened { result ≡ Status.Good → IfSome (command_in words.now.items) (λ command.
         IfTightens command (λ t. IsTightened (S.files shelf.old) t (file_at (S.files shelf.new) t.svf))) }
 
-    // No SVF to which the audit says yes for the procedure takes fewer clocks than its bound, which a tighten prints (by `done`).
+    // No SVF to which the audit says yes for the procedure takes fewer clocks than its bound, which a tighten prints (by `run`).
     ensures bounded { result ≡ Status.Good → IfSome (command_in words.now.items) (λ command.
         IfTightens command (λ t. IsBounded (S.files shelf.old) t)) }
 
@@ -61,68 +55,9 @@ pub fn ijtag_tools<S: Shelf, O: Sink, E: Sink>(
     ensures explained { result ≡ Status.Good → IfSome (command_in words.now.items) (λ command.
         IfExplains command (λ e. IsExplained (S.files shelf.old) e (file_at (S.files shelf.new) e.new))) }
 
-    // Where all of the command's work is done, and all that was printed is handed on; and what is accepted is done where no fault is
-    // counted.
-    ensures done { (differs : Bool) → result ≡ status_if differs
-        → IfSome (command_in words.now.items) (λ command. IsDone (work (S.files shelf.old) (task command))
-        (seen S.files O.taken shelf.old out.old)
-        (seen S.files O.taken shelf.new out.new) differs) }
-    ensures handed_on { (differs : Bool) → result ≡ status_if differs
-        → OnTrue (prints_in task (command_in words.now.items)) (O.handed out.new ≡ O.taken out.new) }
-    ensures complete { IfTold (command_in words.now.items) (S.files shelf.old) (λ command files.
-        let c = counts S.load_faults S.store_faults O.faults shelf.old shelf.new out.old out.new in
-        (leaves : Leaves) → (work (Some files) (task command)).gives leaves → ¬ LoadRose (task command) c
-        → ¬ WriteRose (task command) c → IsOrMemory result (status_if leaves.differs)) }
-    ensures err_stays { (differs : Bool) → result ≡ status_if differs → err.new ≡ err.old }
-
-    // Usage exactly where the words are no command.
-    ensures usage { result ≡ Status.Usage → IsNone (command_in words.now.items) }
-    ensures no_command { IsNone (command_in words.now.items) → IsOrMemory result Status.Usage }
-    ensures says_usage { result ≡ Status.Usage
-        → Tells E.taken E.faults err.old err.new (stop_text usage_line Usage) }
-
-    // Refused exactly at the first refusal of the command's work, which is printed, unless a load failed, or a write of the files that
-    // come before the texts.
-    ensures refused { result ≡ Status.Refused → IfSome (command_in words.now.items) (λ command.
-        (refusal : Refusal) × (work (S.files shelf.old) (task command)).refuses refusal
-        × Tells E.taken E.faults err.old err.new (stop_text usage_line (Refuses refusal))) }
-    ensures refuses { IfTold (command_in words.now.items) (S.files shelf.old) (λ command files.
-        let c = counts S.load_faults S.store_faults O.faults shelf.old shelf.new out.old out.new in
-        (refusal : Refusal) → (work (Some files) (task command)).refuses refusal
-        → ¬ LoadRose (task command) c → ¬ FirstRose (task command) c → IsOrMemory result Status.Refused) }
-
-    // ReadFault only where a load failed that was come to, WriteFault only where a write failed of what could be written: all was
-    // accepted, or it is one of the files that are written before.
-    ensures read_fault { result ≡ Status.ReadFault → IfSome (command_in words.now.items) (λ command.
-        (name : List ℕ) × IsReadFault (S.files shelf.old) (task command).loads
-        (S.load_faults shelf.old) (S.load_faults shelf.new) name
-        × Tells E.taken E.faults err.old err.new (stop_text usage_line (ReadFault name))) }
-    ensures write_fault { result ≡ Status.WriteFault
-        → IfSome (command_in words.now.items) (λ command.
-        let c = counts S.load_faults S.store_faults O.faults shelf.old shelf.new out.old out.new in
-        (stop : Stop) × IsStop (S.files shelf.old) (task command) c stop × IsWriteStop (task command) c stop
-        × Tells E.taken E.faults err.old err.new (stop_text usage_line stop)) }
-
-    // Nothing changes before all is accepted but the files that are written before, then a first part of what the command leaves,
-    // and never anything else.
-    ensures kept { IsEarlyStatus result
-        → AreKept task (command_in words.now.items) (S.files shelf.old) (S.files shelf.new)
-        × (out.new ≡ out.old) }
-    ensures part { IsPartStatus result → IfSome (command_in words.now.items) (λ command.
-        IsPartDone (S.files shelf.old) (task command)
-        (seen S.files O.taken shelf.old out.old) (seen S.files O.taken shelf.new out.new)) }
-    ensures says_part { result ≡ Status.OutOfMemory → (stop : Stop)
-        × IsRunStop task (command_in words.now.items) (S.files shelf.old)
-        (counts S.load_faults S.store_faults O.faults shelf.old shelf.new out.old out.new) stop
-        × AddsPart (E.taken err.old) (E.taken err.new) (stop_text usage_line stop) }
-    ensures only_its_files_change { OnlyTheseChange (writes_in task (command_in words.now.items))
-        (S.files shelf.old) (S.files shelf.new) }
-    ensures only_reports_print { OnFalse (prints_in task (command_in words.now.items))
-        (out.new ≡ out.old) }
-    ensures only_its_loads_fail { OnlyTheseRise (loads_in task (command_in words.now.items))
-        (S.load_faults shelf.old) (S.load_faults shelf.new) }
-    ensures only_its_stores_fail { OnlyTheseRise (writes_in task (command_in words.now.items))
-        (S.store_faults shelf.old) (S.store_faults shelf.new) }
+    // How it ends, for which reasons, what it prints then, and what changes: see `specs/Ends` of `ijtag_work`.
+    ensures run { IsRun (views S.files S.load_faults S.store_faults O.taken O.handed O.faults E.taken E.faults) task usage_line
+        (command_in words.now.items) (world shelf.old out.old err.old) (world shelf.new out.new err.new) result }
 {
     run_program(alloc, &read_words(words), shelf, out, err)
 }

@@ -1,5 +1,5 @@
 // The command `wave`.
-ghost use Rattle.std.specs.Prelude.{◌≡◌, ◌≤◌, [], false, true, length, Some, IfOk, OnOk, OnErr};
+ghost use Rattle.std.specs.Prelude.{◌≡◌, ◌≤◌, [], true, length, Some, IfOk, OnOk, OnErr};
 ghost use Rattle.std.specs.Option.{option_map};
 ghost use Rattle.ij_io.specs.Causes.{HasCauseAt, SameCounts};
 ghost use Rattle.ij_io.specs.Files.{OthersStay, file_at};
@@ -16,7 +16,7 @@ use crate::words::WaveWords;
 use ij_io::{Shelf, Sink, StoreFault};
 use ijtag_core::Effect;
 use ijtag_stages::{Stage, StageFault, refused_number};
-use ijtag_work::{Accepted, Stop, Texts, Verdict};
+use ijtag_work::{Accepted, Inputs, Stop, Texts, Verdict};
 use net_wave::{WaveKind, Window, put_wave_file};
 use std::alloc::Global;
 
@@ -112,23 +112,16 @@ fn write_waves<S: Shelf>(
 impl<'w> Effect for WaveWords<'w> {
     ghost table_row = { λ words. wave (seen_wave words) };
 
-    ghost needs = { λ _. record { tables = true; svf = true; pdl = false } };
+    fn load_texts<'a, S: Shelf>(
+        &'a self,
+        alloc: Global,
+        shelf: &mut S,
+    ) -> Result<Vec<Vec<u8>>, Stop<'a>> {
+        self.play.load(alloc, shelf)
+    }
 
-    ghost promise = { λ _ _ _ _ _. Unit {0} };
-
-    fn texts<'t>(&'t self, loaded: &'t [Vec<u8>]) -> Texts<'t> {
-        let [svf, icl, device, tables] = loaded else {
-            unreachable!()
-        };
-        Texts {
-            icl,
-            device,
-            tables: Some(tables),
-            svf: Some(svf),
-            top: self.top,
-            pdl: None,
-            procedure: "",
-        }
+    fn texts_in<'t>(&'t self, loaded: &'t [Vec<u8>]) -> Texts<'t> {
+        self.play.texts(loaded)
     }
 
     fn prints(&self) -> bool {
@@ -143,7 +136,15 @@ impl<'w> Effect for WaveWords<'w> {
         _out: &mut O,
     ) -> Result<Verdict, Stop<'a>> {
         let window = find_window(alloc, it, self.window)?;
-        match write_waves(alloc, it, self.kind, self.top, window, self.waves, shelf) {
+        match write_waves(
+            alloc,
+            it,
+            self.kind,
+            self.play.network.top,
+            window,
+            self.waves,
+            shelf,
+        ) {
             Ok(verdict) => Ok(verdict),
             Err(fault) => Err(Stop::of_file(fault, self.waves)),
         }

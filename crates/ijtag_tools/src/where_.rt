@@ -1,5 +1,5 @@
 // The command `where`.
-ghost use Rattle.std.specs.Prelude.{◌≡◌, false, true, IfOk};
+ghost use Rattle.std.specs.Prelude.{◌≡◌, true, IfOk};
 ghost use Rattle.ijtag_stages.specs.Follows.{Follows};
 ghost use Rattle.ijtag_work.specs.Using.{IsUsable, seen_accepted, there};
 ghost use Rattle.ijtag_work.specs.Seen.{differing};
@@ -10,7 +10,7 @@ use crate::words::WhereWords;
 use ij_io::{Shelf, Sink, SureSink};
 use ijtag_core::Effect;
 use ijtag_stages::{Stage, StageFault, refused_number};
-use ijtag_work::{Accepted, Stop, Texts, Verdict};
+use ijtag_work::{Accepted, Inputs, Stop, Texts, Verdict};
 use std::alloc::Global;
 use svf_notes::{BitAnswer, find_bit};
 
@@ -47,23 +47,16 @@ fn look(alloc: Global, it: &Accepted, scan: u64, bit: u64) -> Result<Place, Stag
 impl<'w> Effect for WhereWords<'w> {
     ghost table_row = { λ words. look_up (seen_where words) };
 
-    ghost needs = { λ _. record { tables = true; svf = true; pdl = false } };
+    fn load_texts<'a, S: Shelf>(
+        &'a self,
+        alloc: Global,
+        shelf: &mut S,
+    ) -> Result<Vec<Vec<u8>>, Stop<'a>> {
+        self.play.load(alloc, shelf)
+    }
 
-    ghost promise = { λ _ _ _ _ _. Unit {0} };
-
-    fn texts<'t>(&'t self, loaded: &'t [Vec<u8>]) -> Texts<'t> {
-        let [svf, icl, device, tables] = loaded else {
-            unreachable!()
-        };
-        Texts {
-            icl,
-            device,
-            tables: Some(tables),
-            svf: Some(svf),
-            top: self.top,
-            pdl: None,
-            procedure: "",
-        }
+    fn texts_in<'t>(&'t self, loaded: &'t [Vec<u8>]) -> Texts<'t> {
+        self.play.texts(loaded)
     }
 
     fn prints(&self) -> bool {

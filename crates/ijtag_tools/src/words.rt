@@ -1,13 +1,11 @@
 // The words that the program is called with.
-ghost use Rattle.std.specs.Prelude.{◌≡◌, [], ◌∷◌, map, option_map};
-ghost use Rattle.ijtag_tools.specs.Command.{command_in, command_of, format_named, how_named, kind_named, list_of, picture_at_of, picture_format_named, picture_of, tighten_of, wave_in_of, wave_of, where_of, window_named};
-ghost use Rattle.ijtag_tools.specs.Order.{explain, graph, list, look_up, picture, picture_at, tighten, wave};
-ghost use Rattle.ijtag_tools.specs.Words.{seen_command, seen_explain, seen_graph_words, seen_list, seen_picture, seen_picture_at, seen_tighten, seen_wave, seen_where};
-ghost use Rattle.ijtag_work.specs.Command.{number_of};
+ghost use Rattle.std.specs.Prelude.{◌≡◌, map, option_map};
 ghost use Rattle.std.specs.String.{string_bytes};
-ghost use Rattle.ijtag_work.specs.Seen.{seen_load};
+ghost use Rattle.ijtag_tools.specs.Command.{command_in, drawn, explain_of, format_named, how_named, kind_named, list_of, picture_format_named, picture_of, tighten_of, wave_of, where_of, window_named};
+ghost use Rattle.ijtag_tools.specs.Words.{seen_command};
+ghost use Rattle.ijtag_work.specs.Words.{seen_network};
 
-use ijtag_work::{Load, read_number};
+use ijtag_work::{NetworkWords, PlayWords, ProcedureWords, read_number};
 use net_list::ListFormat;
 use net_wave::{WaveKind, Window};
 use tight_planner::How;
@@ -17,85 +15,28 @@ use tight_planner::How;
 pub struct ListWords<'a> {
     /// How it is printed.
     pub format: ListFormat,
-    /// The file of the network (IEEE 1687-2014, ICL).
-    pub icl: &'a str,
-    /// The file of the device's TAP.
-    pub device: &'a str,
-    /// The top module's name.
-    pub top: &'a str,
-}
-
-impl<'a> ListWords<'a> {
-    /// The files that are loaded, in this order.
-    pub fn loads(&self) -> [Load<'a>; 2]
-        ensures { map seen_load result ≡ (list (seen_list self.now)).loads }
-    {
-        [Load::Source(self.icl), Load::Source(self.device)]
-    }
+    /// The network.
+    pub network: NetworkWords<'a>,
 }
 
 /// The words of `explain SVF ICL DEVICE TABLES TOP NEW`.
 #[derive(Clone, Copy)]
 pub struct ExplainWords<'a> {
-    /// The file that is explained (Serial Vector Format, revision E).
-    pub svf: &'a str,
-    /// The file of the network (IEEE 1687-2014, ICL).
-    pub icl: &'a str,
-    /// The file of the device's TAP.
-    pub device: &'a str,
-    /// The file of the instruments' tables.
-    pub tables: &'a str,
-    /// The top module's name.
-    pub top: &'a str,
+    /// What is explained.
+    pub play: PlayWords<'a>,
     /// The file that is written: the same SVF text, with notes.
     pub new_svf: &'a str,
-}
-
-impl<'a> ExplainWords<'a> {
-    /// The files that are loaded, in this order.
-    pub fn loads(&self) -> [Load<'a>; 4]
-        ensures { map seen_load result ≡ (explain (seen_explain self.now)).loads }
-    {
-        [
-            Load::Svf(self.svf),
-            Load::Source(self.icl),
-            Load::Source(self.device),
-            Load::Source(self.tables),
-        ]
-    }
 }
 
 /// The words of `where SVF ICL DEVICE TABLES TOP SCAN BIT`.
 #[derive(Clone, Copy)]
 pub struct WhereWords<'a> {
-    /// The file that is played (Serial Vector Format, revision E).
-    pub svf: &'a str,
-    /// The file of the network (IEEE 1687-2014, ICL).
-    pub icl: &'a str,
-    /// The file of the device's TAP.
-    pub device: &'a str,
-    /// The file of the instruments' tables.
-    pub tables: &'a str,
-    /// The top module's name.
-    pub top: &'a str,
+    /// What is played.
+    pub play: PlayWords<'a>,
     /// The scan, SIR or SDR, counted from 1.
     pub scan: u64,
     /// The position in it; 0 is the first at TDO.
     pub bit: u64,
-}
-
-impl<'a> WhereWords<'a> {
-    /// The files that are loaded, in this order.
-    pub fn loads(&self) -> [Load<'a>; 4]
-        ensures { map seen_load result ≡ (look_up (seen_where self.now)).loads }
-    {
-        [
-            Load::Svf(self.svf),
-            Load::Source(self.icl),
-            Load::Source(self.device),
-            Load::Source(self.tables),
-        ]
-    }
 }
 
 /// How a network is drawn.
@@ -110,45 +51,19 @@ pub enum PictureFormat {
 /// The words of `picture svg ICL DEVICE TOP NEW`.
 #[derive(Clone, Copy)]
 pub struct PictureWords<'a> {
-    /// The file of the network (IEEE 1687-2014, ICL).
-    pub icl: &'a str,
-    /// The file of the device's TAP.
-    pub device: &'a str,
-    /// The top module's name.
-    pub top: &'a str,
+    /// The network.
+    pub network: NetworkWords<'a>,
     /// The file that is written.
     pub picture: &'a str,
-}
-
-impl<'a> PictureWords<'a> {
-    /// The files that are loaded, in this order.
-    pub fn loads(&self) -> [Load<'a>; 2]
-        ensures { map seen_load result ≡ (picture (seen_picture self.now)).loads }
-    {
-        [Load::Source(self.icl), Load::Source(self.device)]
-    }
 }
 
 /// The words of `picture dot ICL DEVICE TOP NEW`.
 #[derive(Clone, Copy)]
 pub struct GraphWords<'a> {
-    /// The file of the network (IEEE 1687-2014, ICL).
-    pub icl: &'a str,
-    /// The file of the device's TAP.
-    pub device: &'a str,
-    /// The top module's name.
-    pub top: &'a str,
+    /// The network.
+    pub network: NetworkWords<'a>,
     /// The file that is written.
     pub graph: &'a str,
-}
-
-impl<'a> GraphWords<'a> {
-    /// The files that are loaded, in this order.
-    pub fn loads(&self) -> [Load<'a>; 2]
-        ensures { map seen_load result ≡ (graph (seen_graph_words self.now)).loads }
-    {
-        [Load::Source(self.icl), Load::Source(self.device)]
-    }
 }
 
 /// The words of `picture FORMAT ICL DEVICE TOP NEW SVF TABLES SCAN`.
@@ -156,34 +71,12 @@ impl<'a> GraphWords<'a> {
 pub struct PictureAtWords<'a> {
     /// How the network is drawn.
     pub format: PictureFormat,
-    /// The file of the network (IEEE 1687-2014, ICL).
-    pub icl: &'a str,
-    /// The file of the device's TAP.
-    pub device: &'a str,
-    /// The top module's name.
-    pub top: &'a str,
+    /// What is played.
+    pub play: PlayWords<'a>,
     /// The file that is written.
     pub picture: &'a str,
-    /// The file that is played (Serial Vector Format, revision E).
-    pub svf: &'a str,
-    /// The file of the instruments' tables.
-    pub tables: &'a str,
     /// The scan before which the network is drawn, SIR or SDR, counted from 1.
     pub scan: u64,
-}
-
-impl<'a> PictureAtWords<'a> {
-    /// The files that are loaded, in this order.
-    pub fn loads(&self) -> [Load<'a>; 4]
-        ensures { map seen_load result ≡ (picture_at (seen_picture_at self.now)).loads }
-    {
-        [
-            Load::Svf(self.svf),
-            Load::Source(self.icl),
-            Load::Source(self.device),
-            Load::Source(self.tables),
-        ]
-    }
 }
 
 /// The words of `wave KIND SVF ICL DEVICE TABLES TOP NEW` and `wave KIND SVF ICL DEVICE TABLES TOP NEW FROM COUNT`.
@@ -191,34 +84,12 @@ impl<'a> PictureAtWords<'a> {
 pub struct WaveWords<'a> {
     /// Which variables there are.
     pub kind: WaveKind,
-    /// The file that is played (Serial Vector Format, revision E).
-    pub svf: &'a str,
-    /// The file of the network (IEEE 1687-2014, ICL).
-    pub icl: &'a str,
-    /// The file of the device's TAP.
-    pub device: &'a str,
-    /// The file of the instruments' tables.
-    pub tables: &'a str,
-    /// The top module's name.
-    pub top: &'a str,
+    /// What is played.
+    pub play: PlayWords<'a>,
     /// The file that is written (IEEE 1364-2005, clause 18: value change dump).
     pub waves: &'a str,
     /// The clocks that are written; all where there is none.
     pub window: Option<Window>,
-}
-
-impl<'a> WaveWords<'a> {
-    /// The files that are loaded, in this order.
-    pub fn loads(&self) -> [Load<'a>; 4]
-        ensures { map seen_load result ≡ (wave (seen_wave self.now)).loads }
-    {
-        [
-            Load::Svf(self.svf),
-            Load::Source(self.icl),
-            Load::Source(self.device),
-            Load::Source(self.tables),
-        ]
-    }
 }
 
 /// The words of `tighten HOW ICL PDL DEVICE TOP PROC NEW`.
@@ -226,31 +97,10 @@ impl<'a> WaveWords<'a> {
 pub struct TightenWords<'a> {
     /// How it is planned.
     pub how: How,
-    /// The file of the network (IEEE 1687-2014, ICL).
-    pub icl: &'a str,
-    /// The file of the procedures (IEEE 1687-2014, PDL level 0).
-    pub pdl: &'a str,
-    /// The file of the device's TAP.
-    pub device: &'a str,
-    /// The top module's name.
-    pub top: &'a str,
-    /// The procedure's name.
-    pub procedure: &'a str,
+    /// The procedure.
+    pub procedure: ProcedureWords<'a>,
     /// The file that is written (Serial Vector Format, revision E).
     pub svf: &'a str,
-}
-
-impl<'a> TightenWords<'a> {
-    /// The files that are loaded, in this order.
-    pub fn loads(&self) -> [Load<'a>; 3]
-        ensures { map seen_load result ≡ (tighten (seen_tighten self.now)).loads }
-    {
-        [
-            Load::Source(self.icl),
-            Load::Source(self.pdl),
-            Load::Source(self.device),
-        ]
-    }
 }
 
 /// The words of a command.
@@ -322,363 +172,176 @@ fn kind_of(word: &str) -> Option<WaveKind>
     }
 }
 
-/// The command `list` of its words, where the first is a format.
-fn list_words<'a>(
-    format: &str,
-    icl: &'a str,
-    device: &'a str,
-    top: &'a str,
-) -> Option<ToolWords<'a>>
-    ensures { option_map seen_command result ≡ list_of (format_named format.now) icl.now device.now top.now }
+/// The clocks that some words ask for: all where there are none, or those that two numbers say.
+fn window_of(words: &[String]) -> Option<Option<Window>>
+    ensures { result ≡ window_named (map string_bytes words.now) }
 {
-    let format = format_of(format)?;
-    Some(ToolWords::List(ListWords {
-        format,
-        icl,
-        device,
-        top,
-    }))
-}
-
-/// The command `picture` of its words, where the first is a format of a picture.
-fn picture_words<'a>(
-    format: &str,
-    icl: &'a str,
-    device: &'a str,
-    top: &'a str,
-    picture: &'a str,
-) -> Option<ToolWords<'a>>
-    ensures { option_map seen_command result ≡ picture_of (picture_format_named format.now) icl.now device.now top.now picture.now }
-{
-    match picture_format_of(format)? {
-        PictureFormat::Svg => Some(ToolWords::Picture(PictureWords {
-            icl,
-            device,
-            top,
-            picture,
-        })),
-        PictureFormat::Dot => Some(ToolWords::Graph(GraphWords {
-            icl,
-            device,
-            top,
-            graph: picture,
-        })),
+    match words {
+        [] => Some(None),
+        [from, count] => {
+            let from = read_number(from)?;
+            let count = read_number(count)?;
+            Some(Some(Window { from, count }))
+        }
+        [_] | [_, _, _, ..] => None,
     }
 }
 
-/// The command `picture` of its words, where the first is a format of a picture and the last a number.
-fn picture_at_words<'a>(
-    format: &str,
-    icl: &'a str,
-    device: &'a str,
-    top: &'a str,
-    picture: &'a str,
-    svf: &'a str,
-    tables: &'a str,
-    scan: &str,
-) -> Option<ToolWords<'a>>
-    ensures { option_map seen_command result ≡ picture_at_of (picture_format_named format.now) (number_of scan.now) icl.now device.now top.now picture.now svf.now tables.now }
+/// The command `list` of the words after its name.
+fn read_list<'a>(words: &'a [String]) -> Option<ToolWords<'a>>
+    ensures { option_map seen_command result ≡ list_of (map string_bytes words.now) }
 {
-    let format = picture_format_of(format)?;
-    let scan = read_number(scan)?;
-    Some(ToolWords::PictureAt(PictureAtWords {
-        format,
-        icl,
-        device,
-        top,
-        picture,
-        svf,
-        tables,
-        scan,
+    let [format, icl, device, top] = words else {
+        return None;
+    };
+    let format = format_of(format)?;
+    let network = NetworkWords { icl, device, top };
+    Some(ToolWords::List(ListWords { format, network }))
+}
+
+/// The command `explain` of the words after its name.
+fn read_explain<'a>(words: &'a [String]) -> Option<ToolWords<'a>>
+    ensures { option_map seen_command result ≡ explain_of (map string_bytes words.now) }
+{
+    let [svf, icl, device, tables, top, new_svf] = words else {
+        return None;
+    };
+    Some(ToolWords::Explain(ExplainWords {
+        play: PlayWords {
+            svf,
+            network: NetworkWords { icl, device, top },
+            tables,
+        },
+        new_svf,
     }))
 }
 
-/// The command `wave` of its words, where the first says which variables there are.
-fn wave_words<'a>(
-    kind: &str,
-    svf: &'a str,
-    icl: &'a str,
-    device: &'a str,
-    tables: &'a str,
-    top: &'a str,
-    waves: &'a str,
-    window: Option<Window>,
-) -> Option<ToolWords<'a>>
-    ensures { option_map seen_command result ≡ wave_of (kind_named kind.now) svf.now icl.now device.now tables.now top.now waves.now window }
+/// The command `where` of the words after its name.
+fn read_where<'a>(words: &'a [String]) -> Option<ToolWords<'a>>
+    ensures { option_map seen_command result ≡ where_of (map string_bytes words.now) }
 {
-    let kind = kind_of(kind)?;
-    Some(ToolWords::Wave(WaveWords {
-        kind,
-        svf,
-        icl,
-        device,
-        tables,
-        top,
-        waves,
-        window,
-    }))
-}
-
-/// The clocks that two words ask for, where they are numbers.
-fn window_words(from: &str, count: &str) -> Option<Window>
-    ensures { result ≡ window_named (number_of from.now) (number_of count.now) }
-{
-    let from = read_number(from)?;
-    let count = read_number(count)?;
-    Some(Window { from, count })
-}
-
-/// The command `wave` of its words, where the first says which variables there are, and the last two are numbers.
-fn wave_in_words<'a>(
-    kind: &str,
-    svf: &'a str,
-    icl: &'a str,
-    device: &'a str,
-    tables: &'a str,
-    top: &'a str,
-    waves: &'a str,
-    from: &str,
-    count: &str,
-) -> Option<ToolWords<'a>>
-    ensures { option_map seen_command result ≡ wave_in_of (window_named (number_of from.now) (number_of count.now)) (kind_named kind.now) svf.now icl.now device.now tables.now top.now waves.now }
-{
-    let window = window_words(from, count)?;
-    wave_words(kind, svf, icl, device, tables, top, waves, Some(window))
-}
-
-/// The command `where` of its words, where the last two are numbers.
-fn where_words<'a>(
-    svf: &'a str,
-    icl: &'a str,
-    device: &'a str,
-    tables: &'a str,
-    top: &'a str,
-    scan: &str,
-    bit: &str,
-) -> Option<ToolWords<'a>>
-    ensures { option_map seen_command result ≡ where_of (number_of scan.now) (number_of bit.now) svf.now icl.now device.now tables.now top.now }
-{
+    let [svf, icl, device, tables, top, scan, bit] = words else {
+        return None;
+    };
     let scan = read_number(scan)?;
     let bit = read_number(bit)?;
     Some(ToolWords::Where(WhereWords {
-        svf,
-        icl,
-        device,
-        tables,
-        top,
+        play: PlayWords {
+            svf,
+            network: NetworkWords { icl, device, top },
+            tables,
+        },
         scan,
         bit,
     }))
 }
 
-/// The command `tighten` of its words, where the first is a way of planning.
-fn tighten_words<'a>(
-    how: &str,
-    icl: &'a str,
-    pdl: &'a str,
-    device: &'a str,
-    top: &'a str,
-    procedure: &'a str,
-    svf: &'a str,
-) -> Option<ToolWords<'a>>
-    ensures { option_map seen_command result ≡ tighten_of (how_named how.now) icl.now pdl.now device.now top.now procedure.now svf.now }
+/// The command `picture` of power-up.
+fn draw_first<'a>(format: PictureFormat, network: NetworkWords<'a>, new: &'a str) -> ToolWords<'a>
+    ensures { seen_command result ≡ drawn (record { network = seen_network network.entry; new = new.now }) format }
 {
+    match format {
+        PictureFormat::Svg => ToolWords::Picture(PictureWords {
+            network,
+            picture: new,
+        }),
+        PictureFormat::Dot => ToolWords::Graph(GraphWords {
+            network,
+            graph: new,
+        }),
+    }
+}
+
+/// The command `picture` of the words after its name.
+fn read_picture<'a>(words: &'a [String]) -> Option<ToolWords<'a>>
+    ensures { option_map seen_command result ≡ picture_of (map string_bytes words.now) }
+{
+    let [format, icl, device, top, picture, rest @ ..] = words else {
+        return None;
+    };
+    let format = picture_format_of(format)?;
+    let network = NetworkWords { icl, device, top };
+    match rest {
+        [] => Some(draw_first(format, network, picture)),
+        [svf, tables, scan] => {
+            let scan = read_number(scan)?;
+            let play = PlayWords {
+                svf,
+                network,
+                tables,
+            };
+            Some(ToolWords::PictureAt(PictureAtWords {
+                format,
+                play,
+                picture,
+                scan,
+            }))
+        }
+        [_] | [_, _] | [_, _, _, _, ..] => None,
+    }
+}
+
+/// The command `tighten` of the words after its name.
+fn read_tighten<'a>(words: &'a [String]) -> Option<ToolWords<'a>>
+    ensures { option_map seen_command result ≡ tighten_of (map string_bytes words.now) }
+{
+    let [how, icl, pdl, device, top, name, svf] = words else {
+        return None;
+    };
     let how = how_of(how)?;
     Some(ToolWords::Tighten(TightenWords {
         how,
-        icl,
-        pdl,
-        device,
-        top,
-        procedure,
+        procedure: ProcedureWords {
+            network: NetworkWords { icl, device, top },
+            pdl,
+            name,
+        },
         svf,
     }))
 }
 
-/// The command of five words.
-fn five_words<'a>(
-    command: &str,
-    format: &str,
-    icl: &'a str,
-    device: &'a str,
-    top: &'a str,
-) -> Option<ToolWords<'a>>
-    ensures { option_map seen_command result ≡ command_of (command.now ∷ format.now ∷ icl.now ∷ device.now ∷ top.now ∷ []) }
+/// The command `wave` of the words after its name.
+fn read_wave<'a>(words: &'a [String]) -> Option<ToolWords<'a>>
+    ensures { option_map seen_command result ≡ wave_of (map string_bytes words.now) }
 {
-    if command == "list" {
-        list_words(format, icl, device, top)
-    } else {
-        None
-    }
-}
-
-/// The command of six words.
-fn six_words<'a>(
-    command: &str,
-    format: &str,
-    icl: &'a str,
-    device: &'a str,
-    top: &'a str,
-    picture: &'a str,
-) -> Option<ToolWords<'a>>
-    ensures { option_map seen_command result ≡ command_of (command.now ∷ format.now ∷ icl.now ∷ device.now ∷ top.now ∷ picture.now ∷ []) }
-{
-    if command == "picture" {
-        picture_words(format, icl, device, top, picture)
-    } else {
-        None
-    }
-}
-
-/// The command of seven words.
-fn seven_words<'a>(
-    command: &str,
-    svf: &'a str,
-    icl: &'a str,
-    device: &'a str,
-    tables: &'a str,
-    top: &'a str,
-    new_svf: &'a str,
-) -> Option<ToolWords<'a>>
-    ensures { option_map seen_command result ≡ command_of (command.now ∷ svf.now ∷ icl.now ∷ device.now ∷ tables.now ∷ top.now ∷ new_svf.now ∷ []) }
-{
-    if command == "explain" {
-        Some(ToolWords::Explain(ExplainWords {
+    let [kind, svf, icl, device, tables, top, waves, clocks @ ..] = words else {
+        return None;
+    };
+    let kind = kind_of(kind)?;
+    let window = window_of(clocks)?;
+    Some(ToolWords::Wave(WaveWords {
+        kind,
+        play: PlayWords {
             svf,
-            icl,
-            device,
+            network: NetworkWords { icl, device, top },
             tables,
-            top,
-            new_svf,
-        }))
-    } else {
-        None
-    }
-}
-
-/// The command of eight words.
-fn eight_words<'a>(
-    command: &str,
-    a: &'a str,
-    b: &'a str,
-    c: &'a str,
-    d: &'a str,
-    e: &'a str,
-    f: &'a str,
-    g: &'a str,
-) -> Option<ToolWords<'a>>
-    ensures { option_map seen_command result ≡ command_of (command.now ∷ a.now ∷ b.now ∷ c.now ∷ d.now ∷ e.now ∷ f.now ∷ g.now ∷ []) }
-{
-    if command == "tighten" {
-        tighten_words(a, b, c, d, e, f, g)
-    } else if command == "where" {
-        where_words(a, b, c, d, e, f, g)
-    } else if command == "wave" {
-        wave_words(a, b, c, d, e, f, g, None)
-    } else {
-        None
-    }
-}
-
-/// The command of nine words.
-fn nine_words<'a>(
-    command: &str,
-    a: &str,
-    b: &'a str,
-    c: &'a str,
-    d: &'a str,
-    e: &'a str,
-    f: &'a str,
-    g: &'a str,
-    h: &str,
-) -> Option<ToolWords<'a>>
-    ensures { option_map seen_command result ≡ command_of (command.now ∷ a.now ∷ b.now ∷ c.now ∷ d.now ∷ e.now ∷ f.now ∷ g.now ∷ h.now ∷ []) }
-{
-    if command == "picture" {
-        picture_at_words(a, b, c, d, e, f, g, h)
-    } else {
-        None
-    }
-}
-
-/// The command of ten words.
-fn ten_words<'a>(
-    command: &str,
-    a: &str,
-    b: &'a str,
-    c: &'a str,
-    d: &'a str,
-    e: &'a str,
-    f: &'a str,
-    g: &'a str,
-    h: &str,
-    i: &str,
-) -> Option<ToolWords<'a>>
-    ensures { option_map seen_command result ≡ command_of (command.now ∷ a.now ∷ b.now ∷ c.now ∷ d.now ∷ e.now ∷ f.now ∷ g.now ∷ h.now ∷ i.now ∷ []) }
-{
-    if command == "wave" {
-        wave_in_words(a, b, c, d, e, f, g, h, i)
-    } else {
-        None
-    }
-}
-
-/// The command of five words and more.
-fn more_words<'a>(
-    command: &str,
-    a: &'a str,
-    b: &'a str,
-    c: &'a str,
-    d: &'a str,
-    rest: &'a [String],
-) -> Option<ToolWords<'a>>
-    ensures { option_map seen_command result ≡ command_of (command.now ∷ a.now ∷ b.now ∷ c.now ∷ d.now ∷ map string_bytes rest.now) }
-{
-    match rest {
-        [] => five_words(command, a, b, c, d),
-        [e] => six_words(command, a, b, c, d, e.as_str()),
-        [e, f] => seven_words(command, a, b, c, d, e.as_str(), f.as_str()),
-        [e, f, g] => eight_words(command, a, b, c, d, e.as_str(), f.as_str(), g.as_str()),
-        [e, f, g, h] => nine_words(
-            command,
-            a,
-            b,
-            c,
-            d,
-            e.as_str(),
-            f.as_str(),
-            g.as_str(),
-            h.as_str(),
-        ),
-        [e, f, g, h, i] => ten_words(
-            command,
-            a,
-            b,
-            c,
-            d,
-            e.as_str(),
-            f.as_str(),
-            g.as_str(),
-            h.as_str(),
-            i.as_str(),
-        ),
-        [_, _, _, _, _, _, ..] => None,
-    }
+        },
+        waves,
+        window,
+    }))
 }
 
 /// The command of the words, `None` where they are no command. It takes no memory.
 pub fn read_words(words: &Vec<String>) -> Option<ToolWords<'_>>
     ensures { option_map seen_command result ≡ command_in words.now.items }
 {
-    match words.as_slice() {
-        [command, a, b, c, d, rest @ ..] => more_words(
-            command.as_str(),
-            a.as_str(),
-            b.as_str(),
-            c.as_str(),
-            d.as_str(),
-            rest,
-        ),
-        [] | [_] | [_, _] | [_, _, _] | [_, _, _, _] => None,
+    let [name, words @ ..] = words.as_slice() else {
+        return None;
+    };
+    let name = name.as_str();
+    if name == "list" {
+        read_list(words)
+    } else if name == "explain" {
+        read_explain(words)
+    } else if name == "where" {
+        read_where(words)
+    } else if name == "picture" {
+        read_picture(words)
+    } else if name == "tighten" {
+        read_tighten(words)
+    } else if name == "wave" {
+        read_wave(words)
+    } else {
+        None
     }
 }

@@ -1,5 +1,5 @@
 -- What an audit that says yes means, and what it says of the text that a compile of the same files writes.
-use Rattle.std.specs.Prelude.{All, IfSome, ◌<◌, Ok, Result}
+use Rattle.std.specs.Prelude.{All, ◌<◌, Ok, Result}
 use Rattle.std.specs.Option.{option_map}
 use Rattle.std.proofs.Common.{◌≡◌, ℕ, true, false, Option, Some, None, List, [], ◌∷◌, length, refl, sym, ap, ◌∙◌, subst, arith}
 use Rattle.ij_io.specs.Files.{Files, bytes_of}
@@ -23,18 +23,18 @@ use Rattle.ijtag_stages.specs.Nested.{IsNested}
 use Rattle.ijtag_stages.specs.SvfText.{svf_text}
 use Rattle.ijtag_stages.specs.declared.network.Network.{Network}
 use Rattle.ijtag_work.specs.Accepted.{SeenAccepted, accepted, accepted_of, if_given, listed}
-use Rattle.ijtag_work.specs.Audited.{DoAsMeant, IfAudits, IsOwnText, OwnTextsPass, WrittenTextsPass}
-use Rattle.ijtag_work.specs.Command.{Command, Compiles, Plays, Directs, Runs, Makes, Migrates, Audit, Audits, MuxTests, own_compile}
+use Rattle.ijtag_work.specs.Audited.{DoAsMeant, OwnTextsPass, PassesOwnText, WrittenTextsPass}
+use Rattle.ijtag_work.specs.Command.{Command, Audit, Audits}
+use Rattle.ijtag_work.specs.Inputs.{OfAudit, OfProcedure, loads_of, texts_of}
 use Rattle.ijtag_work.specs.Leaves.{Leaves, Written}
 use Rattle.ijtag_work.specs.Loads.{loaded, loaded_one}
-use Rattle.ijtag_work.specs.Order.{audit, compile, filed, line_of, task, told, verdict_of, written_text}
+use Rattle.ijtag_work.specs.Order.{filed, line_of, task, told, verdict_of, written_text}
 use Rattle.ijtag_work.specs.Task.{work}
-use Rattle.ijtag_work.specs.Using.{ArePlayable, IsUsable, seen_accepted, steps_of, there}
+use Rattle.ijtag_work.specs.Using.{IsUsable, seen_accepted, steps_of, there}
 use Rattle.ijtag_work.specs.declared.accepted.Accepted.{Accepted}
 use Rattle.ijtag_work.specs.declared.accepted.Procedure.{Procedure}
-use Rattle.ijtag_work.specs.Runs.{Counts, LoadRose, WriteRose, IsOrMemory, status_if}
+use Rattle.ijtag_work.specs.Runs.{Counts, IfTold, LoadRose, WriteRose, IsOrMemory, status_if}
 use Rattle.ijtag_work.specs.declared.status.Status.{Status}
-use Rattle.ijtag_work.specs.declared.status.Status.TheVariants.{Good}
 
 -- ---- a yes
 
@@ -103,7 +103,7 @@ module _ (scripts : PlansAreScripts) (pass : PlannedScriptsPass) (listed : Plans
     abbrev bytes : List ℕ
     bytes = bytes_of files a.svf
 
-    own_loaded : (texts : List (List ℕ)) → length bytes < 90000000 → (loaded (Some files) (compile (own_compile a)).loads).gives texts → (loaded (Some files) (audit a).loads).gives (bytes ∷ texts)
+    own_loaded : (texts : List (List ℕ)) → length bytes < 90000000 → (loaded (Some files) (loads_of (OfProcedure a.procedure))).gives texts → (loaded (Some files) (loads_of (OfAudit a))).gives (bytes ∷ texts)
     unfolding loaded_one
     own_loaded texts few read = (bytes, (omega (arith, few), refl), (texts, read, refl))
 
@@ -111,8 +111,8 @@ module _ (scripts : PlansAreScripts) (pass : PlannedScriptsPass) (listed : Plans
     abbrev with_commands : SeenAccepted → List SeenCommand → SeenAccepted
     with_commands it commands = record { network = it.network; device = it.device; models = it.models; svf = bytes; commands = commands; steps = it.steps }
 
-    own_accepted : (texts : List (List ℕ)) (it : SeenAccepted) (commands : List SeenCommand) → (accepted_of ((compile (own_compile a)).texts texts)).gives it → svf bytes ≡ Ok commands
-        → (accepted_of ((audit a).texts (bytes ∷ texts))).gives (with_commands it commands)
+    own_accepted : (texts : List (List ℕ)) (it : SeenAccepted) (commands : List SeenCommand) → (accepted_of (texts_of (OfProcedure a.procedure) texts)).gives it → svf bytes ≡ Ok commands
+        → (accepted_of (texts_of (OfAudit a) (bytes ∷ texts))).gives (with_commands it commands)
     unfolding accepted if_given svf_text
     own_accepted (icl ∷ pdl ∷ device ∷ []) it commands is read = (
       is.0,
@@ -143,12 +143,9 @@ module _ (scripts : PlansAreScripts) (pass : PlannedScriptsPass) (listed : Plans
         ),
       ),
     )
-    own_accepted [] it commands is read = absurd is
-    own_accepted (x ∷ []) it commands is read = absurd is
-    own_accepted (x ∷ y ∷ []) it commands is read = absurd is
-    own_accepted (x ∷ y ∷ z ∷ w ∷ rest) it commands is read = absurd is
+    own_accepted _ it commands is read = absurd is
 
-    own_passes : (texts : List (List ℕ)) (it : SeenAccepted) → (loaded (Some files) (compile (own_compile a)).loads).gives texts → (accepted_of ((compile (own_compile a)).texts texts)).gives it
+    own_passes : (texts : List (List ℕ)) (it : SeenAccepted) → (loaded (Some files) (loads_of (OfProcedure a.procedure))).gives texts → (accepted_of (texts_of (OfProcedure a.procedure) texts)).gives it
         → DoSteps it.network.net it.network.form it.device it.steps bytes → (text : List ℕ) × (work (Some files) (task (Audits a))).gives (told text false)
     own_passes texts it read is r =
         let net = it.network.net in
@@ -178,15 +175,7 @@ module _ (scripts : PlansAreScripts) (pass : PlannedScriptsPass) (listed : Plans
 -- ---- so the status of such an audit
 
 pub own_good : OwnTextsPass → (words : Option Command) (files : Option Files) (c : Counts) (result : Status)
-    → IfSome words (λ command. IfSome files (λ f. (leaves : Leaves) → (work (Some f) (task command)).gives leaves → (LoadRose (task command) c → ⊥) → (WriteRose (task command) c → ⊥) → IsOrMemory result (status_if leaves.differs)))
-    → IfSome words (λ command. IfSome files (λ f. IfAudits command (λ a. IsOwnText f a → (LoadRose (task command) c → ⊥) → (WriteRose (task command) c → ⊥) → IsOrMemory result Good)))
-own_good pass None files c result complete = tt
-own_good pass (Some command) None c result complete = tt
+    → IfTold words files (λ command f. (leaves : Leaves) → (work (Some f) (task command)).gives leaves → (LoadRose (task command) c → ⊥) → (WriteRose (task command) c → ⊥) → IsOrMemory result (status_if leaves.differs))
+    → PassesOwnText words files c result
 own_good pass (Some (Audits a)) (Some f) c result complete = λ own no_load no_write. complete (told (pass f a own).0 false) (pass f a own).1 no_load no_write
-own_good pass (Some (Compiles x)) (Some f) c result complete = tt
-own_good pass (Some (Plays x)) (Some f) c result complete = tt
-own_good pass (Some (Directs x)) (Some f) c result complete = tt
-own_good pass (Some (Runs x)) (Some f) c result complete = tt
-own_good pass (Some (Makes x)) (Some f) c result complete = tt
-own_good pass (Some (Migrates x)) (Some f) c result complete = tt
-own_good pass (Some (MuxTests x)) (Some f) c result complete = tt
+own_good pass _ _ c result complete = tt

@@ -1,5 +1,5 @@
 -- The work of a command comes to one end at most: what is given is one value, and then nothing is refused; and a refusal is one.
-use Rattle.std.proofs.Common.{refl, subst, ◌≡◌, ◌⊎◌, inl, inr, ◌<◌, ◌≤◌, ◌∙◌, sym, ap, ℕ, Option, Some, None, Result, Ok, List, [], ◌∷◌, length, codes, arith}
+use Rattle.std.proofs.Common.{refl, subst, ◌≡◌, ◌⊎◌, inl, inr, ◌<◌, ◌≤◌, ◌∙◌, sym, ap, ℕ, Option, Some, None, Result, Ok, List, [], ◌∷◌, length, arith}
 use Rattle.ij_io.specs.Files.{Files, bytes_of}
 use Rattle.headline.specs.Retargeting.{TextsAreOne}
 use Rattle.bench_report.specs.Report.{named_report}
@@ -22,9 +22,10 @@ use Rattle.ijtag_stages.specs.Work.{◌>>=◌, IsDecided}
 use Rattle.ijtag_stages.proofs.Turns.{give_decided, never_decided, in_turn_decided}
 use Rattle.ijtag_work.specs.Accepted.{SeenAccepted, Texts, accepted, accepted_of, followed, if_given}
 use Rattle.ijtag_work.specs.Command.{Command, Compiles, Plays, Directs, Runs, Make, Makes, made_svf, Migrates, Audits, MuxTests}
+use Rattle.ijtag_work.specs.Inputs.{texts_of}
 use Rattle.ijtag_work.specs.Leaves.{Leaves, Written}
 use Rattle.ijtag_work.specs.Loads.{Load, loaded, loaded_one}
-use Rattle.ijtag_work.specs.Order.{accepted_made, audit, commands_of, compile, compiled, direct, direct_texts, made_files, made_of, make_work, mux_test, mux_tested, play, read_tables_of, run, run_of, run_report, taken, taken_one, task, within_limit, written_text}
+use Rattle.ijtag_work.specs.Order.{accepted_made, audit, commands_of, compile, compiled, direct, made_files, made_inputs, made_of, make_work, mux_test, mux_tested, play, read_tables_of, run, run_of, run_report, taken, taken_one, task, within_limit, written_text}
 use Rattle.mux_test.specs.Test.{scanned}
 use Rattle.ijtag_work.specs.Runs.{AreDecided, AreSettled, IsSettled}
 use Rattle.ijtag_work.specs.Task.{Row, Task, row_work, work}
@@ -151,7 +152,7 @@ module _ (stages : StagesAreDecided) (texts_one : TextsAreOne) (places_one : Pla
 
   -- a command that accepts texts
   row_decided : (row : Row) → ((it : SeenAccepted) → IsDecided (row.leaves it)) → (texts : List (List ℕ)) → IsDecided (row_work row texts)
-  row_decided row leaves texts = in_turn_decided (accepted_of (row.texts texts)) _ (accepted_of_decided (row.texts texts)) leaves
+  row_decided row leaves texts = in_turn_decided (accepted_of (texts_of row.inputs texts)) _ (accepted_of_decided (texts_of row.inputs texts)) leaves
 
   compiled_decided : (name : List ℕ) (it : SeenAccepted) → IsDecided (compiled name it)
   compiled_decided name it = in_turn_decided (written_text it) _ (written_decided texts_one it) (λ bytes. give_decided _)
@@ -170,7 +171,7 @@ module _ (stages : StagesAreDecided) (texts_one : TextsAreOne) (places_one : Pla
 
   accepted_made_decided : (ws : List Written) → IsDecided (accepted_made ws)
   unfolding accepted_made
-  accepted_made_decided ws = in_turn_decided (taken ws) _ (taken_decided ws) (λ texts. accepted_of_decided (direct_texts (codes "chip") (codes "p") texts))
+  accepted_made_decided ws = in_turn_decided (taken ws) _ (taken_decided ws) (λ texts. accepted_of_decided (made_inputs texts))
 
   make_decided : (m : Make) (texts : List (List ℕ)) → IsDecided (make_work m texts)
   make_decided m texts =

@@ -9,7 +9,10 @@ pub mod Late
 pub mod Running
 pub mod Verdicts
 pub mod Deciding
+pub mod Totals
 pub mod Statuses
+pub mod Ended
+pub mod ByStatus
 pub mod Audits
 pub mod Counted
 pub mod Alike

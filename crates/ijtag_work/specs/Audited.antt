@@ -9,11 +9,14 @@ use Rattle.svf_audit.specs.Report.{says_no}
 use Rattle.svf_reader.specs.Meaning.{svf}
 use Rattle.svf_writer.specs.SeenCommands.{SeenCommand}
 use Rattle.ijtag_work.specs.Accepted.{SeenAccepted}
-use Rattle.ijtag_work.specs.Command.{Command, Compiles, Plays, Directs, Runs, Makes, Migrates, Audit, Audits, MuxTests, own_compile}
+use Rattle.ijtag_work.specs.Command.{Command, Compiles, Audit, Audits, MuxTests, own_compile}
 use Rattle.ijtag_work.specs.Tested.{IsTested}
 use Rattle.ijtag_work.specs.Order.{audit, filed, task, told, written_text}
 use Rattle.ijtag_work.specs.Promises.{AcceptedWith}
+use Rattle.ijtag_work.specs.Runs.{Counts, IsOrMemory, LoadRose, WriteRose}
 use Rattle.ijtag_work.specs.Task.{work}
+use Rattle.ijtag_work.specs.declared.status.Status.{Status}
+use Rattle.ijtag_work.specs.declared.status.Status.TheVariants.{Good}
 
 -- the audit says yes of commands of SVF, and these, played clock by clock from power-up, do what the procedure means, and compare
 -- exactly what it reads, whatever the instruments are
@@ -30,20 +33,20 @@ PlayAsMeant it = DoAsMeant it it.commands
 abbrev pub IsAudited : Option Files → Audit → Type 0
 IsAudited files a = AcceptedWith (audit a) files PlayAsMeant
 
--- what holds where a command is an audit
-abbrev pub IfAudits : Command → (Audit → Type 0) → Type 0
-IfAudits (Audits a) P = P a
-IfAudits (Compiles c) P = Unit {0}
-IfAudits (Plays p) P = Unit {0}
-IfAudits (Directs d) P = Unit {0}
-IfAudits (Runs r) P = Unit {0}
-IfAudits (Makes m) P = Unit {0}
-IfAudits (Migrates m) P = Unit {0}
-IfAudits (MuxTests m) P = Unit {0}
+-- where the words are an audit, it is so
+abbrev pub AuditIsTrue : Option Files → Option Command → Type 0
+AuditIsTrue files (Some (Audits a)) = IsAudited files a
+AuditIsTrue files _ = Unit {0}
 
 -- the audited file holds the text that a compile of the same procedure writes to it
 abbrev pub IsOwnText : Files → Audit → Type 0
 IsOwnText files a = (work (Some files) (task (Compiles (own_compile a)))).gives (filed a.svf (bytes_of files a.svf))
+
+-- where the words are an audit of it, the run ends as good where no fault is counted, or there was no memory
+abbrev pub PassesOwnText : Option Command → Option Files → Counts → Status → Type 0
+PassesOwnText (Some (Audits a)) (Some files) c result =
+    IsOwnText files a → ¬ LoadRose (task (Audits a)) c → ¬ WriteRose (task (Audits a)) c → IsOrMemory result Good
+PassesOwnText _ _ c result = Unit {0}
 
 -- so an audit, which is accepted, says yes of it
 abbrev pub OwnTextsPass : Type 0
@@ -59,10 +62,5 @@ WrittenTextsPass =
 -- without a difference, that what it audits is so, and of a mux test, that its SVF file is the test of what was accepted
 abbrev pub IsPromised : Command → Option Files → (List ℕ → Option (Option (List ℕ))) → Bool → Type 0
 IsPromised (Audits a) files file differs = differs ≡ false → IsAudited files a
-IsPromised (Compiles c) files file differs = Unit {0}
-IsPromised (Plays p) files file differs = Unit {0}
-IsPromised (Directs d) files file differs = Unit {0}
-IsPromised (Runs r) files file differs = Unit {0}
-IsPromised (Makes m) files file differs = Unit {0}
-IsPromised (Migrates m) files file differs = Unit {0}
 IsPromised (MuxTests m) files file differs = IsTested files (file m.svf) m
+IsPromised _ files file differs = Unit {0}

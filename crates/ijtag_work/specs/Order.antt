@@ -1,5 +1,5 @@
--- The table of commands: what each loads, in its words' order, which of the loaded texts are what, what it writes and prints, and what it
--- leaves of what they are accepted as. In which order they are accepted is the same for all commands: see Accepted.
+-- The table of commands: the texts that each accepts, what it writes and prints, and what it leaves of what they are accepted as. How they
+-- are loaded and accepted is said once for all commands: see Inputs and Accepted.
 use Rattle.std.specs.Prelude.{◌≡◌, ◌⊎◌, ◌<◌, ◌≤◌, ◌++◌, ℕ, Bool, true, false, List, [], ◌∷◌, length, Option, Some, None, Ok, codes}
 use Rattle.svf_writer.specs.SeenCommands.{SeenCommand}
 use Rattle.table_file.specs.Tables.{SeenTable}
@@ -25,7 +25,8 @@ use Rattle.ijtag_stages.specs.declared.refusal.Stage.TheVariants.{File, Make as 
 use Rattle.ijtag_work.specs.Accepted.{SeenAccepted, Texts, accepted_of}
 use Rattle.ijtag_work.specs.Command.{Command, Compile, Compiles, Play, Plays, Direct, Directs, Run, Runs, Make, Makes, made_names, made_svf, Migrate, Migrates, Audit, Audits, MuxTest, MuxTests}
 use Rattle.ijtag_work.specs.Leaves.{Leaves, Written}
-use Rattle.ijtag_work.specs.Loads.{source, svf_file}
+use Rattle.ijtag_work.specs.Inputs.{OfAudit, OfDirect, OfNetwork, OfPlay, OfProcedure}
+use Rattle.ijtag_work.specs.Loads.{source}
 use Rattle.ijtag_work.specs.Task.{Row, Task, task_of}
 
 -- a text is printed, and no file is written
@@ -46,11 +47,6 @@ any_differs (x ∷ xs) = true
 unfoldable pub written_text : SeenAccepted → Part (List ℕ)
 written_text it = record { gives = λ bytes. DoSteps it.network.net it.network.form it.device it.steps bytes; refuses = λ r. ⊥ }
 
-abbrev pub compile_texts : List ℕ → List ℕ → List (List ℕ) → Option Texts
-compile_texts top procedure (icl ∷ pdl ∷ device ∷ []) =
-    Some (record { icl = icl; device = device; tables = None; svf = None; top = top; pdl = Some pdl; procedure = procedure })
-compile_texts top procedure _ = None
-
 abbrev pub compiled : List ℕ → SeenAccepted → Part Leaves
 compiled name it = do
   bytes ← written_text it
@@ -58,19 +54,13 @@ compiled name it = do
 
 abbrev pub compile : Compile → Row
 compile c = record {
-  loads = source c.icl ∷ source c.pdl ∷ source c.device ∷ [];
-  texts = compile_texts c.top c.procedure;
+  inputs = OfProcedure c.procedure;
   writes = c.svf ∷ [];
   prints = false;
   leaves = compiled c.svf;
 }
 
 -- ---- play: the report of the play of the SVF text from power-up is printed
-
-abbrev pub play_texts : List ℕ → List (List ℕ) → Option Texts
-play_texts top (svf ∷ icl ∷ device ∷ tables ∷ []) =
-    Some (record { icl = icl; device = device; tables = Some tables; svf = Some svf; top = top; pdl = None; procedure = [] })
-play_texts top _ = None
 
 -- the compares of some commands that differ
 abbrev pub differs_at : SeenAccepted → List SeenCommand → List Compare
@@ -84,19 +74,13 @@ played it = told (report_of it) (any_differs (differs_at it it.commands))
 
 abbrev pub play : Play → Row
 play p = record {
-  loads = svf_file p.svf ∷ source p.icl ∷ source p.device ∷ source p.tables ∷ [];
-  texts = play_texts p.top;
+  inputs = OfPlay p;
   writes = [];
   prints = true;
   leaves = λ it. give (played it);
 }
 
 -- ---- direct: the report of what the procedure means, with no chain and no clock, is printed
-
-abbrev pub direct_texts : List ℕ → List ℕ → List (List ℕ) → Option Texts
-direct_texts top procedure (icl ∷ pdl ∷ device ∷ tables ∷ []) =
-    Some (record { icl = icl; device = device; tables = Some tables; svf = None; top = top; pdl = Some pdl; procedure = procedure })
-direct_texts top procedure _ = None
 
 unfoldable pub meaning_of : SeenAccepted → List ℕ
 meaning_of it = direct_report it.network.net it.models it.steps
@@ -109,8 +93,7 @@ meant it = told (meaning_of it) (reads_differ it)
 
 abbrev pub direct : Direct → Row
 direct d = record {
-  loads = source d.icl ∷ source d.pdl ∷ source d.device ∷ source d.tables ∷ [];
-  texts = direct_texts d.top d.procedure;
+  inputs = OfDirect d;
   writes = [];
   prints = true;
   leaves = λ it. give (meant it);
@@ -143,19 +126,13 @@ run_of name it = do
 
 abbrev pub run : Run → Row
 run r = record {
-  loads = source r.icl ∷ source r.pdl ∷ source r.device ∷ source r.tables ∷ [];
-  texts = direct_texts r.top r.procedure;
+  inputs = OfDirect r.direct;
   writes = r.svf ∷ [];
   prints = true;
   leaves = run_of r.svf;
 }
 
 -- ---- audit: one line is printed that tells what the audit of the SVF text for the procedure says
-
-abbrev pub audit_texts : List ℕ → List ℕ → List (List ℕ) → Option Texts
-audit_texts top procedure (svf ∷ icl ∷ pdl ∷ device ∷ []) =
-    Some (record { icl = icl; device = device; tables = None; svf = Some svf; top = top; pdl = Some pdl; procedure = procedure })
-audit_texts top procedure _ = None
 
 abbrev pub verdict_of : SeenAccepted → Verdict
 verdict_of it = audit_commands it.network.net it.device it.steps it.commands
@@ -168,8 +145,7 @@ audited it = told (line_of it) (says_no (verdict_of it))
 
 abbrev pub audit : Audit → Row
 audit a = record {
-  loads = svf_file a.svf ∷ source a.icl ∷ source a.pdl ∷ source a.device ∷ [];
-  texts = audit_texts a.top a.procedure;
+  inputs = OfAudit a;
   writes = [];
   prints = true;
   leaves = λ it. give (audited it);
@@ -208,11 +184,17 @@ taken (w ∷ ws) = do
   texts ← taken ws
   give (text ∷ texts)
 
+-- they are the texts of a direct
+abbrev pub made_inputs : List (List ℕ) → Option Texts
+made_inputs (icl ∷ pdl ∷ device ∷ tables ∷ []) =
+    Some (record { icl = icl; device = device; tables = Some tables; svf = None; top = codes "chip"; pdl = Some pdl; procedure = codes "p" })
+made_inputs _ = None
+
 -- what they are accepted as
 unfoldable pub accepted_made : List Written → Part SeenAccepted
 accepted_made ws = do
   texts ← taken ws
-  accepted_of (direct_texts (codes "chip") (codes "p") texts)
+  accepted_of (made_inputs texts)
 
 -- the files are there, and the totals are printed
 abbrev pub made : List Written → List ℕ → List ℕ → List ℕ → Bool → Leaves
@@ -267,11 +249,6 @@ within_limit it = record {
   refuses = λ r. (8192 < length (scanned it.network.net it.network.form)) × (r ≡ refused_limit Muxtest (codes "Scans") 8192);
 }
 
-abbrev pub mux_test_texts : List ℕ → List (List ℕ) → Option Texts
-mux_test_texts top (icl ∷ device ∷ []) =
-    Some (record { icl = icl; device = device; tables = None; svf = None; top = top; pdl = None; procedure = [] })
-mux_test_texts top _ = None
-
 unfoldable pub test_text_of : SeenAccepted → List ℕ
 test_text_of it = test_text it.network.net it.network.form it.device
 
@@ -285,8 +262,7 @@ mux_tested name it = do
 
 abbrev pub mux_test : MuxTest → Row
 mux_test m = record {
-  loads = source m.icl ∷ source m.device ∷ [];
-  texts = mux_test_texts m.top;
+  inputs = OfNetwork m.network;
   writes = m.svf ∷ [];
   prints = true;
   leaves = mux_tested m.svf;

@@ -7,7 +7,7 @@ use Rattle.ij_io.specs.Files.{Files, file_at}
 use Rattle.retargeter.specs.Files.{HoldsPart}
 use Rattle.ijtag_work.specs.Loads.{Load, loaded, loaded_one, names_of, IsOneOf, IsNoneOf}
 use Rattle.ijtag_work.specs.Leaves.{Leaves, Written}
-use Rattle.ijtag_stages.specs.Work.{IsDecided}
+use Rattle.ijtag_stages.specs.Work.{IsDecided, IsTotal}
 use Rattle.ijtag_work.specs.Task.{Task, work}
 use Rattle.ijtag_stages.specs.Refusals.{Part, Refusal}
 use Rattle.ijtag_work.specs.Accepted.{Texts, accepted_of}
@@ -219,6 +219,11 @@ IsPartStatus OutOfMemory = Unit {0}
 
 abbrev pub AreDecided : {C : Type 0} → (C → Task) → Type 0
 AreDecided {C} task = (files : Files) (command : C) → IsDecided (work (Some files) (task command))
+
+-- ---- and to one end at least: what is asked is done, or it meets a refusal
+
+abbrev pub AreTotal : {C : Type 0} → (C → Task) → Type 0
+AreTotal {C} task = (files : Files) (command : C) → IsTotal (work (Some files) (task command))
 
 -- ---- and where it may leave one thing or another, all differ alike, and nothing is refused
 

@@ -3,7 +3,8 @@ use Rattle.std.specs.Prelude.{ℕ, Bool, List, [], Option}
 use Rattle.ij_io.specs.Files.{Files}
 use Rattle.ijtag_stages.specs.Refusals.{Part}
 use Rattle.ijtag_stages.specs.Work.{never, ◌>>=◌}
-use Rattle.ijtag_work.specs.Accepted.{SeenAccepted, Texts, accepted_of}
+use Rattle.ijtag_work.specs.Accepted.{SeenAccepted, accepted_of}
+use Rattle.ijtag_work.specs.Inputs.{Inputs, loads_of, texts_of}
 use Rattle.ijtag_work.specs.Leaves.{Leaves, Written}
 use Rattle.ijtag_work.specs.Loads.{Load, loaded}
 
@@ -25,20 +26,18 @@ work files task = do
   texts ← loaded files task.loads
   task.work_on texts
 
--- ---- a command that accepts texts, and writes and prints nothing before: the texts among those that were loaded, and what it
--- leaves of what they are accepted as
+-- ---- a command that accepts texts, and writes and prints nothing before: its texts, and what it leaves of what they are accepted as
 
 pub record Row : Type 1 where
-  pub loads : List Load
-  pub texts : List (List ℕ) → Option Texts
+  pub inputs : Inputs
   pub writes : List (List ℕ)
   pub prints : Bool
   pub leaves : SeenAccepted → Part Leaves
 
 abbrev pub row_work : Row → List (List ℕ) → Part Leaves
 row_work row texts = do
-  it ← accepted_of (row.texts texts)
+  it ← accepted_of (texts_of row.inputs texts)
   row.leaves it
 
 abbrev pub task_of : Row → Task
-task_of row = record { loads = row.loads; begins = never; first_writes = []; writes = row.writes; prints = row.prints; work_on = row_work row }
+task_of row = record { loads = loads_of row.inputs; begins = never; first_writes = []; writes = row.writes; prints = row.prints; work_on = row_work row }

@@ -11,7 +11,7 @@ use Rattle.mux_test.specs.Laws.{AreReached, IsQuiet, compared, stuck}
 use Rattle.mux_test.specs.Seen.{is_seen_in_test}
 use Rattle.mux_test.specs.Test.{test_commands, test_text, tested}
 use Rattle.ijtag_work.specs.Accepted.{SeenAccepted}
-use Rattle.ijtag_work.specs.Command.{Command, Compiles, Plays, Directs, Runs, Makes, Migrates, Audits, MuxTest, MuxTests}
+use Rattle.ijtag_work.specs.Command.{Command, MuxTest, MuxTests}
 use Rattle.ijtag_work.specs.Order.{mux_test, test_text_of}
 use Rattle.ijtag_work.specs.Promises.{AcceptedWith}
 
@@ -33,13 +33,7 @@ pub record HasRightTest (files : Option Files) (svf : Option (Option (List ℕ))
 abbrev pub IsTested : Option Files → Option (Option (List ℕ)) → MuxTest → Type 0
 IsTested files svf m = AcceptedWith (mux_test m) files (HasRightTest files svf)
 
--- what holds where a command is a mux test
-abbrev pub IfTests : Command → (MuxTest → Type 0) → Type 0
-IfTests (MuxTests m) P = P m
-IfTests (Compiles c) P = Unit {0}
-IfTests (Plays p) P = Unit {0}
-IfTests (Directs d) P = Unit {0}
-IfTests (Runs r) P = Unit {0}
-IfTests (Makes m) P = Unit {0}
-IfTests (Migrates m) P = Unit {0}
-IfTests (Audits a) P = Unit {0}
+-- where the words are a mux test, its SVF file is so
+abbrev pub TestIsRight : Option Files → (List ℕ → Option (Option (List ℕ))) → Option Command → Type 0
+TestIsRight files file (Some (MuxTests m)) = IsTested files (file m.svf) m
+TestIsRight files file _ = Unit {0}

@@ -18,6 +18,7 @@ use Rattle.ijtag_stages.specs.Nested.{IsNested}
 use Rattle.ijtag_stages.specs.Seen.{seen_network}
 use Rattle.ijtag_stages.specs.declared.network.Network.{Network}
 use Rattle.ijtag_work.specs.Accepted.{SeenAccepted, Texts, listed}
+use Rattle.ijtag_work.specs.Inputs.{Inputs, OfAudit, OfDirect, OfNetwork, OfPlay, OfProcedure}
 use Rattle.ijtag_work.specs.declared.accepted.Accepted.{Accepted}
 use Rattle.ijtag_work.specs.declared.accepted.Procedure.{Procedure}
 use Rattle.ijtag_work.specs.declared.accepted.Texts.{Texts as NamedTexts}
@@ -71,6 +72,13 @@ pub record Needs : Type 0 where
 
 abbrev pub needs_of : Texts → Needs
 needs_of texts = record { tables = there texts.tables; svf = there texts.svf; pdl = there texts.pdl }
+
+abbrev pub needs_in : Inputs → Needs
+needs_in (OfNetwork n) = record { tables = false; svf = false; pdl = false }
+needs_in (OfProcedure p) = record { tables = false; svf = false; pdl = true }
+needs_in (OfDirect d) = record { tables = true; svf = false; pdl = true }
+needs_in (OfPlay p) = record { tables = true; svf = true; pdl = false }
+needs_in (OfAudit a) = record { tables = false; svf = true; pdl = true }
 
 -- commands that can be played and audited
 pub record ArePlayable (commands : List SeenCommand) : Type 0 where

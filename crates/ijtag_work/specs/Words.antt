@@ -1,31 +1,35 @@
 -- The words of the program as contracts see them: with plain lists.
-use Rattle.ijtag_work.specs.Command.{Command, Compile, Play, Direct, Run, Make, Migrate, Audit, MuxTest, Compiles, Plays, Directs, Runs, Makes, Migrates, Audits, MuxTests}
+use Rattle.ijtag_work.specs.Command.{Command, Network, Procedure, Compile, Play, Direct, Run, Make, Migrate, Audit, MuxTest, Compiles, Plays, Directs, Runs, Makes, Migrates, Audits, MuxTests}
+use Rattle.ijtag_work.specs.declared.inputs.NetworkWords.{NetworkWords}
+use Rattle.ijtag_work.specs.declared.inputs.ProcedureWords.{ProcedureWords}
+use Rattle.ijtag_work.specs.declared.inputs.DirectWords.{DirectWords}
+use Rattle.ijtag_work.specs.declared.inputs.PlayWords.{PlayWords}
+use Rattle.ijtag_work.specs.declared.inputs.AuditWords.{AuditWords}
 use Rattle.ijtag_work.specs.declared.words.CompileWords.{CompileWords}
-use Rattle.ijtag_work.specs.declared.words.PlayWords.{PlayWords}
-use Rattle.ijtag_work.specs.declared.words.DirectWords.{DirectWords}
 use Rattle.ijtag_work.specs.declared.words.RunWords.{RunWords}
 use Rattle.ijtag_work.specs.declared.words.MakeWords.{MakeWords}
 use Rattle.ijtag_work.specs.declared.words.MigrateWords.{MigrateWords}
-use Rattle.ijtag_work.specs.declared.words.AuditWords.{AuditWords}
 use Rattle.ijtag_work.specs.declared.words.MuxTestWords.{MuxTestWords}
 use Rattle.ijtag_work.specs.declared.words.CommandWords.{CommandWords}
 use Rattle.ijtag_work.specs.declared.words.CommandWords.TheVariants.{Compile as CompileCommand, Play as PlayCommand, Direct as DirectCommand, Run as RunCommand, Make as MakeCommand, Migrate as MigrateCommand, Audit as AuditCommand, MuxTest as MuxTestCommand}
 
+abbrev pub seen_network : NetworkWords → Network
+seen_network words = record { icl = words.icl.now; device = words.device.now; top = words.top.now }
+
+abbrev pub seen_procedure : ProcedureWords → Procedure
+seen_procedure words = record { network = seen_network words.network; pdl = words.pdl.now; name = words.name.now }
+
 abbrev pub seen_compile : CompileWords → Compile
-seen_compile words =
-    record { icl = words.icl.now; pdl = words.pdl.now; device = words.device.now; top = words.top.now; procedure = words.procedure.now; svf = words.svf.now }
+seen_compile words = record { procedure = seen_procedure words.procedure; svf = words.svf.now }
 
 abbrev pub seen_play : PlayWords → Play
-seen_play words =
-    record { svf = words.svf.now; icl = words.icl.now; device = words.device.now; tables = words.tables.now; top = words.top.now }
+seen_play words = record { svf = words.svf.now; network = seen_network words.network; tables = words.tables.now }
 
 abbrev pub seen_direct : DirectWords → Direct
-seen_direct words =
-    record { icl = words.icl.now; pdl = words.pdl.now; device = words.device.now; tables = words.tables.now; top = words.top.now; procedure = words.procedure.now }
+seen_direct words = record { procedure = seen_procedure words.procedure; tables = words.tables.now }
 
 abbrev pub seen_run : RunWords → Run
-seen_run words =
-    record { icl = words.icl.now; pdl = words.pdl.now; device = words.device.now; tables = words.tables.now; top = words.top.now; procedure = words.procedure.now; svf = words.svf.now }
+seen_run words = record { direct = seen_direct words.direct; svf = words.svf.now }
 
 abbrev pub seen_make : MakeWords → Make
 seen_make words = record { seed = words.seed; size = words.size; stem = words.stem.now }
@@ -34,11 +38,10 @@ abbrev pub seen_migrate : MigrateWords → Migrate
 seen_migrate words = record { tables = words.tables.now; written = words.written.now }
 
 abbrev pub seen_audit : AuditWords → Audit
-seen_audit words =
-    record { svf = words.svf.now; icl = words.icl.now; pdl = words.pdl.now; device = words.device.now; top = words.top.now; procedure = words.procedure.now }
+seen_audit words = record { svf = words.svf.now; procedure = seen_procedure words.procedure }
 
 abbrev pub seen_mux_test : MuxTestWords → MuxTest
-seen_mux_test words = record { icl = words.icl.now; device = words.device.now; top = words.top.now; svf = words.svf.now }
+seen_mux_test words = record { network = seen_network words.network; svf = words.svf.now }
 
 abbrev pub seen_command : CommandWords → Command
 seen_command (CompileCommand words) = Compiles (seen_compile words)

@@ -1,9 +1,10 @@
 // What follows from the order of work.
 ghost use Rattle.ijtag_work.specs.Order.{task};
-ghost use Rattle.ijtag_work.specs.Runs.{AreDecided, AreSettled, LoadsAreDecided, TextsAreDecided};
+ghost use Rattle.ijtag_work.specs.Runs.{AreDecided, AreSettled, AreTotal, LoadsAreDecided, TextsAreDecided};
 
-use headline::planned_steps_law;
-use ijtag_stages::stages_are_decided;
+use headline::{planned_steps_law, procedures_are_plannable};
+use ijtag_stages::{stages_are_decided, stages_are_total};
+use merge_order::{bit_steps_are_few, bit_steps_are_of_the_network};
 use run_report::places_are_one;
 
 /// The work of a command on files comes to one end at most.
@@ -17,6 +18,18 @@ pub fn works_are_decided()
     stages_are_decided();
     planned_steps_law();
     places_are_one();
+}
+
+/// The work of a command on files comes to an end: it can't be that it leaves nothing and meets no refusal. So a text is accepted or
+/// refused, and a command that is accepted has something to leave.
+pub fn works_are_total()
+    ensures { AreTotal task }
+{
+    stages_are_total();
+    planned_steps_law();
+    bit_steps_are_of_the_network();
+    procedures_are_plannable();
+    bit_steps_are_few();
 }
 
 /// What comes before the work of any command that accepts texts comes to one end at most.

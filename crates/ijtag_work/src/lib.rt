@@ -9,6 +9,7 @@ mod accepted;
 mod audited;
 mod decided;
 mod follow;
+mod inputs;
 mod load;
 mod names;
 mod number;
@@ -19,9 +20,10 @@ mod write;
 
 pub use accepted::{Accepted, Procedure, Texts, accept};
 pub use audited::own_texts_pass;
-pub use decided::{texts_are_decided, works_are_decided};
+pub use decided::{texts_are_decided, works_are_decided, works_are_total};
 pub use follow::steps_again;
 use headline::{planned_scripts_law, planned_steps_law};
+pub use inputs::{AuditWords, DirectWords, Inputs, NetworkWords, PlayWords, ProcedureWords};
 pub use load::{Load, load_all};
 pub use names::MadeName;
 use net_bench::events_are_counted;
@@ -30,8 +32,7 @@ use run_report::places_are_one;
 pub use status::{Status, Verdict};
 pub use stop::{Stop, report};
 pub use words::{
-    AuditWords, CommandWords, CompileWords, DirectWords, MakeWords, MigrateWords, MuxTestWords,
-    PlayWords, RunWords, read_words,
+    CommandWords, CompileWords, MakeWords, MigrateWords, MuxTestWords, RunWords, read_words,
 };
 pub use write::write_file;
 

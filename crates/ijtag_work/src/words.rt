@@ -1,134 +1,31 @@
 // The words that the program is called with.
-ghost use Rattle.std.specs.Prelude.{◌≡◌, [], ◌∷◌, map, option_map};
-ghost use Rattle.ijtag_work.specs.Command.{command_in, command_of, make_of, number_of};
-ghost use Rattle.ijtag_work.specs.Order.{audit, compile, direct, migrate, mux_test, play, run};
+ghost use Rattle.std.specs.Prelude.{◌≡◌, map, option_map};
+ghost use Rattle.std.specs.String.{string_bytes};
+ghost use Rattle.ijtag_work.specs.Command.{audit_of, command_in, compile_of, direct_of, make_of, migrate_of, mux_test_of, play_of, run_of};
+ghost use Rattle.ijtag_work.specs.Order.{migrate};
 ghost use Rattle.ijtag_work.specs.Seen.{seen_load};
-ghost use Rattle.ijtag_work.specs.Words.{seen_command, seen_compile, seen_play, seen_direct, seen_run, seen_migrate, seen_audit, seen_mux_test};
+ghost use Rattle.ijtag_work.specs.Words.{seen_command, seen_migrate};
 
+use crate::inputs::{AuditWords, DirectWords, NetworkWords, PlayWords, ProcedureWords};
 use crate::load::Load;
 use crate::number::read_number;
 
 /// The words of `compile ICL PDL DEVICE TOP PROC SVF`.
 #[derive(Clone, Copy)]
 pub struct CompileWords<'a> {
-    /// The file of the network (IEEE 1687-2014, ICL).
-    pub icl: &'a str,
-    /// The file of the procedures (IEEE 1687-2014, PDL level 0).
-    pub pdl: &'a str,
-    /// The file of the device's TAP.
-    pub device: &'a str,
-    /// The top module's name.
-    pub top: &'a str,
-    /// The procedure's name.
-    pub procedure: &'a str,
+    /// The procedure.
+    pub procedure: ProcedureWords<'a>,
     /// The file that is written (Serial Vector Format, revision E).
     pub svf: &'a str,
-}
-
-impl<'a> CompileWords<'a> {
-    /// The files that are loaded, in this order.
-    pub fn loads(&self) -> [Load<'a>; 3]
-        ensures { map seen_load result ≡ (compile (seen_compile self.now)).loads }
-    {
-        [
-            Load::Source(self.icl),
-            Load::Source(self.pdl),
-            Load::Source(self.device),
-        ]
-    }
-}
-
-/// The words of `play SVF ICL DEVICE TABLES TOP`.
-#[derive(Clone, Copy)]
-pub struct PlayWords<'a> {
-    /// The file that is played (Serial Vector Format, revision E).
-    pub svf: &'a str,
-    /// The file of the network (IEEE 1687-2014, ICL).
-    pub icl: &'a str,
-    /// The file of the device's TAP.
-    pub device: &'a str,
-    /// The file of the instruments' tables.
-    pub tables: &'a str,
-    /// The top module's name.
-    pub top: &'a str,
-}
-
-impl<'a> PlayWords<'a> {
-    /// The files that are loaded, in this order.
-    pub fn loads(&self) -> [Load<'a>; 4]
-        ensures { map seen_load result ≡ (play (seen_play self.now)).loads }
-    {
-        [
-            Load::Svf(self.svf),
-            Load::Source(self.icl),
-            Load::Source(self.device),
-            Load::Source(self.tables),
-        ]
-    }
-}
-
-/// The words of `direct ICL PDL DEVICE TABLES TOP PROC`.
-#[derive(Clone, Copy)]
-pub struct DirectWords<'a> {
-    /// The file of the network (IEEE 1687-2014, ICL).
-    pub icl: &'a str,
-    /// The file of the procedures (IEEE 1687-2014, PDL level 0).
-    pub pdl: &'a str,
-    /// The file of the device's TAP.
-    pub device: &'a str,
-    /// The file of the instruments' tables.
-    pub tables: &'a str,
-    /// The top module's name.
-    pub top: &'a str,
-    /// The procedure's name.
-    pub procedure: &'a str,
-}
-
-impl<'a> DirectWords<'a> {
-    /// The files that are loaded, in this order.
-    pub fn loads(&self) -> [Load<'a>; 4]
-        ensures { map seen_load result ≡ (direct (seen_direct self.now)).loads }
-    {
-        [
-            Load::Source(self.icl),
-            Load::Source(self.pdl),
-            Load::Source(self.device),
-            Load::Source(self.tables),
-        ]
-    }
 }
 
 /// The words of `run ICL PDL DEVICE TABLES TOP PROC SVF`.
 #[derive(Clone, Copy)]
 pub struct RunWords<'a> {
-    /// The file of the network (IEEE 1687-2014, ICL).
-    pub icl: &'a str,
-    /// The file of the procedures (IEEE 1687-2014, PDL level 0).
-    pub pdl: &'a str,
-    /// The file of the device's TAP.
-    pub device: &'a str,
-    /// The file of the instruments' tables.
-    pub tables: &'a str,
-    /// The top module's name.
-    pub top: &'a str,
-    /// The procedure's name.
-    pub procedure: &'a str,
+    /// The procedure, and the tables.
+    pub direct: DirectWords<'a>,
     /// The file that is written (Serial Vector Format, revision E).
     pub svf: &'a str,
-}
-
-impl<'a> RunWords<'a> {
-    /// The files that are loaded, in this order.
-    pub fn loads(&self) -> [Load<'a>; 4]
-        ensures { map seen_load result ≡ (run (seen_run self.now)).loads }
-    {
-        [
-            Load::Source(self.icl),
-            Load::Source(self.pdl),
-            Load::Source(self.device),
-            Load::Source(self.tables),
-        ]
-    }
 }
 
 /// The words of `make SEED SIZE STEM`.
@@ -160,57 +57,13 @@ impl<'a> MigrateWords<'a> {
     }
 }
 
-/// The words of `audit SVF ICL PDL DEVICE TOP PROC`.
-#[derive(Clone, Copy)]
-pub struct AuditWords<'a> {
-    /// The file that is audited (Serial Vector Format, revision E).
-    pub svf: &'a str,
-    /// The file of the network (IEEE 1687-2014, ICL).
-    pub icl: &'a str,
-    /// The file of the procedures (IEEE 1687-2014, PDL level 0).
-    pub pdl: &'a str,
-    /// The file of the device's TAP.
-    pub device: &'a str,
-    /// The top module's name.
-    pub top: &'a str,
-    /// The procedure's name.
-    pub procedure: &'a str,
-}
-
-impl<'a> AuditWords<'a> {
-    /// The files that are loaded, in this order.
-    pub fn loads(&self) -> [Load<'a>; 4]
-        ensures { map seen_load result ≡ (audit (seen_audit self.now)).loads }
-    {
-        [
-            Load::Svf(self.svf),
-            Load::Source(self.icl),
-            Load::Source(self.pdl),
-            Load::Source(self.device),
-        ]
-    }
-}
-
 /// The words of `muxtest ICL DEVICE TOP SVF`.
 #[derive(Clone, Copy)]
 pub struct MuxTestWords<'a> {
-    /// The file of the network (IEEE 1687-2014, ICL).
-    pub icl: &'a str,
-    /// The file of the device's TAP.
-    pub device: &'a str,
-    /// The top module's name.
-    pub top: &'a str,
+    /// The network.
+    pub network: NetworkWords<'a>,
     /// The file that is written (Serial Vector Format, revision E).
     pub svf: &'a str,
-}
-
-impl<'a> MuxTestWords<'a> {
-    /// The files that are loaded, in this order.
-    pub fn loads(&self) -> [Load<'a>; 2]
-        ensures { map seen_load result ≡ (mux_test (seen_mux_test self.now)).loads }
-    {
-        [Load::Source(self.icl), Load::Source(self.device)]
-    }
 }
 
 /// The words of a command.
@@ -226,205 +79,151 @@ pub enum CommandWords<'a> {
     MuxTest(MuxTestWords<'a>),
 }
 
-/// The command `make` of its words, where the first two are numbers.
-fn make_words<'a>(seed: &str, size: &str, stem: &'a str) -> Option<CommandWords<'a>>
-    ensures { option_map seen_command result ≡ make_of (number_of seed.now) (number_of size.now) stem.now }
+/// The command `compile` of the words after its name.
+fn read_compile<'a>(words: &'a [String]) -> Option<CommandWords<'a>>
+    ensures { option_map seen_command result ≡ compile_of (map string_bytes words.now) }
 {
+    let [icl, pdl, device, top, name, svf] = words else {
+        return None;
+    };
+    Some(CommandWords::Compile(CompileWords {
+        procedure: ProcedureWords {
+            network: NetworkWords { icl, device, top },
+            pdl,
+            name,
+        },
+        svf,
+    }))
+}
+
+/// The command `play` of the words after its name.
+fn read_play<'a>(words: &'a [String]) -> Option<CommandWords<'a>>
+    ensures { option_map seen_command result ≡ play_of (map string_bytes words.now) }
+{
+    let [svf, icl, device, tables, top] = words else {
+        return None;
+    };
+    Some(CommandWords::Play(PlayWords {
+        svf,
+        network: NetworkWords { icl, device, top },
+        tables,
+    }))
+}
+
+/// The command `direct` of the words after its name.
+fn read_direct<'a>(words: &'a [String]) -> Option<CommandWords<'a>>
+    ensures { option_map seen_command result ≡ direct_of (map string_bytes words.now) }
+{
+    let [icl, pdl, device, tables, top, name] = words else {
+        return None;
+    };
+    Some(CommandWords::Direct(DirectWords {
+        procedure: ProcedureWords {
+            network: NetworkWords { icl, device, top },
+            pdl,
+            name,
+        },
+        tables,
+    }))
+}
+
+/// The command `run` of the words after its name.
+fn read_run<'a>(words: &'a [String]) -> Option<CommandWords<'a>>
+    ensures { option_map seen_command result ≡ run_of (map string_bytes words.now) }
+{
+    let [icl, pdl, device, tables, top, name, svf] = words else {
+        return None;
+    };
+    Some(CommandWords::Run(RunWords {
+        direct: DirectWords {
+            procedure: ProcedureWords {
+                network: NetworkWords { icl, device, top },
+                pdl,
+                name,
+            },
+            tables,
+        },
+        svf,
+    }))
+}
+
+/// The command `make` of the words after its name.
+fn read_make<'a>(words: &'a [String]) -> Option<CommandWords<'a>>
+    ensures { option_map seen_command result ≡ make_of (map string_bytes words.now) }
+{
+    let [seed, size, stem] = words else {
+        return None;
+    };
     let seed = read_number(seed)?;
     let size = read_number(size)?;
     Some(CommandWords::Make(MakeWords { seed, size, stem }))
 }
 
-/// The command of three words.
-fn three_words<'a>(command: &str, first: &'a str, second: &'a str) -> Option<CommandWords<'a>>
-    ensures { option_map seen_command result ≡ command_of (command.now ∷ first.now ∷ second.now ∷ []) }
+/// The command `migrate` of the words after its name.
+fn read_migrate<'a>(words: &'a [String]) -> Option<CommandWords<'a>>
+    ensures { option_map seen_command result ≡ migrate_of (map string_bytes words.now) }
 {
-    if command == "migrate" {
-        Some(CommandWords::Migrate(MigrateWords {
-            tables: first,
-            written: second,
-        }))
-    } else {
-        None
-    }
+    let [tables, written] = words else {
+        return None;
+    };
+    Some(CommandWords::Migrate(MigrateWords { tables, written }))
 }
 
-/// The command of four words.
-fn four_words<'a>(
-    command: &str,
-    first: &str,
-    second: &str,
-    third: &'a str,
-) -> Option<CommandWords<'a>>
-    ensures { option_map seen_command result ≡ command_of (command.now ∷ first.now ∷ second.now ∷ third.now ∷ []) }
+/// The command `audit` of the words after its name.
+fn read_audit<'a>(words: &'a [String]) -> Option<CommandWords<'a>>
+    ensures { option_map seen_command result ≡ audit_of (map string_bytes words.now) }
 {
-    if command == "make" {
-        make_words(first, second, third)
-    } else {
-        None
-    }
+    let [svf, icl, pdl, device, top, name] = words else {
+        return None;
+    };
+    Some(CommandWords::Audit(AuditWords {
+        svf,
+        procedure: ProcedureWords {
+            network: NetworkWords { icl, device, top },
+            pdl,
+            name,
+        },
+    }))
 }
 
-/// The command of five words.
-fn five_words<'a>(
-    command: &str,
-    first: &'a str,
-    second: &'a str,
-    third: &'a str,
-    fourth: &'a str,
-) -> Option<CommandWords<'a>>
-    ensures { option_map seen_command result ≡ command_of (command.now ∷ first.now ∷ second.now ∷ third.now ∷ fourth.now ∷ []) }
+/// The command `muxtest` of the words after its name.
+fn read_mux_test<'a>(words: &'a [String]) -> Option<CommandWords<'a>>
+    ensures { option_map seen_command result ≡ mux_test_of (map string_bytes words.now) }
 {
-    if command == "muxtest" {
-        Some(CommandWords::MuxTest(MuxTestWords {
-            icl: first,
-            device: second,
-            top: third,
-            svf: fourth,
-        }))
-    } else {
-        None
-    }
-}
-
-/// The command of six words.
-fn six_words<'a>(
-    command: &str,
-    first: &'a str,
-    second: &'a str,
-    third: &'a str,
-    fourth: &'a str,
-    fifth: &'a str,
-) -> Option<CommandWords<'a>>
-    ensures { option_map seen_command result ≡ command_of (command.now ∷ first.now ∷ second.now ∷ third.now ∷ fourth.now ∷ fifth.now ∷ []) }
-{
-    if command == "play" {
-        Some(CommandWords::Play(PlayWords {
-            svf: first,
-            icl: second,
-            device: third,
-            tables: fourth,
-            top: fifth,
-        }))
-    } else {
-        None
-    }
-}
-
-/// The command of seven words.
-fn seven_words<'a>(
-    command: &str,
-    first: &'a str,
-    second: &'a str,
-    third: &'a str,
-    fourth: &'a str,
-    fifth: &'a str,
-    sixth: &'a str,
-) -> Option<CommandWords<'a>>
-    ensures { option_map seen_command result ≡ command_of (command.now ∷ first.now ∷ second.now ∷ third.now ∷ fourth.now ∷ fifth.now ∷ sixth.now ∷ []) }
-{
-    if command == "compile" {
-        Some(CommandWords::Compile(CompileWords {
-            icl: first,
-            pdl: second,
-            device: third,
-            top: fourth,
-            procedure: fifth,
-            svf: sixth,
-        }))
-    } else if command == "direct" {
-        Some(CommandWords::Direct(DirectWords {
-            icl: first,
-            pdl: second,
-            device: third,
-            tables: fourth,
-            top: fifth,
-            procedure: sixth,
-        }))
-    } else if command == "audit" {
-        Some(CommandWords::Audit(AuditWords {
-            svf: first,
-            icl: second,
-            pdl: third,
-            device: fourth,
-            top: fifth,
-            procedure: sixth,
-        }))
-    } else {
-        None
-    }
-}
-
-/// The command of eight words.
-fn eight_words<'a>(
-    command: &str,
-    first: &'a str,
-    second: &'a str,
-    third: &'a str,
-    fourth: &'a str,
-    fifth: &'a str,
-    sixth: &'a str,
-    seventh: &'a str,
-) -> Option<CommandWords<'a>>
-    ensures { option_map seen_command result ≡ command_of (command.now ∷ first.now ∷ second.now ∷ third.now ∷ fourth.now ∷ fifth.now ∷ sixth.now ∷ seventh.now ∷ []) }
-{
-    if command == "run" {
-        Some(CommandWords::Run(RunWords {
-            icl: first,
-            pdl: second,
-            device: third,
-            tables: fourth,
-            top: fifth,
-            procedure: sixth,
-            svf: seventh,
-        }))
-    } else {
-        None
-    }
+    let [icl, device, top, svf] = words else {
+        return None;
+    };
+    Some(CommandWords::MuxTest(MuxTestWords {
+        network: NetworkWords { icl, device, top },
+        svf,
+    }))
 }
 
 /// The command of the words, `None` where they are no command. It takes no memory.
 pub fn read_words(words: &Vec<String>) -> Option<CommandWords<'_>>
     ensures { option_map seen_command result ≡ command_in words.now.items }
 {
-    match words.as_slice() {
-        [command, a, b] => three_words(command.as_str(), a.as_str(), b.as_str()),
-        [command, a, b, c] => four_words(command.as_str(), a.as_str(), b.as_str(), c.as_str()),
-        [command, a, b, c, d] => five_words(
-            command.as_str(),
-            a.as_str(),
-            b.as_str(),
-            c.as_str(),
-            d.as_str(),
-        ),
-        [command, a, b, c, d, e] => six_words(
-            command.as_str(),
-            a.as_str(),
-            b.as_str(),
-            c.as_str(),
-            d.as_str(),
-            e.as_str(),
-        ),
-        [command, a, b, c, d, e, f] => seven_words(
-            command.as_str(),
-            a.as_str(),
-            b.as_str(),
-            c.as_str(),
-            d.as_str(),
-            e.as_str(),
-            f.as_str(),
-        ),
-        [command, a, b, c, d, e, f, g] => eight_words(
-            command.as_str(),
-            a.as_str(),
-            b.as_str(),
-            c.as_str(),
-            d.as_str(),
-            e.as_str(),
-            f.as_str(),
-            g.as_str(),
-        ),
-        [] | [_] | [_, _] => None,
-        [_, _, _, _, _, _, _, _, _, ..] => None,
+    let [name, words @ ..] = words.as_slice() else {
+        return None;
+    };
+    let name = name.as_str();
+    if name == "compile" {
+        read_compile(words)
+    } else if name == "play" {
+        read_play(words)
+    } else if name == "direct" {
+        read_direct(words)
+    } else if name == "run" {
+        read_run(words)
+    } else if name == "make" {
+        read_make(words)
+    } else if name == "migrate" {
+        read_migrate(words)
+    } else if name == "audit" {
+        read_audit(words)
+    } else if name == "muxtest" {
+        read_mux_test(words)
+    } else {
+        None
     }
 }

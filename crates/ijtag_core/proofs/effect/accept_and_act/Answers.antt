@@ -2,7 +2,8 @@ use Rattle.std.proofs.Common.{◌≡◌, ◌∙◌, subst, ℕ, List, Option, So
 use Rattle.ij_io.specs.Files.{Files}
 use Rattle.ijtag_work.specs.Accepted.{SeenAccepted, Texts, accepted}
 use Rattle.ijtag_work.specs.Follows.{seen_texts}
-use Rattle.ijtag_work.specs.Loads.{Load, loaded}
+use Rattle.ijtag_work.specs.Inputs.{loads_of, texts_of}
+use Rattle.ijtag_work.specs.Loads.{loaded}
 use Rattle.ijtag_work.specs.Runs.{Counts, IsPartDone, Seen, counts}
 use Rattle.ijtag_work.specs.Seen.{seen_stop}
 use Rattle.ijtag_work.specs.Task.{Row, task_of}
@@ -14,13 +15,13 @@ use Rattle.ijtag_core.proofs.effect.accept_and_act.Goals as goal
 pub returns-clause-part : goal.returns-clause-part
 returns-clause-part g c =
     let files : Option Files = g.S.Shelf.files c.args.shelf.now in
-    let mid : Option Files = g.S.Shelf.files c.load_all.new.shelf in
+    let mid : Option Files = g.S.Shelf.files c.load_texts.new.shelf in
     let row : Row = g.E.Effect.table_row c.args.effect.now in
     let texts : List (List ℕ) = seen_texts c.in_ok-texts.texts.items in
-    let named : Texts = seen_named c.texts.result in
+    let named : Texts = seen_named c.texts_in.result in
     let it : SeenAccepted = seen_accepted c.in_ok-it.it in
-    let read : (loaded files row.loads).gives texts = subst (λ (ls : List Load). (loaded files ls).gives texts) c.requires c.in_ok-texts.ensures.follows in
-    let is : row.texts texts ≡ Some named = subst (λ ts. row.texts (seen_texts ts) ≡ Some named) c.deref.ensures.value c.texts.ensures.texts in
+    let read : (loaded files (loads_of row.inputs)).gives texts = c.in_ok-texts.ensures.follows in
+    let is : texts_of row.inputs texts ≡ Some named = subst (λ ts. texts_of row.inputs (seen_texts ts) ≡ Some named) c.deref.ensures.value c.texts_in.ensures.texts in
     let given : (accepted named).gives it = c.in_ok-it.ensures.follows in
     let old_printed : Option (List ℕ) = g.O.Sink.taken c.args.out.now in
     let now : Seen = record { files = g.S.Shelf.files c.act_and_flush.new.shelf; printed = g.O.Sink.taken c.act_and_flush.new.out } in
@@ -32,16 +33,16 @@ returns-clause-stop g c =
     let files : Option Files = g.S.Shelf.files c.args.shelf.now in
     let row : Row = g.E.Effect.table_row c.args.effect.now in
     let texts : List (List ℕ) = seen_texts c.in_ok-texts.texts.items in
-    let named : Texts = seen_named c.texts.result in
+    let named : Texts = seen_named c.texts_in.result in
     let it : SeenAccepted = seen_accepted c.in_ok-it.it in
-    let read : (loaded files row.loads).gives texts = subst (λ (ls : List Load). (loaded files ls).gives texts) c.requires c.in_ok-texts.ensures.follows in
-    let is : row.texts texts ≡ Some named = subst (λ ts. row.texts (seen_texts ts) ≡ Some named) c.deref.ensures.value c.texts.ensures.texts in
+    let read : (loaded files (loads_of row.inputs)).gives texts = c.in_ok-texts.ensures.follows in
+    let is : texts_of row.inputs texts ≡ Some named = subst (λ ts. texts_of row.inputs (seen_texts ts) ≡ Some named) c.deref.ensures.value c.texts_in.ensures.texts in
     let given : (accepted named).gives it = c.in_ok-it.ensures.follows in
-    let mid : Counts = counts g.S.Shelf.load_faults g.S.Shelf.store_faults g.O.Sink.faults c.load_all.new.shelf c.act_and_flush.new.shelf c.args.out.now c.act_and_flush.new.out in
+    let mid : Counts = counts g.S.Shelf.load_faults g.S.Shelf.store_faults g.O.Sink.faults c.load_texts.new.shelf c.act_and_flush.new.shelf c.args.out.now c.act_and_flush.new.out in
     late_stop files (task_of row) (row.leaves it) (row_gives row files texts named it read is given) (row_refuses row files texts named it read is given)
-    (g.S.Shelf.load_faults c.args.shelf.now) (g.S.Shelf.load_faults c.act_and_flush.new.shelf) (g.S.Shelf.store_faults c.args.shelf.now) mid c.load_all.ensures.stores (seen_stop c.in-Err.stop) c.in-Err.ensures.stop
+    (g.S.Shelf.load_faults c.args.shelf.now) (g.S.Shelf.load_faults c.act_and_flush.new.shelf) (g.S.Shelf.store_faults c.args.shelf.now) mid c.load_texts.ensures.stores (seen_stop c.in-Err.stop) c.in-Err.ensures.stop
 
 pub returns-clause-early : goal.returns-clause-early
 returns-clause-early g c =
-    let same : g.S.Shelf.files c.load_all.new.shelf ≡ g.S.Shelf.files c.args.shelf.now = c.in_ok-texts.ensures.files in
+    let same : g.S.Shelf.files c.load_texts.new.shelf ≡ g.S.Shelf.files c.args.shelf.now = c.in_ok-texts.ensures.files in
     λ early. none_first (g.S.Shelf.files c.args.shelf.now) (g.S.Shelf.files c.act_and_flush.new.shelf) ((c.in-Err.ensures.early early).0 ∙ same)

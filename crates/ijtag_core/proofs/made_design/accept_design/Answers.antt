@@ -7,7 +7,7 @@ use Rattle.ijtag_work.specs.Accepted.{SeenAccepted, Texts, accepted, accepted_of
 use Rattle.ijtag_work.specs.Command.{made_names}
 use Rattle.ijtag_work.specs.Follows.{AreShort}
 use Rattle.ijtag_work.specs.Leaves.{Written}
-use Rattle.ijtag_work.specs.Order.{accepted_made, direct_texts, taken, written_as}
+use Rattle.ijtag_work.specs.Order.{accepted_made, made_inputs, taken, written_as}
 use Rattle.ijtag_work.specs.Using.{AreShortTexts, seen_accepted}
 use Rattle.ijtag_core.specs.Files.{seen_file, text_of, texts_of}
 use Rattle.ijtag_core.specs.declared.made_files.MadeFile.{MadeFile}
@@ -40,11 +40,11 @@ module _ (stem : List ℕ) (made : Made) (files : List MadeFile) (are : map seen
   fit_so : AreShort (texts_of made)
   fit_so = subst (λ (ws : List Written). AreShort (bytes_of_all ws)) are (taken_fit (map seen_file files) (map text_of files) given)
 
-  accepted_so : (it : SeenAccepted) → (accepted_of (direct_texts (codes "chip") (codes "p") (texts_of made))).gives it → (accepted_made (written_as (made_names stem) (texts_of made))).gives it
+  accepted_so : (it : SeenAccepted) → (accepted_of (made_inputs (texts_of made))).gives it → (accepted_made (written_as (made_names stem) (texts_of made))).gives it
   unfolding accepted_made
   accepted_so it is = (texts_of made, read_so, is)
 
-  later_fault : (fault : StageFault) → IsFault (accepted_of (direct_texts (codes "chip") (codes "p") (texts_of made))) fault → IsFault (accepted_made (written_as (made_names stem) (texts_of made))) fault
+  later_fault : (fault : StageFault) → IsFault (accepted_of (made_inputs (texts_of made))) fault → IsFault (accepted_made (written_as (made_names stem) (texts_of made))) fault
   unfolding accepted_made
   later_fault (Refused r) is = inr (texts_of made, read_so, is)
   later_fault OutOfMemory is = tt

@@ -9,7 +9,7 @@ use Rattle.ijtag_tools.specs.Command.{Picture}
 use Rattle.ijtag_tools.specs.Order.{graph, graph_in}
 use Rattle.ijtag_tools.specs.Words.{seen_graph_words}
 use Rattle.ijtag_work.specs.Follows.{seen_texts}
-use Rattle.ijtag_work.specs.Loads.{Load, loaded}
+use Rattle.ijtag_work.specs.Loads.{loaded}
 use Rattle.ijtag_work.specs.Order.{filed}
 use Rattle.ijtag_work.specs.Runs.{Counts, IsStop, counts}
 use Rattle.ijtag_work.specs.Stops.{Stop}
@@ -22,14 +22,14 @@ use Rattle.ijtag_tools.proofs.graph.draw_graph.Goals as goal
 pub returns-in-Ok-clause-done : goal.returns-in-Ok-clause-done
 returns-in-Ok-clause-done g c =
     let files : Option Files = g.S.Shelf.files c.args.shelf.now in
-    let mid : Option Files = g.S.Shelf.files c.load_all.new.shelf in
+    let mid : Option Files = g.S.Shelf.files c.load.new.shelf in
     let new : Option Files = g.S.Shelf.files c.write_file.new.shelf in
     let words : Picture = seen_graph_words c.args.words.now in
     let texts : List (List ℕ) = seen_texts c.in_ok-texts.texts.items in
     let drawn : Graph = seen_graph c.in_ok-graph.graph in
     let bytes : List ℕ = c.bytes.result.now in
-    let read : (loaded files (graph words).loads).gives texts = subst (λ (ls : List Load). (loaded files ls).gives texts) c.loads.ensures c.in_ok-texts.ensures.follows in
-    let is : (graph_in words.top texts).gives drawn = subst (λ ts. (graph_in words.top (seen_texts ts)).gives drawn) c.deref.ensures.value c.in_ok-graph.ensures.follows in
+    let read : (loaded files (graph words).loads).gives texts = c.in_ok-texts.ensures.follows in
+    let is : (graph_in words.network.top texts).gives drawn = subst (λ ts. (graph_in words.network.top (seen_texts ts)).gives drawn) c.deref.ensures.value c.in_ok-graph.ensures.follows in
     let own : (work files (graph words)).gives (filed words.new bytes) =
     subst (λ (b : List ℕ). (work files (graph words)).gives (filed words.new b)) (sym (c.bytes.ensures ∙ c.in_ok-text.ensures)) (texts, read, (drawn, is, refl)) in
     let same : mid ≡ files = c.in_ok-texts.ensures.files in
@@ -39,14 +39,14 @@ returns-in-Ok-clause-done g c =
 pub returns-clause-stop : goal.returns-clause-stop
 returns-clause-stop g c =
     let files : Option Files = g.S.Shelf.files c.args.shelf.now in
-    let mid : Option Files = g.S.Shelf.files c.load_all.new.shelf in
+    let mid : Option Files = g.S.Shelf.files c.load.new.shelf in
     let new : Option Files = g.S.Shelf.files c.write_file.new.shelf in
     let words : Picture = seen_graph_words c.args.words.now in
     let texts : List (List ℕ) = seen_texts c.in_ok-texts.texts.items in
     let drawn : Graph = seen_graph c.in_ok-graph.graph in
     let bytes : List ℕ = c.bytes.result.now in
-    let read : (loaded files (graph words).loads).gives texts = subst (λ (ls : List Load). (loaded files ls).gives texts) c.loads.ensures c.in_ok-texts.ensures.follows in
-    let is : (graph_in words.top texts).gives drawn = subst (λ ts. (graph_in words.top (seen_texts ts)).gives drawn) c.deref.ensures.value c.in_ok-graph.ensures.follows in
+    let read : (loaded files (graph words).loads).gives texts = c.in_ok-texts.ensures.follows in
+    let is : (graph_in words.network.top texts).gives drawn = subst (λ ts. (graph_in words.network.top (seen_texts ts)).gives drawn) c.deref.ensures.value c.in_ok-graph.ensures.follows in
     let own : (work files (graph words)).gives (filed words.new bytes) =
     subst (λ (b : List ℕ). (work files (graph words)).gives (filed words.new b)) (sym (c.bytes.ensures ∙ c.in_ok-text.ensures)) (texts, read, (drawn, is, refl)) in
     let same : mid ≡ files = c.in_ok-texts.ensures.files in
@@ -60,14 +60,14 @@ returns-clause-stop g c =
 pub returns-clause-part : goal.returns-clause-part
 returns-clause-part g c =
     let files : Option Files = g.S.Shelf.files c.args.shelf.now in
-    let mid : Option Files = g.S.Shelf.files c.load_all.new.shelf in
+    let mid : Option Files = g.S.Shelf.files c.load.new.shelf in
     let new : Option Files = g.S.Shelf.files c.write_file.new.shelf in
     let words : Picture = seen_graph_words c.args.words.now in
     let texts : List (List ℕ) = seen_texts c.in_ok-texts.texts.items in
     let drawn : Graph = seen_graph c.in_ok-graph.graph in
     let bytes : List ℕ = c.bytes.result.now in
-    let read : (loaded files (graph words).loads).gives texts = subst (λ (ls : List Load). (loaded files ls).gives texts) c.loads.ensures c.in_ok-texts.ensures.follows in
-    let is : (graph_in words.top texts).gives drawn = subst (λ ts. (graph_in words.top (seen_texts ts)).gives drawn) c.deref.ensures.value c.in_ok-graph.ensures.follows in
+    let read : (loaded files (graph words).loads).gives texts = c.in_ok-texts.ensures.follows in
+    let is : (graph_in words.network.top texts).gives drawn = subst (λ ts. (graph_in words.network.top (seen_texts ts)).gives drawn) c.deref.ensures.value c.in_ok-graph.ensures.follows in
     let own : (work files (graph words)).gives (filed words.new bytes) =
     subst (λ (b : List ℕ). (work files (graph words)).gives (filed words.new b)) (sym (c.bytes.ensures ∙ c.in_ok-text.ensures)) (texts, read, (drawn, is, refl)) in
     let same : mid ≡ files = c.in_ok-texts.ensures.files in

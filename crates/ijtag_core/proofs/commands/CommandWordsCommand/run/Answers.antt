@@ -1,8 +1,8 @@
-use Rattle.std.specs.Prelude.{IfOk}
+use Rattle.std.specs.Prelude.{IfErr, IfOk, OnErr}
 use Rattle.std.proofs.Common.{◌≡◌, rules, subst}
 use Rattle.ijtag_work.specs.Order.{task}
-use Rattle.ijtag_work.specs.Runs.{IsDone, seen}
-use Rattle.ijtag_work.specs.Seen.{differing}
+use Rattle.ijtag_work.specs.Runs.{IsDone, IsPartDone, IsStop, counts, seen}
+use Rattle.ijtag_work.specs.Seen.{differing, seen_stop}
 use Rattle.ijtag_work.specs.Task.{work}
 use Rattle.ijtag_work.specs.Words.{seen_command}
 use Rattle.ijtag_work.specs.declared.words.CommandWords.{CommandWords}
@@ -56,3 +56,15 @@ returns-in-MuxTest-clause-done g c =
     let is : MuxTest c.in-MuxTest.it ≡ c.args.self.now = search rules in
     subst (λ (w : CommandWords). IfOk c.accept_and_act-in-MuxTest.result (λ verdict. IsDone (work (g.S.Shelf.files c.args.shelf.now) (task (seen_command w)))
     (seen g.S.Shelf.files g.O.Sink.taken c.args.shelf.now c.args.out.now) (seen g.S.Shelf.files g.O.Sink.taken c.accept_and_act-in-MuxTest.new.shelf c.accept_and_act-in-MuxTest.new.out) (differing verdict))) is c.accept_and_act-in-MuxTest.ensures.done
+
+pub returns-in-Direct-clause-part : goal.returns-in-Direct-clause-part
+returns-in-Direct-clause-part g c =
+    let is : Direct c.in-Direct.it ≡ c.args.self.now = search rules in
+    subst (λ (w : CommandWords). OnErr c.accept_and_act-in-Direct.result (IsPartDone (g.S.Shelf.files c.args.shelf.now) (task (seen_command w))
+    (seen g.S.Shelf.files g.O.Sink.taken c.args.shelf.now c.args.out.now) (seen g.S.Shelf.files g.O.Sink.taken c.accept_and_act-in-Direct.new.shelf c.accept_and_act-in-Direct.new.out))) is c.accept_and_act-in-Direct.ensures.part
+
+pub returns-in-Run-clause-stop : goal.returns-in-Run-clause-stop
+returns-in-Run-clause-stop g c =
+    let is : Run c.in-Run.it ≡ c.args.self.now = search rules in
+    subst (λ (w : CommandWords). IfErr c.accept_and_act-in-Run.result (λ stop. IsStop (g.S.Shelf.files c.args.shelf.now) (task (seen_command w))
+    (counts g.S.Shelf.load_faults g.S.Shelf.store_faults g.O.Sink.faults c.args.shelf.now c.accept_and_act-in-Run.new.shelf c.args.out.now c.accept_and_act-in-Run.new.out) (seen_stop stop))) is c.accept_and_act-in-Run.ensures.stop
